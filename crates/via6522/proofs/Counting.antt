@@ -10,16 +10,6 @@ test_true a b h = grind (arith, nat_tests)
 pub test_false : (a b : ℕ) → a ≢ b → (a == b) ≡ false
 test_false a b h = grind (arith, nat_tests)
 
-pub one_less_is : (counter : ℕ) → 0 < counter → counter < 65536 → one_less counter + 1 ≡ counter
-one_less_is counter some small = omega arith
-
--- a counter above 0 does not run out
-pub counts_on : (counter : ℕ) → 0 < counter → counter < 65536 → runs_out counter ≡ false
-counts_on counter some small = test_false (one_less counter) 65535 (λ e. omega (arith, one_less_is counter some small, e))
-
-pub at_zero : (counter : ℕ) → counter ≡ 0 → runs_out counter ≡ true
-at_zero counter none = rw none refl
-
 pub word_small : (high low : ℕ) → high < 256 → low < 256 → word high low < 65536
 word_small high low h l = omega arith
 

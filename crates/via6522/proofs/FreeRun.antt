@@ -1,11 +1,11 @@
 -- Timer 1 where it runs free, after many steps: it counts down once, and then goes through its latch again and again.
 use Rattle.std.proofs.Common.{◌≡◌, ◌∙◌, ap, sym, refl, ℕ, zero, suc, ◌+◌, ◌-◌, ◌*◌, ◌/◌, ◌%◌, ◌<◌, ◌≤◌, ◌||◌, Bool, true, false, add-zero, add-suc, add-one, arith}
 use Rattle.std.proofs.Math.Bool.{or_assoc, or-false}
+use Rattle.std.proofs.lemmas.Bool.Decides.{nat_tests}
 use Rattle.std.proofs.lemmas.Nat.{div-add-mod'}
 use Rattle.via6522.specs.State.{Timer1}
 use Rattle.via6522.specs.Timers.{word, one_less, runs_out, timer1_after, timer1_flags}
 use Rattle.via6522.specs.Jumps.{timer1_at_end, timer1_later, timer1_flags_within}
-use Rattle.via6522.proofs.Counting.{counts_on, at_zero}
 
 -- m steps and then n
 pub later_both : (free : Bool) (m n : ℕ) (t : Timer1) → timer1_later free (m + n) t ≡ timer1_later free n (timer1_later free m t)
@@ -26,7 +26,7 @@ counts_down free zero t loaded small within = (let same : t.counter ≡ t.counte
 counts_down free (suc n) t loaded small within =
     let fewer : n ≤ t.counter = omega arith in
     let before = counts_down free n t loaded small fewer in
-    let on : runs_out (t.counter - n) ≡ false = counts_on (t.counter - n) (omega arith) (omega arith) in
+    let on : runs_out (t.counter - n) ≡ false = grind (arith, nat_tests) in
     let less : one_less (t.counter - n) ≡ t.counter - suc n = omega arith in
     (rw (before.0, loaded, on, less) refl, rw (before.1, before.0, loaded, on) refl)
 
@@ -35,7 +35,7 @@ pub runs_down : (t : Timer1) → t.reload ≡ false → t.counter < 65536 →
 runs_down t loaded small =
     let all : t.counter ≤ t.counter = omega arith in
     let before = counts_down true t.counter t loaded small all in
-    let out : runs_out (t.counter - t.counter) ≡ true = at_zero (t.counter - t.counter) (omega arith) in
+    let out : runs_out (t.counter - t.counter) ≡ true = grind (arith, nat_tests) in
     rw add-one (rw (before.0, loaded, out) refl, rw (before.1, before.0, loaded, out) refl)
 
 abbrev pub after_reload : Timer1 → Timer1

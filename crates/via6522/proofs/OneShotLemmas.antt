@@ -1,13 +1,12 @@
 -- Timer 2, and timer 1 where it does not run free, step by step: both count down once.
 use Rattle.std.proofs.Common.{◌≡◌, ◌∙◌, sym, refl, ℕ, suc, ◌+◌, ◌<◌, ◌≤◌, ◌==◌, ◌&&◌, Bool, true, false, not, List, [], ◌∷◌, length, add-zero, zero-add, arith, inl, inr}
 use Rattle.std.specs.Prelude.{if◌then◌else◌}
-use Rattle.std.proofs.lemmas.Bool.{cases_lt}
+use Rattle.std.proofs.lemmas.Bool.Decides.{nat_tests}
 use Rattle.via6522.specs.declared.Pins.{Pins}
 use Rattle.beeb_bits.specs.Bits.{bit}
 use Rattle.via6522.specs.State.{State, Timer1, Timer2}
 use Rattle.via6522.specs.Timers.{word, one_less, runs_out, timer1_after, timer1_flags, timer2_after, timer2_flags}
 use Rattle.via6522.specs.Step.{step, after_steps}
-use Rattle.via6522.proofs.Counting.{counts_on, at_zero, one_less_is, test_true, test_false}
 
 -- What both have: whether the first step is still to come, in which nothing is counted, the counter, and whether it may set the flag.
 pub record Shot : Type 0 where
@@ -31,29 +30,13 @@ shot1 t = record { waits = t.reload; counter = t.counter; armed = t.armed }
 pub shot2 : Timer2 → Shot
 shot2 t = record { waits = t.fresh; counter = t.counter; armed = t.armed }
 
-by_parts1 : (waits out : Bool) (counter low high : ℕ) (armed : Bool) → runs_out counter ≡ out →
-    shot1 (timer1_after false (record { counter = counter; latch_low = low; latch_high = high; reload = waits; armed = armed }))
-    ≡ shot_after (word high low) (record { waits = waits; counter = counter; armed = armed })
-unfolding shot1 shot_after
-by_parts1 true out counter low high armed e = refl
-by_parts1 false true counter low high armed e = rw e refl
-by_parts1 false false counter low high armed e = rw e refl
-
 after1 : (t : Timer1) → shot1 (timer1_after false t) ≡ shot_after (word t.latch_high t.latch_low) (shot1 t)
-unfolding shot1
-after1 t = by_parts1 t.reload (runs_out t.counter) t.counter t.latch_low t.latch_high t.armed refl
-
-by_parts2 : (waits out : Bool) (counter low : ℕ) (armed : Bool) → runs_out counter ≡ out →
-    shot2 (timer2_after false (record { counter = counter; latch_low = low; fresh = waits; armed = armed }))
-    ≡ shot_after counter (record { waits = waits; counter = counter; armed = armed })
-unfolding shot2 shot_after
-by_parts2 true out counter low armed e = refl
-by_parts2 false true counter low armed e = rw e refl
-by_parts2 false false counter low armed e = rw e refl
+unfolding shot1 shot_after
+after1 t = grind arith
 
 after2 : (t : Timer2) → shot2 (timer2_after false t) ≡ shot_after t.counter (shot2 t)
-unfolding shot2
-after2 t = by_parts2 t.fresh (runs_out t.counter) t.counter t.latch_low t.armed refl
+unfolding shot2 shot_after
+after2 t = grind arith
 
 -- What it is k steps after it was written with v.
 pub record IsShot (v k : ℕ) (s : Shot) : Type 0 where
@@ -68,96 +51,18 @@ record Leads (v k loaded : ℕ) (s : Shot) : Type 0 where
   pub flag : shot_flags s ≡ (k + 1 == v + 2)
   pub after : IsShot v (k + 1) (shot_after loaded s)
 
-shot_first : (v k loaded : ℕ) (s : Shot) → k ≡ 0 → loaded ≡ v → IsShot v k s → Leads v k loaded s
-unfolding shot_after shot_flags
-shot_first v k loaded s none load at = record {
-  flag = rw (at.first none) (sym (test_false (k + 1) (v + 2) (λ e. omega (arith, e))));
-  after = rw (at.first none) (record {
-    first = λ e. absurd (omega (arith, e));
-    later = λ h. refl;
-    counts = λ h l. omega arith;
-    ready = λ h. at.ready (omega arith);
-    spent = λ h. absurd (omega (arith, h));
-  });
-}
-
-shot_inner : (v k loaded : ℕ) (s : Shot) → v < 65536 → 0 < k → k < v + 1 → IsShot v k s → Leads v k loaded s
-unfolding shot_after shot_flags
-shot_inner v k loaded s small some inside at =
-    let counts : s.counter + k ≡ v + 1 = at.counts some (omega arith) in
-    let on : runs_out s.counter ≡ false = counts_on s.counter (omega arith) (omega arith) in
-    let less : one_less s.counter + 1 ≡ s.counter = one_less_is s.counter (omega arith) (omega arith) in
-    record {
-      flag = rw (at.later some, on) (sym (test_false (k + 1) (v + 2) (λ e. omega (arith, e))));
-      after = rw (at.later some, on) (record {
-        first = λ e. absurd (omega (arith, e));
-        later = λ h. refl;
-        counts = λ h l. omega arith;
-        ready = λ h. at.ready (omega arith);
-        spent = λ h. absurd (omega (arith, h));
-      });
-    }
-
-shot_last : (v k loaded : ℕ) (s : Shot) → k ≡ v + 1 → IsShot v k s → Leads v k loaded s
-unfolding shot_after shot_flags
-shot_last v k loaded s end at =
-    let some : 0 < k = omega arith in
-    let within : k ≤ v + 1 = omega arith in
-    let counts : s.counter + k ≡ v + 1 = at.counts some within in
-    let out : runs_out s.counter ≡ true = at_zero s.counter (omega arith) in
-    record {
-      flag = rw (at.later some, out, at.ready within) (sym (test_true (k + 1) (v + 2) (omega arith)));
-      after = rw (at.later some, out) (record {
-        first = λ e. absurd (omega (arith, e));
-        later = λ h. refl;
-        counts = λ h l. absurd (omega (arith, l));
-        ready = λ h. absurd (omega (arith, h));
-        spent = λ h. refl;
-      });
-    }
-
-spent_flag : (out : Bool) → (true && out && false) ≡ false
-spent_flag true = refl
-spent_flag false = refl
-
-spent_after : (v k : ℕ) (s : Shot) → 0 < k → v + 1 < k → IsShot v k s → (out : Bool) → runs_out s.counter ≡ out →
-    IsShot v (k + 1) (if not (runs_out s.counter) then record s { waits = false; counter = one_less s.counter } else record s { waits = false; counter = 65535; armed = false })
-spent_after v k s some past at true e = rw e (record {
-  first = λ e. absurd (omega (arith, e));
-  later = λ h. refl;
-  counts = λ h l. absurd (omega (arith, l));
-  ready = λ h. absurd (omega (arith, h));
-  spent = λ h. refl;
-})
-spent_after v k s some past at false e = rw e (record {
-  first = λ e. absurd (omega (arith, e));
-  later = λ h. refl;
-  counts = λ h l. absurd (omega (arith, l));
-  ready = λ h. absurd (omega (arith, h));
-  spent = λ h. at.spent past;
-})
-
-shot_spent : (v k loaded : ℕ) (s : Shot) → v + 1 < k → IsShot v k s → Leads v k loaded s
-unfolding shot_after shot_flags
-shot_spent v k loaded s past at =
-    let some : 0 < k = omega arith in
-    record {
-      flag = rw (at.later some, at.spent past) (spent_flag (runs_out s.counter) ∙ sym (test_false (k + 1) (v + 2) (λ e. omega (arith, e))));
-      after = rw (at.later some) (spent_after v k s some past at (runs_out s.counter) refl);
-    }
-
 shot_leads : (v k loaded : ℕ) (s : Shot) → v < 65536 → (k ≡ 0 → loaded ≡ v) → IsShot v k s → Leads v k loaded s
-shot_leads v k loaded s small load at =
-    elim (cases_lt 0 k) [
-      | inl some ↦ elim (cases_lt k (v + 1)) [
-        | inl inside ↦ shot_inner v k loaded s small some inside at
-        | inr behind ↦ elim (cases_lt (v + 1) k) [
-          | inl past ↦ shot_spent v k loaded s past at
-          | inr end ↦ shot_last v k loaded s (omega arith) at
-        ]
-      ]
-      | inr none ↦ let is : k ≡ 0 = omega arith in shot_first v k loaded s is (load is) at
-    ]
+unfolding shot_after shot_flags
+shot_leads v k loaded s small load at = record {
+  flag = grind (arith, nat_tests);
+  after = record {
+    first = λ e. absurd (omega (arith, e));
+    later = λ h. grind (arith, nat_tests);
+    counts = λ h l. grind (arith, nat_tests);
+    ready = λ h. grind (arith, nat_tests);
+    spent = λ h. grind (arith, nat_tests);
+  };
+}
 
 -- the step behind these steps sets the flag, where it is step v + 2 after the write
 pub sets_once1 : (v k : ℕ) (c : State) (pins : List Pins) → v < 65536 → bit c.acr 6 ≡ false → (k ≡ 0 → word c.timer1.latch_high c.timer1.latch_low ≡ v) →

@@ -1,5 +1,6 @@
 -- A quiet step: both timers count down, and no line changes.
 use Rattle.std.proofs.Common.{◌≡◌, ◌∙◌, ap, refl, ℕ, ◌+◌, ◌-◌, ◌<◌, ◌&&◌, ◌||◌, Bool, true, false, not, arith}
+use Rattle.std.proofs.lemmas.Bool.Decides.{nat_tests}
 use Rattle.beeb_bits.specs.Bits.{bit}
 use Rattle.via6522.specs.declared.Pins.{Pins}
 use Rattle.via6522.specs.State.{State, Timer1, Timer2, Levels}
@@ -7,27 +8,16 @@ use Rattle.via6522.specs.Timers.{one_less, runs_out, timer1_after, timer1_flags,
 use Rattle.via6522.specs.Lines.{is_edge, levels_of}
 use Rattle.via6522.specs.Step.{step, timers_stepped, edges_seen}
 use Rattle.via6522.specs.CodeQuiet.{timer1_ahead, timer2_ahead, ahead, IsQuiet}
-use Rattle.via6522.proofs.Counting.{counts_on}
-
-no_edge : (up level : Bool) → is_edge up level level ≡ false
-no_edge true true = refl
-no_edge true false = refl
-no_edge false true = refl
-no_edge false false = refl
 
 -- a flag stays where its line does
 stays : (flag up level : Bool) → (flag || is_edge up level level) ≡ flag
-stays true up level = refl
-stays false up level = no_edge up level
+stays flag up level = grind arith
 
 stays_in : (flag out up level : Bool) → (flag || (not out && is_edge up level level)) ≡ flag
-stays_in true out up level = refl
-stays_in false true up level = refl
-stays_in false false up level = no_edge up level
+stays_in flag out up level = grind arith
 
 stays_off : (flag sets : Bool) → sets ≡ false → (flag || sets) ≡ flag
-stays_off true sets h = refl
-stays_off false sets h = h
+stays_off flag sets h = grind arith
 
 -- the edges of lines that go to these levels
 pub edges_to : Levels → State → State
@@ -55,37 +45,19 @@ no_edges c =
       stays_in c.flags.cb2 (bit c.pcr 7) (bit c.pcr 6) c.levels.cb2,
     ) refl
 
-on : (counter n : ℕ) → 0 < n → counter + n < 65536 → runs_out (counter + n) ≡ false
-on counter n some small = counts_on (counter + n) (omega arith) small
+quiet1 : (free : Bool) (n : ℕ) (t : Timer1) → 0 < n → t.counter + n < 65536 → t.reload ≡ false →
+    (timer1_after free (timer1_ahead n t) ≡ timer1_ahead (n - 1) t) × (timer1_flags free (timer1_ahead n t) ≡ false)
+quiet1 free n t some small loaded = grind (arith, nat_tests)
 
-less : (counter n : ℕ) → 0 < n → counter + n < 65536 → one_less (counter + n) ≡ counter + (n - 1)
-less counter n some small = omega arith
-
-counted1 : (free : Bool) (n : ℕ) (t : Timer1) → 0 < n → t.counter + n < 65536 → t.reload ≡ false →
-    timer1_after free (timer1_ahead n t) ≡ timer1_ahead (n - 1) t
-counted1 free n t some small loaded = rw (loaded, on t.counter n some small, less t.counter n some small) refl
-
-unset1 : (free : Bool) (n : ℕ) (t : Timer1) → 0 < n → t.counter + n < 65536 → t.reload ≡ false → timer1_flags free (timer1_ahead n t) ≡ false
-unset1 free n t some small loaded = rw (loaded, on t.counter n some small) refl
-
-counted2 : (acr n : ℕ) (t : Timer2) (still : Bool) → bit acr 5 ≡ still → 0 < n → (bit acr 5 ≡ false → t.counter + n < 65536) → (bit acr 5 ≡ false → t.fresh ≡ false) →
-    timer2_after (bit acr 5) (timer2_ahead (bit acr 5) n t) ≡ timer2_ahead (bit acr 5) (n - 1) t
-counted2 acr n t true e some small begun = rw e refl
-counted2 acr n t false e some small begun = rw (e, begun e, on t.counter n some (small e), less t.counter n some (small e)) refl
-
-unset2 : (acr n : ℕ) (t : Timer2) (still : Bool) → bit acr 5 ≡ still → 0 < n → (bit acr 5 ≡ false → t.counter + n < 65536) → (bit acr 5 ≡ false → t.fresh ≡ false) →
-    timer2_flags (bit acr 5) (timer2_ahead (bit acr 5) n t) ≡ false
-unset2 acr n t true e some small begun = rw e refl
-unset2 acr n t false e some small begun = rw (e, begun e, on t.counter n some (small e)) refl
+quiet2 : (still : Bool) (n : ℕ) (t : Timer2) → 0 < n → (still ≡ false → t.counter + n < 65536) → (still ≡ false → t.fresh ≡ false) →
+    (timer2_after still (timer2_ahead still n t) ≡ timer2_ahead still (n - 1) t) × (timer2_flags still (timer2_ahead still n t) ≡ false)
+quiet2 still n t some small begun = grind (arith, nat_tests)
 
 quiet_timers : (n : ℕ) (c : State) → 0 < n → IsQuiet n c → timers_stepped (ahead n c) ≡ ahead (n - 1) c
 quiet_timers n c some quiet =
-    rw (
-      stays_off c.flags.timer1 _ (unset1 (bit c.acr 6) n c.timer1 some quiet.within1 (quiet.loaded some)),
-      stays_off c.flags.timer2 _ (unset2 c.acr n c.timer2 (bit c.acr 5) refl some quiet.within2 (quiet.begun some)),
-      counted1 (bit c.acr 6) n c.timer1 some quiet.within1 (quiet.loaded some),
-      counted2 c.acr n c.timer2 (bit c.acr 5) refl some quiet.within2 (quiet.begun some),
-    ) refl
+    let one = quiet1 (bit c.acr 6) n c.timer1 some quiet.within1 (quiet.loaded some) in
+    let two = quiet2 (bit c.acr 5) n c.timer2 some quiet.within2 (quiet.begun some) in
+    rw (stays_off c.flags.timer1 _ one.1, stays_off c.flags.timer2 _ two.1, one.0, two.0) refl
 
 pub quiet_step : (p : Pins) (n : ℕ) (c : State) → 0 < n → IsQuiet n c → levels_of p ≡ c.levels → step p (ahead n c) ≡ ahead (n - 1) c
 quiet_step p n c some quiet same =
