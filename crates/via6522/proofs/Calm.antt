@@ -18,30 +18,17 @@ use Rattle.via6522.proofs.CountDown.{counts_once1, counts_once2, within2, stands
 -- no step clears a flag
 
 wider : (f x e : Bool) → (f && e) ≡ true → ((f || x) && e) ≡ true
-wider true x e h = h
-wider false x e h = cc
+wider f x e h = grind arith
 
-right : (a b : Bool) → b ≡ true → (a || b) ≡ true
-right true b h = refl
-right false b h = h
-
-either : (a b a' b' : Bool) → (a ≡ true → a' ≡ true) → (b ≡ true → b' ≡ true) → (a || b) ≡ true → (a' || b') ≡ true
-either true b a' b' p q h = rw (p refl) refl
-either false b a' b' p q h = right a' b' (q h)
-
-seven : {a b c d e f g a' b' c' d' e' f' g' : Bool} → (a ≡ true → a' ≡ true) → (b ≡ true → b' ≡ true) → (c ≡ true → c' ≡ true) → (d ≡ true → d' ≡ true) →
-    (e ≡ true → e' ≡ true) → (f ≡ true → f' ≡ true) → (g ≡ true → g' ≡ true) → (a || b || c || d || e || f || g) ≡ true → (a' || b' || c' || d' || e' || f' || g') ≡ true
-seven {a} {b} {c} {d} {e} {f} {g} {a'} {b'} {c'} {d'} {e'} {f'} {g'} pa pb pc pd pe pf pg =
-    either (a || b || c || d || e || f) g (a' || b' || c' || d' || e' || f') g'
-    (either (a || b || c || d || e) f (a' || b' || c' || d' || e') f'
-    (either (a || b || c || d) e (a' || b' || c' || d') e'
-    (either (a || b || c) d (a' || b' || c') d'
-    (either (a || b) c (a' || b') c' (either a b a' b' pa pb) pc) pd) pe) pf) pg
+either : {a b a' b' : Bool} → (a ≡ true → a' ≡ true) → (b ≡ true → b' ≡ true) → (a || b) ≡ true → (a' || b') ≡ true
+either p q h = grind arith
 
 asks_on : (p : Pins) (c : State) → asks c ≡ true → asks (step p c) ≡ true
-asks_on p c h =
-    seven (wider c.flags.timer1 _ c.enabled.timer1) (wider c.flags.timer2 _ c.enabled.timer2) (wider c.flags.cb1 _ c.enabled.cb1) (wider c.flags.cb2 _ c.enabled.cb2)
-    (λ k. k) (wider c.flags.ca1 _ c.enabled.ca1) (wider c.flags.ca2 _ c.enabled.ca2) h
+asks_on p c =
+    either
+    (either (either (either (either (either (wider c.flags.timer1 _ c.enabled.timer1) (wider c.flags.timer2 _ c.enabled.timer2)) (wider c.flags.cb1 _ c.enabled.cb1))
+    (wider c.flags.cb2 _ c.enabled.cb2)) (λ k. k)) (wider c.flags.ca1 _ c.enabled.ca1))
+    (wider c.flags.ca2 _ c.enabled.ca2)
 
 keeps_asking : (p : Pins) (n : ℕ) (c : State) → asks c ≡ true → asks (steps p n c) ≡ true
 keeps_asking p zero c h = rw (no_steps p c) h
@@ -56,10 +43,7 @@ now_is_calm p c m within = let none : m ≡ 0 = omega arith in ap (λ (k : ℕ).
 -- where no enabled flag is set
 
 kept : (f x e : Bool) → (e ≡ true → x ≡ false) → ((f || x) && e) ≡ (f && e)
-kept true x e h = refl
-kept false x true h = rw (h refl) refl
-kept false true false h = refl
-kept false false false h = refl
+kept f x e h = grind arith
 
 timers_alike : (m : ℕ) (c : State) → (c.enabled.timer1 ≡ true → timer1_flags_within (bit c.acr 6) m c.timer1 ≡ false) →
     (c.enabled.timer2 ≡ true → timer2_flags_within (bit c.acr 5) m c.timer2 ≡ false) → asks (timers_later m c) ≡ asks c
@@ -80,13 +64,13 @@ timers_are_calm p n c same one two m within =
 pub calm1 : (free : Bool) (m : ℕ) (t : Timer1) → t.reload ≡ false → t.counter < 65536 → m ≤ t.counter → timer1_flags_within free m t ≡ false
 calm1 free m t loaded small within = (counts_down free m t loaded small within).1
 
+from_load1 : (free : Bool) (m : ℕ) (t : Timer1) → t.reload ≡ true → timer1_flags_within free (m - 1) (after_reload t) ≡ timer1_flags_within free m t
+from_load1 free zero t waits = refl
+from_load1 free (suc m) t waits = (loads free (suc m) t waits (omega arith)).1
+
 pub calm_to_load1 : (free : Bool) (m : ℕ) (t : Timer1) → t.reload ≡ true → word t.latch_high t.latch_low < 65536 → m ≤ word t.latch_high t.latch_low + 1 →
     timer1_flags_within free m t ≡ false
-calm_to_load1 free m t waits small within =
-    elim (cases_lt 0 m) [
-      | inl some ↦ sym (loads free m t waits some).1 ∙ (counts_down free (m - 1) (after_reload t) refl small (omega arith)).1
-      | inr none ↦ let is : m ≡ 0 = omega arith in ap (λ (k : ℕ). timer1_flags_within free k t) is
-    ]
+calm_to_load1 free m t waits small within = sym (from_load1 free m t waits) ∙ (counts_down free (m - 1) (after_reload t) refl small (omega arith)).1
 
 spent1 : (m : ℕ) (t : Timer1) → t.reload ≡ false → t.counter < 65536 → t.armed ≡ false → timer1_flags_within false m t ≡ false
 spent1 m t loaded small spent = (counts_once1 m t small loaded).1 ∙ ap (λ (b : Bool). b && nat_lt t.counter m) spent
@@ -94,24 +78,20 @@ spent1 m t loaded small spent = (counts_once1 m t small loaded).1 ∙ ap (λ (b 
 by_reload1 : (waits : Bool) (m : ℕ) (t : Timer1) → t.reload ≡ waits → t.counter < 65536 → word t.latch_high t.latch_low < 65536 → t.armed ≡ false →
     timer1_flags_within false m t ≡ false
 by_reload1 false m t e small latch spent = spent1 m t e small spent
-by_reload1 true m t e small latch spent =
-    elim (cases_lt 0 m) [
-      | inl some ↦ sym (loads false m t e some).1 ∙ spent1 (m - 1) (after_reload t) refl latch spent
-      | inr none ↦ let is : m ≡ 0 = omega arith in ap (λ (k : ℕ). timer1_flags_within false k t) is
-    ]
+by_reload1 true m t e small latch spent = sym (from_load1 false m t e) ∙ spent1 (m - 1) (after_reload t) refl latch spent
 
 pub disarmed1 : (m : ℕ) (t : Timer1) → t.counter < 65536 → word t.latch_high t.latch_low < 65536 → t.armed ≡ false → timer1_flags_within false m t ≡ false
 disarmed1 m t small latch spent = by_reload1 t.reload m t refl small latch spent
 
 -- timer 2
 
+from_start2 : (m : ℕ) (t : Timer2) → t.fresh ≡ true → timer2_flags_within false (m - 1) (record t { fresh = false }) ≡ timer2_flags_within false m t
+from_start2 zero t waits = refl
+from_start2 (suc m) t waits = (starts2 (suc m) t waits (omega arith)).1
+
 by_fresh2 : (waits : Bool) (m : ℕ) (t : Timer2) → t.fresh ≡ waits → t.counter < 65536 → m ≤ t.counter → timer2_flags_within false m t ≡ false
 by_fresh2 false m t e small within = sym (within2 m t e small within).1
-by_fresh2 true m t e small within =
-    elim (cases_lt 0 m) [
-      | inl some ↦ sym (starts2 m t e some).1 ∙ sym (within2 (m - 1) (record t { fresh = false }) refl small (omega arith)).1
-      | inr none ↦ let is : m ≡ 0 = omega arith in ap (λ (k : ℕ). timer2_flags_within false k t) is
-    ]
+by_fresh2 true m t e small within = sym (from_start2 m t e) ∙ sym (within2 (m - 1) (record t { fresh = false }) refl small (omega arith)).1
 
 pub calm2 : (m : ℕ) (t : Timer2) → t.counter < 65536 → m ≤ t.counter → timer2_flags_within false m t ≡ false
 calm2 m t small within = by_fresh2 t.fresh m t refl small within
@@ -121,11 +101,7 @@ spent2 m t begun small spent = (counts_once2 m t small begun).1 ∙ ap (λ (b : 
 
 spent_by2 : (waits : Bool) (m : ℕ) (t : Timer2) → t.fresh ≡ waits → t.counter < 65536 → t.armed ≡ false → timer2_flags_within false m t ≡ false
 spent_by2 false m t e small spent = spent2 m t e small spent
-spent_by2 true m t e small spent =
-    elim (cases_lt 0 m) [
-      | inl some ↦ sym (starts2 m t e some).1 ∙ spent2 (m - 1) (record t { fresh = false }) refl small spent
-      | inr none ↦ let is : m ≡ 0 = omega arith in ap (λ (k : ℕ). timer2_flags_within false k t) is
-    ]
+spent_by2 true m t e small spent = sym (from_start2 m t e) ∙ spent2 (m - 1) (record t { fresh = false }) refl small spent
 
 pub disarmed2 : (m : ℕ) (t : Timer2) → t.counter < 65536 → t.armed ≡ false → timer2_flags_within false m t ≡ false
 disarmed2 m t small spent = spent_by2 t.fresh m t refl small spent

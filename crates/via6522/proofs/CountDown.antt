@@ -1,9 +1,8 @@
 -- Timer 2, and timer 1 where it does not run free, after many steps in which they count.
-use Rattle.std.proofs.Common.{◌≡◌, ◌∙◌, ap, sym, refl, ℕ, zero, suc, ◌+◌, ◌-◌, ◌*◌, ◌%◌, ◌<◌, ◌≤◌, ◌&&◌, ◌||◌, nat_lt, Bool, true, false, not, add-zero, add-suc, arith, inl, inr}
-use Rattle.std.proofs.Math.Bool.{or_assoc, or-false}
+use Rattle.std.proofs.Common.{◌≡◌, ◌∙◌, ap, sym, refl, ℕ, zero, suc, ◌+◌, ◌-◌, ◌*◌, ◌%◌, ◌<◌, ◌≤◌, ◌&&◌, ◌||◌, nat_lt, Bool, true, false, not, arith}
 use Rattle.std.proofs.lemmas.Bool.Decides.{nat_tests}
 use Rattle.via6522.specs.State.{Timer1, Timer2}
-use Rattle.via6522.specs.Timers.{one_less, runs_out, timer1_after, timer1_flags, timer2_after, timer2_flags}
+use Rattle.via6522.specs.Timers.{timer1_after, timer1_flags, timer2_after, timer2_flags}
 use Rattle.via6522.specs.Jumps.{timer1_later, timer1_flags_within, timer2_later, timer2_flags_within}
 
 -- the counter n steps later

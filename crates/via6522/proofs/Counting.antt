@@ -1,8 +1,8 @@
 -- Counters that go down, and numbers of steps.
-use Rattle.std.proofs.Common.{◌≡◌, ◌≢◌, refl, ℕ, ◌+◌, ◌%◌, ◌<◌, ◌==◌, true, false, arith}
+use Rattle.std.proofs.Common.{◌≡◌, ◌≢◌, ℕ, ◌+◌, ◌%◌, ◌<◌, ◌==◌, true, false, arith}
 use Rattle.std.proofs.lemmas.Bool.Decides.{nat_tests}
 use Rattle.std.proofs.Math.Nat.{add-mod_left, mod_self, mod-eq_of_lt}
-use Rattle.via6522.specs.Timers.{word, one_less, runs_out}
+use Rattle.via6522.specs.Timers.{word}
 
 pub test_true : (a b : ℕ) → a ≡ b → (a == b) ≡ true
 test_true a b h = grind (arith, nat_tests)

@@ -1,3 +1,4 @@
+pub mod Seen
 pub mod Runs
 pub mod Counting
 pub mod Timer1Lemmas

@@ -1,10 +1,10 @@
 -- A quiet step: both timers count down, and no line changes.
-use Rattle.std.proofs.Common.{◌≡◌, ◌∙◌, ap, refl, ℕ, ◌+◌, ◌-◌, ◌<◌, ◌&&◌, ◌||◌, Bool, true, false, not, arith}
+use Rattle.std.proofs.Common.{◌≡◌, ◌∙◌, ap, refl, ℕ, ◌+◌, ◌-◌, ◌<◌, ◌&&◌, ◌||◌, Bool, false, not, arith}
 use Rattle.std.proofs.lemmas.Bool.Decides.{nat_tests}
 use Rattle.beeb_bits.specs.Bits.{bit}
 use Rattle.via6522.specs.declared.Pins.{Pins}
 use Rattle.via6522.specs.State.{State, Timer1, Timer2, Levels}
-use Rattle.via6522.specs.Timers.{one_less, runs_out, timer1_after, timer1_flags, timer2_after, timer2_flags}
+use Rattle.via6522.specs.Timers.{timer1_after, timer1_flags, timer2_after, timer2_flags}
 use Rattle.via6522.specs.Lines.{is_edge, levels_of}
 use Rattle.via6522.specs.Step.{step, timers_stepped, edges_seen}
 use Rattle.via6522.specs.CodeQuiet.{timer1_ahead, timer2_ahead, ahead, IsQuiet}

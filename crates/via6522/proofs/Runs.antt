@@ -1,5 +1,5 @@
 -- Steps one after the other.
-use Rattle.std.proofs.Common.{◌≡◌, refl, ℕ, zero, suc, ◌+◌, add-one}
+use Rattle.std.proofs.Common.{◌≡◌, refl, ℕ, zero, suc}
 use Rattle.via6522.specs.declared.Pins.{Pins}
 use Rattle.via6522.specs.State.{State}
 use Rattle.via6522.specs.Step.{step, steps}
@@ -13,6 +13,3 @@ pub step_behind : (pins : Pins) (n : ℕ) (c : State) → steps pins (suc n) c �
 unfolding steps
 step_behind pins zero c = refl
 step_behind pins (suc n) c = step_behind pins n (step pins c)
-
-pub one_step_more : (pins : Pins) (n : ℕ) (c : State) → steps pins (n + 1) c ≡ step pins (steps pins n c)
-one_step_more pins n c = rw add-one (step_behind pins n c)

@@ -1,11 +1,11 @@
 -- Timer 1 where it runs free, step by step.
-use Rattle.std.proofs.Common.{◌≡◌, sym, refl, ℕ, suc, ◌+◌, ◌%◌, ◌<◌, ◌≤◌, ◌==◌, Bool, true, false, List, [], ◌∷◌, length, add-zero, zero-add, arith, inl, inr}
+use Rattle.std.proofs.Common.{◌≡◌, sym, ℕ, suc, ◌+◌, ◌%◌, ◌<◌, ◌≤◌, ◌==◌, true, false, List, [], ◌∷◌, length, add-zero, zero-add, arith, inl, inr}
 use Rattle.std.proofs.lemmas.Bool.{cases_lt}
 use Rattle.std.proofs.lemmas.Bool.Decides.{nat_tests}
 use Rattle.via6522.specs.declared.Pins.{Pins}
 use Rattle.beeb_bits.specs.Bits.{bit}
 use Rattle.via6522.specs.State.{State, Timer1}
-use Rattle.via6522.specs.Timers.{word, one_less, runs_out, timer1_after, timer1_flags}
+use Rattle.via6522.specs.Timers.{word, timer1_after, timer1_flags}
 use Rattle.via6522.specs.Step.{step, after_steps}
 use Rattle.via6522.proofs.Counting.{within_period, ends_period, next_period}
 

@@ -1,5 +1,6 @@
 use Rattle.std.proofs.Common.{◌≡◌, ◌∙◌, sym, ap, ◌<◌, ◌≤◌, ◌+◌, Bool, false, arith}
 use Rattle.via6522.specs.State.{Timer2}
+use Rattle.via6522.proofs.Seen.{seen2}
 use Rattle.via6522.specs.CodeQuiet.{timer2_ahead}
 use Rattle.via6522.specs.Jumps.{timer2_flags_within}
 use Rattle.via6522.proofs.Calm.{calm2, disarmed2, still_is_calm}
@@ -7,7 +8,7 @@ use Rattle.via6522.proofs.timer2.Timer2.calm.Goals as goal
 
 pub returns-then-not-self : goal.returns-then-not-self
 returns-then-not-self c = λ m within.
-    let t : Timer2 = record { counter = c.self.inside.counter; latch_low = c.self.inside.latch_low; fresh = c.self.inside.fresh; armed = c.self.inside.armed } in
+    let t = seen2 c.self.inside in
     let count : t.counter ≡ c.args.self.now.counter = ap (λ (u : Timer2). u.counter) c.self.view_is in
     let small : t.counter + c.args.quiet < 65536 = omega (arith, count, c.requires c.if-stands_still.false) in
     ap (λ (b : Bool). timer2_flags_within b m (timer2_ahead b c.args.quiet c.args.self.now)) c.if-stands_still.false
@@ -16,7 +17,7 @@ returns-then-not-self c = λ m within.
 
 pub returns : goal.returns
 returns c = λ m within.
-    let t : Timer2 = record { counter = c.self.inside.counter; latch_low = c.self.inside.latch_low; fresh = c.self.inside.fresh; armed = c.self.inside.armed } in
+    let t = seen2 c.self.inside in
     let count : t.counter ≡ c.args.self.now.counter = ap (λ (u : Timer2). u.counter) c.self.view_is in
     let small : t.counter + c.args.quiet < 65536 = omega (arith, count, c.requires c.if-stands_still.false) in
     let inside : m ≤ t.counter + c.args.quiet = omega (arith, c.from.ensures, c.from-2.ensures, within) in
