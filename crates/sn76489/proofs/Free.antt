@@ -37,9 +37,6 @@ pub record ArePlayed (writes : List SoundWrite) (q m : ℕ) (after : List SoundW
   pub before : IsBefore writes (q + m + 1) after d
   pub last : d ≡ chip_before_step writes (4 * (q + m) + 1)
 
-clock_is : (n : ℕ) (c : State) → clocks (n + 1) c ≡ clock_leaves (clocks n c)
-clock_is n c = one_clock_more n c
-
 first_clock : (c : State) → clocks (0 + 1) c ≡ clock_leaves c
 first_clock c = one_clock_more 0 c ∙ ap clock_leaves (no_clocks c)
 
@@ -60,7 +57,7 @@ are_played writes left after q (suc m) c d before is rest free =
     let here : NeverFallFrom (4 * k + 1) after = not_before (4 * (q + suc m) + 1) (4 * k + 1) after free (omega arith) in
     let one : suc m ≡ m + 1 = omega arith in
     let done : clocks (suc m + 1) d ≡ clock_leaves (caught_up (4 * k) after (clocks (m + 1) d)) =
-    clock_is (suc m) d ∙ ap clock_leaves (ap (λ n. clocks n d) one ∙ sym (none_due (4 * k) after (clocks (m + 1) d) here)) in
+    one_clock_more (suc m) d ∙ ap clock_leaves (ap (λ n. clocks n d) one ∙ sym (none_due (4 * k) after (clocks (m + 1) d) here)) in
     let same : k ≡ q + suc m = omega arith in
     record {
       before = rw (← same) (behind_clock writes after after k (clocks (m + 1) d) (clocks (suc m + 1) d) so_far.before done (sym (all_left (4 * k) after here)));
@@ -75,18 +72,7 @@ none_sampled writes q (suc m) low =
     let before : q + m ≤ (q + 7) / 8 * 8 = omega (arith, low) in
     ap (samples writes) same ∙ unsampled writes (q + m) (λ e. omega (arith, low, e)) ∙ none_sampled writes q m before
 
--- the samples of so many clocks and one more
-pub with_sample : (writes : List SoundWrite) (q m : ℕ) (d : State) → q + m ≤ (q + 7) / 8 * 8 → (q + m + 1) % 8 ≡ 1 → d ≡ chip_before_step writes (4 * (q + m) + 1) →
-    samples writes (4 * (q + m + 1)) ≡ samples writes (4 * q) ++ pos (level d) ∷ []
-with_sample writes q m d low whole is =
-    sampled writes (q + m) (omega (arith, whole)) ∙ ap (λ l. l ++ pos (level (chip_before_step writes (4 * (q + m) + 1))) ∷ []) (none_sampled writes q m low)
-    ∙ ap (λ x. samples writes (4 * q) ++ pos (level x) ∷ []) (sym is)
-
-pub without_sample : (writes : List SoundWrite) (q m : ℕ) → q + m ≤ (q + 7) / 8 * 8 → (q + m + 1) % 8 ≢ 1 →
-    samples writes (4 * (q + m + 1)) ≡ samples writes (4 * q)
-without_sample writes q m low part = unsampled writes (q + m) (λ e. part (omega (arith, e))) ∙ none_sampled writes q m low
-
--- ---- the same of a number of clocks that is not 0
+-- ---- a number of clocks that is not 0
 
 pub some_played : (writes left after : List SoundWrite) (q some : ℕ) (c d f : State) → 0 < some → IsBefore writes q left c → d ≡ caught_up (4 * q) left c →
     after ≡ pending_writes (4 * q) left → NeverFallFrom (4 * (q + (some - 1)) + 1) after → f ≡ clocks some d →
@@ -106,11 +92,13 @@ pub some_sampled : (writes : List SoundWrite) (q some : ℕ) (f : State) → 0 <
 some_sampled writes q some f high low whole is =
     let m = some - 1 in
     let place : 4 * (q + some) ≡ 4 * (q + m + 1) = omega (arith, high) in
-    ap (samples writes) place ∙ with_sample writes q m f (omega (arith, high, low)) (omega (arith, high, whole)) is
+    ap (samples writes) place ∙ sampled writes (q + m) (omega (arith, high, whole))
+    ∙ ap (λ l. l ++ pos (level (chip_before_step writes (4 * (q + m) + 1))) ∷ []) (none_sampled writes q m (omega (arith, high, low)))
+    ∙ ap (λ x. samples writes (4 * q) ++ pos (level x) ∷ []) (sym is)
 
 pub some_unsampled : (writes : List SoundWrite) (q some : ℕ) → 0 < some → q + some ≤ (q + 7) / 8 * 8 + 1 → (q + some) % 8 ≢ 1 →
     samples writes (4 * (q + some)) ≡ samples writes (4 * q)
 some_unsampled writes q some high low part =
     let m = some - 1 in
     let place : 4 * (q + some) ≡ 4 * (q + m + 1) = omega (arith, high) in
-    ap (samples writes) place ∙ without_sample writes q m (omega (arith, high, low)) (λ e. part (omega (arith, high, e)))
+    ap (samples writes) place ∙ unsampled writes (q + m) (λ e. part (omega (arith, high, e))) ∙ none_sampled writes q m (omega (arith, high, low))

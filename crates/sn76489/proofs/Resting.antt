@@ -1,56 +1,28 @@
 -- Clocks in which counters only go down.
-use Rattle.std.proofs.Common.{◌≡◌, ◌≢◌, ◌∙◌, sym, ap, refl, ℕ, zero, suc, ◌+◌, ◌-◌, ◌%◌, ◌<◌, ◌≤◌, ◌&&◌, Bool, true, false, not, arith, inl, inr}
+use Rattle.std.proofs.Common.{◌≡◌, ◌≢◌, ◌∙◌, sym, ap, refl, ℕ, zero, suc, ◌+◌, ◌-◌, ◌%◌, ◌<◌, ◌≤◌, Bool, false, arith, inl, inr}
 use Rattle.std.proofs.lemmas.Bool.{cases_eq}
+use Rattle.std.proofs.lemmas.Bool.Decides.{nat_tests}
 use Rattle.sn76489.specs.State.{State, Tone, Noise}
 use Rattle.sn76489.specs.Clock.{tone_clock_leaves, rises, shift_clocks, shifts_at, noise_clock_leaves, clock_leaves, clocks}
 use Rattle.sn76489.specs.Quiet.{tone_quiet, noise_quiet, tone_lowered, lower_leaves, IsQuiet}
-use Rattle.sn76489.proofs.Catching.{le_false}
+use Rattle.sn76489.proofs.Shifting.{of_each}
 use Rattle.sn76489.proofs.Playing.{test_true, test_false}
 use Rattle.sn76489.proofs.Runs.{no_clocks, clock_behind}
 
 pub fewer : (n m : ℕ) (c : State) → n ≤ m → IsQuiet m c → IsQuiet n c
-fewer n m c low q = record {
-  tone1 = omega (arith, low, q.tone1);
-  tone2 = omega (arith, low, q.tone2);
-  tone3 = omega (arith, low, q.tone3);
-  noise = omega (arith, low, q.noise);
-  count = q.count;
-}
+fewer n m c low q = omega arith
 
 tone_step : (n : ℕ) (t : Tone) → suc n ≤ tone_quiet t → tone_clock_leaves (tone_lowered n t) ≡ tone_lowered (suc n) t
-tone_step n t low =
-    let high : 1 < t.counter - n = omega (arith, low) in
-    let down : t.counter - n - 1 ≡ t.counter - suc n = omega arith in
-    rw (le_false (t.counter - n) 1 high) (ap (λ k. record t { counter = k }) down)
-
-not_both : (b : Bool) → not b && b ≡ false
-not_both true = refl
-not_both false = refl
+tone_step n t low = grind (arith, nat_tests)
 
 stays_low : (n : ℕ) (t : Tone) → suc n ≤ tone_quiet t → rises (tone_lowered n t) ≡ false
-stays_low n t low = rw (tone_step n t low) (not_both t.output)
+stays_low n t low = grind (arith, nat_tests)
 
 -- the number of a clock that is no multiple
-no_multiple_32 : (k n : ℕ) → suc n ≤ 32 - 1 - k % 32 → ((k + n) % 128 + 1) % 128 % 32 ≢ 0
-no_multiple_32 k n low e = omega (arith, low, e)
-
-no_multiple_64 : (k n : ℕ) → suc n ≤ 64 - 1 - k % 64 → ((k + n) % 128 + 1) % 128 % 64 ≢ 0
-no_multiple_64 k n low e = omega (arith, low, e)
-
-no_multiple_128 : (k n : ℕ) → suc n ≤ 128 - 1 - k % 128 → ((k + n) % 128 + 1) % 128 % 128 ≢ 0
-no_multiple_128 k n low e = omega (arith, low, e)
-
 no_multiple : (rate k n : ℕ) → suc n ≤ shift_clocks rate - 1 - k % shift_clocks rate → ((k + n) % 128 + 1) % 128 % shift_clocks rate ≢ 0
-no_multiple rate k n low =
-    elim (cases_eq rate 0) [
-      | inl is0 ↦ rw (test_true rate 0 is0) (no_multiple_32 k n (rw (test_true rate 0 is0) at low))
-      | inr not0 ↦ elim (cases_eq rate 1) [
-        | inl is1 ↦
-            rw (test_false rate 0 not0, test_true rate 1 is1) (no_multiple_64 k n (rw (test_false rate 0 not0, test_true rate 1 is1) at low))
-        | inr not1 ↦
-            rw (test_false rate 0 not0, test_false rate 1 not1) (no_multiple_128 k n (rw (test_false rate 0 not0, test_false rate 1 not1) at low))
-      ]
-    ]
+no_multiple rate k n =
+    of_each (λ each. suc n ≤ each - 1 - k % each → ((k + n) % 128 + 1) % 128 % each ≢ 0) (λ low e. omega (arith, low, e)) (λ low e. omega (arith, low, e))
+    (λ low e. omega (arith, low, e)) rate
 
 no_shift : (k n : ℕ) (noise : Noise) → suc n ≤ noise_quiet k noise → shifts_at (((k + n) % 128 + 1) % 128) false noise ≡ false
 no_shift k n noise low =

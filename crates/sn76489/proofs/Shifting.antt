@@ -7,7 +7,7 @@ use Rattle.sn76489.specs.Laws.{shifts, NoiseShiftsInTime}
 use Rattle.sn76489.proofs.Playing.{test_true, test_false}
 
 -- What holds of 32, 64 and 128.
-of_each : (Q : ℕ → Type 0) → Q 32 → Q 64 → Q 128 → (rate : ℕ) → Q (shift_clocks rate)
+pub of_each : (Q : ℕ → Type 0) → Q 32 → Q 64 → Q 128 → (rate : ℕ) → Q (shift_clocks rate)
 of_each Q slow slower slowest rate = elim (cases_eq rate 0) [
   | inl is ↦ rw (test_true rate 0 is) slow
   | inr not_0 ↦ elim (cases_eq rate 1) [
@@ -25,31 +25,13 @@ record IsEach (each : ℕ) : Type 0 where
   pub no_shift : (k n : ℕ) → (k + suc n) % each ≢ 0 → (k + suc n) / each ≡ (k + n) / each
 
 each_32 : IsEach 32
-each_32 = record {
-  none = λ k. omega arith;
-  counts = λ count n d e. omega (arith, e);
-  number = λ count n d e. omega (arith, e);
-  shift = λ k n e. omega (arith, e);
-  no_shift = λ k n e. omega (arith, e);
-}
+each_32 = omega arith
 
 each_64 : IsEach 64
-each_64 = record {
-  none = λ k. omega arith;
-  counts = λ count n d e. omega (arith, e);
-  number = λ count n d e. omega (arith, e);
-  shift = λ k n e. omega (arith, e);
-  no_shift = λ k n e. omega (arith, e);
-}
+each_64 = omega arith
 
 each_128 : IsEach 128
-each_128 = record {
-  none = λ k. omega arith;
-  counts = λ count n d e. omega (arith, e);
-  number = λ count n d e. omega (arith, e);
-  shift = λ k n e. omega (arith, e);
-  no_shift = λ k n e. omega (arith, e);
-}
+each_128 = omega arith
 
 is_each : (rate : ℕ) → IsEach (shift_clocks rate)
 is_each rate = of_each IsEach each_32 each_64 each_128 rate
