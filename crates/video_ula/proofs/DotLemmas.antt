@@ -1,7 +1,6 @@
 -- Sixteen dots at a time are the dots by themselves.
-use Rattle.std.proofs.Common.{◌≡◌, ◌∙◌, sym, ap, subst, refl, ℕ, zero, suc, ◌+◌, ◌-◌, ◌*◌, ◌/◌, ◌%◌, ◌^◌, ◌<◌, ◌==◌, ◌≢◌, Bool, true, false, List}
-use Rattle.std.proofs.Common.{[], ◌∷◌, ◌++◌, map, take, drop, length, slice_index_or, ltb, arith}
-use Rattle.std.proofs.lemmas.Bool.{agree_below_at, ltb-true}
+use Rattle.std.proofs.Common.{◌≡◌, ◌∙◌, sym, ap, refl, ℕ, ◌+◌, ◌-◌, ◌/◌, ◌^◌, ◌<◌, ◌==◌, ◌≢◌, Bool, true, false, List}
+use Rattle.std.proofs.Common.{[], ◌∷◌, ◌++◌, map, take, drop, length, slice_index_or, arith}
 use Rattle.std.proofs.lemmas.Bool.Decides.{nat_tests}
 use Rattle.std.proofs.lemmas.List.{take_more_set, take_all}
 use Rattle.std.proofs.lemmas.List.FromFn.{get_or-map-range_with_len, map-range_with_len_more}
@@ -16,26 +15,11 @@ use Rattle.video_ula.specs.Pixels.{shifted_byte, entry_of, colour_of, under_curs
 use Rattle.video_ula.specs.Colours.{entry_colours, pixel_of, dots_in, eight_in, table_of, IsReady, eight_at, sixteen_at, HasEights}
 
 -- from the ninth pixel on only ones are left
-pub ones-9 : (byte : ℕ) → shifted_byte byte 9 ≡ shifted_byte byte 8
-ones-9 byte = omega arith
-
-pub ones-10 : (byte : ℕ) → shifted_byte byte 10 ≡ shifted_byte byte 8
-ones-10 byte = omega arith
-
-pub ones-11 : (byte : ℕ) → shifted_byte byte 11 ≡ shifted_byte byte 8
-ones-11 byte = omega arith
-
-pub ones-12 : (byte : ℕ) → shifted_byte byte 12 ≡ shifted_byte byte 8
-ones-12 byte = omega arith
-
-pub ones-13 : (byte : ℕ) → shifted_byte byte 13 ≡ shifted_byte byte 8
-ones-13 byte = omega arith
-
-pub ones-14 : (byte : ℕ) → shifted_byte byte 14 ≡ shifted_byte byte 8
-ones-14 byte = omega arith
-
-pub ones-15 : (byte : ℕ) → shifted_byte byte 15 ≡ shifted_byte byte 8
-ones-15 byte = omega arith
+pub ones : (byte : ℕ) →
+    (shifted_byte byte 9 ≡ shifted_byte byte 8) × (shifted_byte byte 10 ≡ shifted_byte byte 8) × (shifted_byte byte 11 ≡ shifted_byte byte 8)
+    × (shifted_byte byte 12 ≡ shifted_byte byte 8) × (shifted_byte byte 13 ≡ shifted_byte byte 8) × (shifted_byte byte 14 ≡ shifted_byte byte 8)
+    × (shifted_byte byte 15 ≡ shifted_byte byte 8)
+ones byte = omega arith
 
 pub width-1 : (n : ℕ) → n < 4 → n ≢ 0 → n ≢ 1 → n ≢ 2 → 1 ≡ 2 ^ (3 - n)
 width-1 n low a b c = let three : n ≡ 3 = omega arith in rw three refl
@@ -51,10 +35,6 @@ dot-same u flash byte cursor k = ap (under_cursor cursor) (colour-at flash u.pal
 pub same_for_all : (f g : ℕ → ℕ) → ((d : ℕ) → f d ≡ g d) → (xs : List ℕ) → map f xs ≡ map g xs
 same_for_all f g h [] = refl
 same_for_all f g h (x ∷ xs) = ap (λ y. y ∷ map f xs) (h x) ∙ ap (λ ys. g x ∷ ys) (same_for_all f g h xs)
-
-pub first_eight : (entries : List ℕ) (byte : ℕ) (cursor : Bool) (width : ℕ) →
-    take 8 (dots_in entries byte cursor width) ≡ map (λ d. pixel_of entries byte cursor (d / width)) (range_with_len 0 8)
-first_eight entries byte cursor width = refl
 
 -- a value that is written has its colour written
 pub colour-set : (flash : Bool) (colours palette : List ℕ) (entry value colour : ℕ) → colours ≡ entry_colours flash palette → colour ≡ colour_of flash value →

@@ -1,8 +1,4 @@
-use Rattle.std.proofs.Common.{rules, ◌≡◌, ◌∙◌, sym, ap, ◌==◌, true, false, Bool}
-use Rattle.beeb_bits.specs.Bits.{bit}
-use Rattle.video_ula.specs.State.{State}
-use Rattle.video_ula.specs.Pixels.{pixel_width}
-use Rattle.video_ula.specs.Colours.{entry_colours, dots_in}
+use Rattle.std.proofs.Common.{rules, ◌≡◌, ◌∙◌, ◌==◌, true, false}
 use Rattle.video_ula.proofs.DotLemmas.{has_eights, sixteen_by_table}
 use Rattle.video_ula.proofs.ula.Ula.dots.Goals as goal
 
