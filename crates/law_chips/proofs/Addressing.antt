@@ -65,7 +65,7 @@ quiet : (target : Target) (k : ℕ) (s : State) (m : ℕ) → m < 896 → s.comm
 unfolding moved_on
 quiet target k s m inside is early none = record {
   command = λ h. is;
-  over = λ h. absurd (early (omega (arith, h, inside)));
+  over = λ h. absurd (early (omega arith));
   angle = next_place k m;
   drive0 = refl;
   drive1 = refl;
@@ -80,14 +80,14 @@ at_place target k s m inside is_place is =
     let place = (m + 1) / 64 in
     elim (cases_lt place 7) [
       | inl early ↦
-          rw (before_bytes place early, ne_eqb place 14 (λ e. omega (arith, e, early)))
-          (quiet target k s m inside is (λ e. omega (arith, e, early)) (λ h low high. omega (arith, low, early)))
+          rw (before_bytes place early, ne_eqb place 14 (λ e. omega arith))
+          (quiet target k s m inside is (λ e. omega arith) (λ h low high. omega arith))
       | inr late ↦
           elim (cases_lt 12 place) [
             | inr low ↦
                 rw (at_byte place late low) (record {
                   command = λ h. is;
-                  over = λ h. absurd (omega (arith, h, low));
+                  over = λ h. absurd (omega arith);
                   angle = next_place k m;
                   drive0 = refl;
                   drive1 = refl;
@@ -98,17 +98,17 @@ at_place target k s m inside is_place is =
                 elim (cases_eq place 14) [
                   | inl end ↦
                       rw (behind_bytes place high, eq-eqb place 14 end) (record {
-                        command = λ h. absurd (omega (arith, h, end));
+                        command = λ h. absurd (omega arith);
                         over = λ h. (refl, refl);
                         angle = next_place k m;
                         drive0 = refl;
                         drive1 = refl;
-                        byte = λ h low over. absurd (omega (arith, over, end));
+                        byte = λ h low over. absurd (omega arith);
                         none = λ h. (refl, refl, refl);
                       })
                   | inr other ↦
                       rw (behind_bytes place high, ne_eqb place 14 other)
-                      (quiet target k s m inside is (λ e. other (omega (arith, e))) (λ h low over. omega (arith, over, high)))
+                      (quiet target k s m inside is (λ e. other (omega arith)) (λ h low over. omega arith))
                 ]
           ]
     ]
@@ -117,12 +117,12 @@ address_goes : (target : Target) (k : ℕ) → k < 10 → GoesOn (of_address tar
 unfolding moved_on
 address_goes target k few s m inside is at =
     at_each (address_at target k) (λ x. Next (of_address target k) s x m) k m (moved_on s k m) (work_leaves s) (worked s target k m few inside is at)
-    (λ place. at_place target k s m inside place is) (λ none. quiet target k s m inside is (λ e. none (omega (arith, e))) (λ h low high. none h))
+    (λ place. at_place target k s m inside place is) (λ none. quiet target k s m inside is (λ e. none (omega arith)) (λ h low high. none h))
 
 after_address : (s : State) (target : Target) (k : ℕ) (events : List Event) → IsAtAddress s target k → k < 10 → AllWait events → count_steps events ≤ 896 →
     Either (of_address target k) (history events s) (count_steps events) (accesses 0 events)
 after_address s target k events at few all most =
-    run (of_address target k) (address_goes target k few) (omega arith) events s (lets_go waiting s events all) (omega (arith, most))
+    run (of_address target k) (address_goes target k few) (omega arith) events s (lets_go waiting s events all) (omega arith)
     at.command at.angle at.lost at.drq
 
 -- ---- Which bytes are taken.
@@ -163,23 +163,23 @@ record Served (s : State) : Type 0 where
 served : (s : State) (target : Target) (k : ℕ) (events : List Event) → IsAtAddress s target k → k < 10 → AllWait events → count_steps events ≡ 896 →
     ((i : ℕ) → i < 6 → is_taken i events ≡ true) → Served (history events s)
 unfolding has_place
-served s target k events at few all count in_time = elim (after_address s target k events at few all (omega (arith, count))) [
-  | inl fine ↦ record { kept = fine.kept; off = fine.last_taken (omega (arith, count)) (in_time 5 (omega arith)) }
-  | inr missed ↦ absurd (true≢false (sym (in_time missed.byte (let small = missed.inside in omega (arith, small))) ∙ missed.missed))
+served s target k events at few all count in_time = elim (after_address s target k events at few all (omega arith)) [
+  | inl fine ↦ record { kept = fine.kept; off = fine.last_taken (omega arith) (in_time 5 (omega arith)) }
+  | inr missed ↦ absurd (true≢false (sym (in_time missed.byte (let small = missed.inside in omega arith)) ∙ missed.missed))
 ]
 
 whole : (s : State) (target : Target) (k : ℕ) (events : List Event) → IsAtAddress s target k → k < 10 → AllWait events → count_steps events ≡ address_steps →
     ((i : ℕ) → i < 6 → is_taken i events ≡ true) → HasAddress target k events s
 whole s target k events at few all count in_time =
     let end = served s target k events at few all count in_time in
-    let is = takes s target k events at few all (omega (arith, count)) in
+    let is = takes s target k events at few all (omega arith) in
     record {
       bytes =
           sym (append-nil (bytes_taken s events))
           ∙ ap (λ b. bytes_taken s events ++ (if b then (history events s).byte ∷ [] else [])) (sym end.off) ∙ is.taken end.kept
           ∙ ap (λ m. take (min 6 (m / 64 - 6)) (address_bytes target k)) count;
-      sector = (is.over (omega (arith, count))).1;
-      over = (is.over (omega (arith, count))).0;
+      sector = (is.over (omega arith)).1;
+      over = (is.over (omega arith)).0;
       kept = end.kept;
     }
 
@@ -187,7 +187,7 @@ told : (s : State) (target : Target) (k : ℕ) (events : List Event) → IsAtAdd
     (i : ℕ) → i < 5 → 64 * (8 + i) ≤ count_steps events → is_taken i events ≡ false → (history events s).lost_data ≡ true
 unfolding has_place
 told s target k events at few all most i inside over missed = elim (after_address s target k events at few all most) [
-  | inl fine ↦ absurd (true≢false (sym (fine.served i inside (omega (arith, over))) ∙ missed))
+  | inl fine ↦ absurd (true≢false (sym (fine.served i inside (omega arith)) ∙ missed))
   | inr lost ↦ lost.lost
 ]
 
@@ -197,7 +197,7 @@ asked_for : Target → ℕ → Command
 asked_for target m = SeekingAddress target (1000000 - m)
 
 address_command : (v : ℕ) (s : State) → 0xC0 ≤ v → v < 0xD0 → command_of v s ≡ address_of s
-address_command v s low high = rw (le-ltb v 0x80 (omega (arith, low)), le-ltb v 0xC0 low, lt-ltb v 0xD0 high) refl
+address_command v s low high = rw (le-ltb v 0x80 (omega arith), le-ltb v 0xC0 low, lt-ltb v 0xD0 high) refl
 
 -- where one sector of a track is on the disc all ten are, and none else
 on_disc_so : (o : Option Image) (target : Target) (k : ℕ) → is_on_disc o target 0 ≡ true → is_on_disc o target k ≡ nat_lt k 10
@@ -227,7 +227,7 @@ looks_on s0 target k n inside has next s m early w =
           let number = angle / (64 * 312) in
           let big : 10 ≤ number = elim (cases_lt number 10) [
             | inl few ↦
-                let here : (next_angle s0.angle + m) % 200000 ≡ 64 * (312 * number) = omega (arith, w.angle, starts) in
+                let here : (next_angle s0.angle + m) % 200000 ≡ 64 * (312 * number) = omega (arith, w.angle) in
                 absurd (next.none_before m number early few here)
             | inr many ↦ many
           ] in
@@ -244,7 +244,7 @@ looks_on s0 target k n inside has next s m early w =
     ∙ ap (λ b. if b then record s1 { command = GivingAddress target (angle / (64 * 312)) }
     else if nat_lt 1 (1000000 - m) then record s1 { command = SeekingAddress target (1000000 - m - 1) } else not_found s1) none
     ∙ ap (λ b. if b then record s1 { command = SeekingAddress target (1000000 - m - 1) } else not_found s1)
-    (lt-ltb 1 (1000000 - m) (omega (arith, early, inside)))
+    (lt-ltb 1 (1000000 - m) (omega arith))
     ∙ ap (λ k. record s1 { command = SeekingAddress target k }) less
 
 -- the step at which one begins
@@ -255,8 +255,8 @@ finds s0 s target k n inside density has off kept next w =
     let angle = next_angle s.angle in
     let s1 : State = record s { angle = Some angle } in
     let now : angle ≡ 64 * (312 * k) = w.angle ∙ next.begins in
-    let starts : angle % (64 * 312) ≡ 0 = omega (arith, now) in
-    let which : angle / (64 * 312) ≡ k = omega (arith, now) in
+    let starts : angle % (64 * 312) ≡ 0 = omega arith in
+    let which : angle / (64 * 312) ≡ k = omega arith in
     let on : is_on_disc (disc_in target.drive s1) target (angle / (64 * 312)) ≡ true =
     ap (λ o. is_on_disc o target (angle / (64 * 312))) (same_disc target.drive s1 s0 w.drive0 w.drive1)
     ∙ on_disc_so (disc_in target.drive s0) target (angle / (64 * 312)) has ∙ ap (λ n. nat_lt n 10) which ∙ lt-ltb k 10 next.number in
@@ -278,7 +278,7 @@ unfolding asked_for
 next s v k n waits low high inside is comes =
     let target = target_selected s in
     let s0 = write_leaves 0 v s in
-    let written = begun v s is.idle is.live (λ e. omega (arith, e, high)) in
+    let written = begun v s is.idle is.live (λ e. omega arith) in
     let all : 1000000 ≡ 1000000 - 0 = omega arith in
     let command : s0.command ≡ SeekingAddress target (1000000 - 0) =
     ap (λ (x : State). x.command) written ∙ address_command v s low high ∙ ap (SeekingAddress target) all in
@@ -299,11 +299,11 @@ some_next s =
           let n = 200000 - a in (
             0,
             n,
-            omega (arith, late),
+            omega arith,
             record {
               number = omega arith;
-              begins = omega (arith, late, small);
-              none_before = λ i j early few e. omega (arith, e, early, few, late, small);
+              begins = omega arith;
+              none_before = λ i j early few e. omega arith;
             },
           )
       | inr low ↦
@@ -311,11 +311,11 @@ some_next s =
           let n = 19968 * k - a in (
             k,
             n,
-            omega (arith, low),
+            omega arith,
             record {
-              number = omega (arith, low);
-              begins = omega (arith, low);
-              none_before = λ i j early few e. omega (arith, e, early, few, low);
+              number = omega arith;
+              begins = omega arith;
+              none_before = λ i j early few e. omega arith;
             },
           )
     ]

@@ -33,11 +33,11 @@ added w a j some small =
     let lt : h < w = mod_below a w some in
     elim (cases_lt (h + j) w) [
       | inl inner ↦
-          let same : q * w + (h + j) ≡ a + j = omega (arith, e) in
+          let same : q * w + (h + j) ≡ a + j = omega arith in
           inl (ap (λ k. k % w) (sym same) ∙ mod-mul-add q w (h + j) inner)
       | inr over ↦
           let turn : (q + 1) * w ≡ q * w + w = grind arith in
-          let same : (q + 1) * w + (h + j - w) ≡ a + j = omega (arith, e, turn) in
+          let same : (q + 1) * w + (h + j - w) ≡ a + j = omega arith in
           let is : (a + j) % w ≡ h + j - w = ap (λ k. k % w) (sym same) ∙ mod-mul-add (q + 1) w (h + j - w) (omega arith) in
           inr (omega arith)
     ]
@@ -53,14 +53,14 @@ next_place w n some =
     let lt : h < w = mod_below n w some in
     elim (cases_lt (h + 1) w) [
       | inl inner ↦
-          let same : q * w + (h + 1) ≡ n + 1 = omega (arith, e) in
+          let same : q * w + (h + 1) ≡ n + 1 = omega arith in
           inr (ap (λ k. k % w) (sym same) ∙ mod-mul-add q w (h + 1) inner, (ap (λ k. k / w) (sym same) ∙ div-mul-add q w (h + 1) inner, inner))
       | inr over ↦
           let turn : (q + 1) * w ≡ q * w + w = grind arith in
-          let same : (q + 1) * w + 0 ≡ n + 1 = omega (arith, e, turn) in
+          let same : (q + 1) * w + 0 ≡ n + 1 = omega arith in
           inl (
             ap (λ k. k % w) (sym same) ∙ mod-mul-add (q + 1) w 0 some,
-            (ap (λ k. k / w) (sym same) ∙ div-mul-add (q + 1) w 0 some, omega (arith, lt, over)),
+            (ap (λ k. k / w) (sym same) ∙ div-mul-add (q + 1) w 0 some, omega arith),
           )
     ]
 
@@ -78,22 +78,22 @@ comes w r v small =
     elim (added w v r (omega arith) small) [
       | inl is ↦
           elim (cases_eq (v % w) 0) [
-            | inl none ↦ test_true _ _ (ap (λ k. k % w) turn ∙ omega (arith, is, none)) ∙ sym (test_true _ _ none)
+            | inl none ↦ test_true _ _ (ap (λ k. k % w) turn ∙ omega arith) ∙ sym (test_true _ _ none)
             | inr some ↦
-                test_false _ _ (λ same. some (let back : (v + r) % w ≡ r = sym (ap (λ k. k % w) turn) ∙ same in omega (arith, back, is)))
+                test_false _ _ (λ same. some (let back : (v + r) % w ≡ r = sym (ap (λ k. k % w) turn) ∙ same in omega arith))
                 ∙ sym (test_false _ _ some)
           ]
       | inr is ↦
-          test_false _ _ (λ same. let back : (v + r) % w ≡ r = sym (ap (λ k. k % w) turn) ∙ same in omega (arith, back, is, lt))
-          ∙ sym (test_false _ _ (λ none. omega (arith, none, is, small)))
+          test_false _ _ (λ same. let back : (v + r) % w ≡ r = sym (ap (λ k. k % w) turn) ∙ same in omega arith)
+          ∙ sym (test_false _ _ (λ none. omega arith))
     ]
 
 pub differs : (w a j : ℕ) → 0 < j → j < w → a % w ≡ (a + j) % w → ⊥
 differs w a j more small same =
     let lt : a % w < w = mod_below a w (omega arith) in
     elim (added w a j (omega arith) small) [
-      | inl is ↦ omega (arith, is, same)
-      | inr is ↦ omega (arith, is, same, lt)
+      | inl is ↦ omega arith
+      | inr is ↦ omega arith
     ]
 
 -- rounds of rounds
@@ -101,7 +101,7 @@ pub within_rounds : (w l t : ℕ) → t % (w * l) % w ≡ t % w
 within_rounds w l t =
     let e : t / (w * l) * (w * l) + t % (w * l) ≡ t = div-add-mod' t (w * l) in
     let turn : t / (w * l) * (w * l) ≡ w * (l * (t / (w * l))) = grind arith in
-    let same : t % (w * l) + w * (l * (t / (w * l))) ≡ t = omega (arith, e, turn) in
+    let same : t % (w * l) + w * (l * (t / (w * l))) ≡ t = omega arith in
     sym (add-mul-mod_self_left (t % (w * l)) w (l * (t / (w * l)))) ∙ ap (λ k. k % w) same
 
 -- ---- Dots of a frame.
@@ -159,22 +159,22 @@ other_one left p q x y colour frame here apart = by_test (is_in_frame left x y) 
       let to2 = here.to in
       let top2 = here.top in
       get_or-set_other frame (dot_index left x y) (dot_index left p q) colour 0 (λ same. elim apart [
-        | inl line ↦ line (omega (arith, same, from, to, top, from2, to2, top2))
+        | inl line ↦ line (omega (arith, from, to, top))
         | inr beside ↦ elim beside [
-          | inl before ↦ omega (arith, same, from, to, top, from2, to2, top2, before)
-          | inr after ↦ omega (arith, same, from, to, top, from2, to2, top2, after)
+          | inl before ↦ omega (arith, from, to, top)
+          | inr after ↦ omega (arith, from, to, top)
         ]
       ])
 
 first_apart : (p q x y many : ℕ) → IsApart p q x y (suc many) → IsApart p q x y 1
 first_apart p q x y many (inl line) = inl line
 first_apart p q x y many (inr (inl before)) = inr (inl before)
-first_apart p q x y many (inr (inr after)) = inr (inr (omega (arith, after)))
+first_apart p q x y many (inr (inr after)) = inr (inr (omega arith))
 
 rest_apart : (p q x y many : ℕ) → IsApart p q x y (suc many) → IsApart p q (x + 1) y many
 rest_apart p q x y many (inl line) = inl line
-rest_apart p q x y many (inr (inl before)) = inr (inl (omega (arith, before)))
-rest_apart p q x y many (inr (inr after)) = inr (inr (omega (arith, after)))
+rest_apart p q x y many (inr (inl before)) = inr (inl (omega arith))
+rest_apart p q x y many (inr (inr after)) = inr (inr (omega arith))
 
 pub others : (left p q x y : ℕ) (dots frame : List ℕ) → Inside left p q → IsApart p q x y (length dots) →
     slice_index (dots_set left x y dots frame) (dot_index left p q) ≡ slice_index frame (dot_index left p q)
@@ -193,11 +193,11 @@ one left x y colour frame is long =
     let top = i.top in
     let bottom = i.bottom in
     ap (λ b. slice_index (if b then slice_set frame (dot_index left x y) colour else frame) (dot_index left x y)) is
-    ∙ get_or-set_same frame (dot_index left x y) colour 0 (omega (arith, long, from, to, top, bottom))
+    ∙ get_or-set_same frame (dot_index left x y) colour 0 (omega (arith, from, to, top, bottom))
 
 pub drawn_dot : (left x y d : ℕ) (dots frame : List ℕ) → d < length dots → is_in_frame left (x + d) y ≡ true → length frame ≡ 163840 →
     slice_index (dots_set left x y dots frame) (dot_index left (x + d) y) ≡ slice_index dots d
-drawn_dot left x y d [] frame within is long = absurd (omega (arith, within))
+drawn_dot left x y d [] frame within is long = absurd (omega arith)
 drawn_dot left x y zero (colour ∷ dots) frame within is long =
     let z : x + 0 ≡ x = omega arith in
     let is_here : is_in_frame left x y ≡ true = sym (ap (λ k. is_in_frame left k y) z) ∙ is in
@@ -207,7 +207,7 @@ drawn_dot left x y zero (colour ∷ dots) frame within is long =
 drawn_dot left x y (suc d) (colour ∷ dots) frame within is long =
     let e : x + suc d ≡ x + 1 + d = omega arith in
     ap (λ k. slice_index (dots_set left (x + 1) y dots (dot_set left x y colour frame)) (dot_index left k y)) e
-    ∙ drawn_dot left (x + 1) y d dots (dot_set left x y colour frame) (omega (arith, within)) (sym (ap (λ k. is_in_frame left k y) e) ∙ is)
+    ∙ drawn_dot left (x + 1) y d dots (dot_set left x y colour frame) (omega arith) (sym (ap (λ k. is_in_frame left k y) e) ∙ is)
     (length_one left x y colour frame ∙ long)
 
 -- ---- One clock.
@@ -355,23 +355,23 @@ sync_is_early c makes =
     let row : r.vertical_sync_position ≤ r.vertical_total = makes.vertical.row in
     let some : 0 < row_lines r = omega arith in
     let least : r.vertical_sync_position * row_lines r + 0 < row_lines r * (r.vertical_total + 1) =
-    mul-add-lt r.vertical_sync_position (row_lines r) 0 (r.vertical_total + 1) (omega (arith, row)) some in
+    mul-add-lt r.vertical_sync_position (row_lines r) 0 (r.vertical_total + 1) (omega arith) some in
     let turn : row_lines r * (r.vertical_total + 1) ≡ (r.vertical_total + 1) * row_lines r = mul_comm (row_lines r) (r.vertical_total + 1) in
-    omega (arith, least, turn)
+    omega arith
 
 pub sync_in_frame : (c : crtc.State) → MakesFrames c → sync_clock c.registers < frame_clocks c.registers
 sync_in_frame c makes =
     let r = c.registers in
     let within : sync_line r * line_characters r + 0 < line_characters r * frame_lines r =
     mul-add-lt (sync_line r) (line_characters r) 0 (frame_lines r) (sync_is_early c makes) (omega arith) in
-    omega (arith, within)
+    omega arith
 
 pub column_sync : Laws → (c : crtc.State) → MakesFrames c → (t : ℕ) →
     (tells (c.registers.horizontal_sync_position + t) c).sync_start ≡ (t % line_characters c.registers == 0)
 column_sync laws c makes t =
     let small : c.registers.horizontal_sync_position ≤ c.registers.horizontal_total = makes.horizontal in
     laws.columns c (c.registers.horizontal_sync_position + t) makes.bits makes.begins.character
-    ∙ comes (line_characters c.registers) c.registers.horizontal_sync_position t (omega (arith, small))
+    ∙ comes (line_characters c.registers) c.registers.horizontal_sync_position t (omega arith)
 
 pub frame_sync : Laws → (c : crtc.State) → MakesFrames c → (t : ℕ) →
     (tells (sync_clock c.registers + t) c).frame_end ≡ (t % frame_clocks c.registers == 0)
@@ -398,8 +398,8 @@ eight_or_sixteen control = by_test (bit control 4) where
   by_test false = inr refl
 
 fits : (h dots : ℕ) → h < 255 → (dots ≡ 8) ⊎ (dots ≡ 16) → min (h * dots + dots) 4095 ≡ (h + 1) * dots
-fits h dots small (inl e) = rw e (omega (arith, small))
-fits h dots small (inr e) = rw e (omega (arith, small))
+fits h dots small (inl e) = rw e (omega arith)
+fits h dots small (inr e) = rw e (omega arith)
 
 nought : (dots : ℕ) → 0 ≡ 0 * dots
 nought dots = omega arith
@@ -439,10 +439,10 @@ column_walk laws ram size font s makes (suc t) =
           let more : suc t % w ≡ t % w + 1 = ap (λ k. k % w) (sym f) ∙ o.0 in
           let below : suc t % w < w = mod_below (suc t) w (omega arith) in
           x_at b (char_clocks ram size font (n + suc t) s).place false
-          (sync ∙ test_false (suc t % w) 0 (λ none. omega (arith, more, none)))
+          (sync ∙ test_false (suc t % w) 0 (λ none. omega arith))
           ∙ ap (λ (p : Place). p.x) place
           ∙ ap (λ k. min (k + dots) 4095) (column_walk laws ram size font s makes t)
-          ∙ fits (t % w) dots (omega (arith, more, below, wide)) (eight_or_sixteen s.ula.control)
+          ∙ fits (t % w) dots (omega arith) (eight_or_sixteen s.ula.control)
           ∙ ap (λ k. k * dots) (sym more)
     ]
 
@@ -483,14 +483,14 @@ line_walk laws ram size font s makes (suc t) =
     ap (λ k. (char_clocks ram size font k s).place) e ∙ (clock ram size font s (n + t)).place
     ∙ ap (λ (u : ula.State). place_past (dots_of u.control) (place_in ram size font s (n + t))) (same_ula ram size font s (n + t)) in
     let was : p.y ≡ min (u / w) 1023 = ap (λ (p : Place). p.y) place ∙ line_walk laws ram size font s makes t in
-    elim (next_place f t (omega (arith, within))) [
+    elim (next_place f t (omega arith)) [
       | inl o ↦
           let none : suc t % f ≡ 0 = ap (λ k. k % f) (sym g) ∙ o.0 in
           let first : 0 / w ≡ 0 = zero-div w in
           y_at b p true _ (ends ∙ test_true (suc t % f) 0 none) refl ∙ ap (λ k. min k 1023) (sym (ap (λ k. k / w) none ∙ first))
       | inr o ↦
           let more : suc t % f ≡ u + 1 = ap (λ k. k % f) (sym g) ∙ o.0 in
-          let runs : b.frame_end ≡ false = ends ∙ test_false (suc t % f) 0 (λ none. omega (arith, more, none)) in
+          let runs : b.frame_end ≡ false = ends ∙ test_false (suc t % f) 0 (λ none. omega arith) in
           let round : suc t % w ≡ (u + 1) % w = sym (within_rounds w (frame_lines s.crtc.registers) (suc t)) ∙ ap (λ k. k % w) more in
           elim (next_place w u (omega arith)) [
             | inl i ↦
@@ -499,7 +499,7 @@ line_walk laws ram size font s makes (suc t) =
                 ∙ ap (λ k. min k 1023) (sym (ap (λ k. k / w) more ∙ i.1.0))
             | inr i ↦
                 let inner : suc t % w ≡ u % w + 1 = round ∙ i.0 in
-                y_at b p false false runs (starts ∙ test_false (suc t % w) 0 (λ none. omega (arith, inner, none)))
+                y_at b p false false runs (starts ∙ test_false (suc t % w) 0 (λ none. omega arith))
                 ∙ was ∙ ap (λ k. min k 1023) (sym (ap (λ k. k / w) more ∙ i.1.0))
           ]
     ]

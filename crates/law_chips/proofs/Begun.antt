@@ -54,10 +54,10 @@ settles_down t left s m inside is =
     elim (cases_more m left) [
       | inl more ↦
           let less : left - m - 1 ≡ left - (m + 1) = omega arith in
-          ap (λ b. if b then Settling t (left - m - 1) else search_of t) (lt-ltb 1 (left - m) (omega (arith, more)))
+          ap (λ b. if b then Settling t (left - m - 1) else search_of t) (lt-ltb 1 (left - m) (omega arith))
           ∙ ap (Settling t) less ∙ sym (ap (λ b. if b then Settling t (left - (m + 1)) else search_of t) (lt-ltb (m + 1) left more))
       | inr none ↦
-          ap (λ b. if b then Settling t (left - m - 1) else search_of t) (le-ltb 1 (left - m) (omega (arith, none)))
+          ap (λ b. if b then Settling t (left - m - 1) else search_of t) (le-ltb 1 (left - m) (omega arith))
           ∙ sym (ap (λ b. if b then Settling t (left - (m + 1)) else search_of t) (le-ltb (m + 1) left none))
     ] in
     ap (λ c. command_step c (next_angle s.angle) (record s { angle = Some (next_angle s.angle) })) now
@@ -93,7 +93,7 @@ pub starts : (s : State) (v : ℕ) (settles waits : List Event) → 0x80 ≤ v �
 starts s v settles waits low high is =
     let t = transfer_of v s in
     let s1 = write_leaves 0 v s in
-    let written = begun v s is.idle is.live (λ e. omega (arith, e, high)) in
+    let written = begun v s is.idle is.live (λ e. omega arith) in
     let command : s1.command ≡ settling t (settle_time v) 0 =
     ap (λ (x : State). x.command) written ∙ sector_command v s low high ∙ settled_is (bit v 2) v s refl in
     let w = waits_so (settling t (settle_time v)) (settle_time v) (settles_down t (settle_time v)) settles s1 is.settle (omega (arith, is.settled)) command in
@@ -116,10 +116,10 @@ starts s v settles waits low high is =
 
 -- bit 5 tells a write from a read
 pub is_read : (v : ℕ) → 0x80 ≤ v → v < 0xA0 → bit v 5 ≡ false
-is_read v low high = ne_eqb (v / 32 % 2) 1 (λ e. omega (arith, e, low, high))
+is_read v low high = ne_eqb (v / 32 % 2) 1 (λ e. omega arith)
 
 pub is_write : (v : ℕ) → 0xA0 ≤ v → v < 0xC0 → bit v 5 ≡ true
-is_write v low high = eq-eqb (v / 32 % 2) 1 (omega (arith, low, high))
+is_write v low high = eq-eqb (v / 32 % 2) 1 (omega arith)
 
 -- so many steps of the selected head, within so much time
 motion : ℕ → Bool → TrackChange → ℕ → State → Motion
@@ -137,7 +137,7 @@ counts m left s n inside is =
     let s1 : State = record s { angle = Some (next_angle s.angle) } in
     let less : left - n - 1 ≡ left - (n + 1) = omega arith in
     ap (λ c. command_step c (next_angle s.angle) s1) is
-    ∙ ap (λ b. if b then record s1 { command = Moving m (left - n - 1) } else move_leaves m s1) (lt-ltb 1 (left - n) (omega (arith, inside)))
+    ∙ ap (λ b. if b then record s1 { command = Moving m (left - n - 1) } else move_leaves m s1) (lt-ltb 1 (left - n) (omega arith))
     ∙ ap (λ k. record s1 { command = Moving m k }) less
 
 motion_command : (v : ℕ) (s : State) → v < 0x80 → command_of v s ≡ motion_of v s
@@ -148,11 +148,11 @@ waited : (s : State) (v : ℕ) (waits : List Event) (m : Motion) (left : ℕ) �
     count_steps waits < left → Waited (write_leaves 0 v s) (counting m left (count_steps waits)) (history waits (write_leaves 0 v s)) (count_steps waits)
 unfolding counting
 waited s v waits m left low is moves some inside =
-    let written = begun v s is.idle is.live (λ e. omega (arith, e, low)) in
+    let written = begun v s is.idle is.live (λ e. omega arith) in
     let all : left ≡ left - 0 = omega arith in
     let command : (write_leaves 0 v s).command ≡ Moving m (left - 0) =
     ap (λ (x : State). x.command) written ∙ motion_command v s low ∙ moves ∙ ap (Moving m) all in
-    waits_so (counting m left) (left - 1) (counts m left) waits (write_leaves 0 v s) is.wait (omega (arith, inside)) command
+    waits_so (counting m left) (left - 1) (counts m left) waits (write_leaves 0 v s) is.wait (omega arith) command
 
 same_drive : (number : DriveNumber) (s s0 : State) → s.drive0 ≡ s0.drive0 → s.drive1 ≡ s0.drive1 → drive_of number s ≡ drive_of number s0
 same_drive Drive0 s s0 a b = a
@@ -212,11 +212,11 @@ arrived : (s : State) (v : ℕ) (waits : List Event) (m : Motion) (left : ℕ) �
     × ((ended_after v waits s).last_inward ≡ (if m.steps == 0 then s.last_inward else m.inward))
 unfolding counting head_by track_by
 arrived s v waits m left low is moves some drive verifies end =
-    let written = begun v s is.idle is.live (λ e. omega (arith, e, low)) in
-    let w = waited s v waits m left low is moves some (omega (arith, end)) in
+    let written = begun v s is.idle is.live (λ e. omega arith) in
+    let w = waited s v waits m left low is moves some (omega arith) in
     let y = history waits (write_leaves 0 v s) in
     let y1 : State = record y { angle = Some (next_angle y.angle) } in
-    let one : left - count_steps waits ≡ 1 = omega (arith, end) in
+    let one : left - count_steps waits ≡ 1 = omega arith in
     let last : work_leaves y ≡ move_leaves m y1 = ap (λ c. command_step c (next_angle y.angle) y1) (w.command ∙ ap (Moving m) one) in
     let x = ended_after v waits s in
     let is_x : x ≡ count_leaves (is_asking y) (move_leaves m y1) = ap (count_leaves (is_asking y)) last in
@@ -273,7 +273,7 @@ by_tests false false v s = refl
 
 is_step : (v : ℕ) (s : State) → 0x20 ≤ v → motion_of v s ≡ step_once v (inward_by v s) s
 unfolding inward_by
-is_step v s low = rw (le-ltb v 0x10 (omega (arith, low)), le-ltb v 0x20 low) (by_tests (nat_lt v 0x40) (nat_lt v 0x60) v s)
+is_step v s low = rw (le-ltb v 0x10 (omega arith), le-ltb v 0x20 low) (by_tests (nat_lt v 0x40) (nat_lt v 0x60) v s)
 
 step_motion : ℕ → Bool → State → Motion
 step_motion v inward s = motion v inward (if bit v 4 then Follows else Stays) 1 s
@@ -295,7 +295,7 @@ steps_of_seek : (v : ℕ) (s : State) → 0x10 ≤ v → v < 0x20 → head_steps
 steps_of_seek v s low high = rw (le-ltb v 0x10 low, lt-ltb v 0x20 high) refl
 
 steps_of_step : (v : ℕ) (s : State) → 0x20 ≤ v → head_steps v s ≡ 1
-steps_of_step v s low = rw (le-ltb v 0x10 (omega (arith, low)), le-ltb v 0x20 low) refl
+steps_of_step v s low = rw (le-ltb v 0x10 (omega arith), le-ltb v 0x20 low) refl
 
 time_by : (v n : ℕ) (s : State) → head_steps v s ≡ n → motion_time v s ≡ left_of v n
 unfolding left_of
@@ -307,7 +307,7 @@ unfolding motion head_by track_by
 restored s v waits low is end =
     let n = head_selected s in
     let m = motion v false (Becomes 0) n s in
-    let a = (arrived s v waits m (left_of v n) (omega (arith, low)) is (is_restore v s low) (some_left v n) refl refl (end ∙ time_of_restore v s low)).0 in
+    let a = (arrived s v waits m (left_of v n) (omega arith) is (is_restore v s low) (some_left v n) refl refl (end ∙ time_of_restore v s low)).0 in
     let none : n - n ≡ 0 = omega arith in
     subst (λ h. Arrives v h 0 (ended_after v waits s)) none a
 
@@ -318,17 +318,17 @@ sought s v waits low high is end =
     let n = max s.byte s.track - min s.byte s.track in
     let m = motion v (nat_lt s.track s.byte) (Becomes s.byte) n s in
     let same = steps_of_seek v s low high in
-    let a = (arrived s v waits m (left_of v n) (omega (arith, high)) is (is_seek v s low high) (some_left v n) refl refl (end ∙ time_by v n s same)).0 in
+    let a = (arrived s v waits m (left_of v n) (omega arith) is (is_seek v s low high) (some_left v n) refl refl (end ∙ time_by v n s same)).0 in
     subst (λ k. Arrives v (head_moved (nat_lt s.track s.byte) k (head_selected s)) s.byte (ended_after v waits s)) (sym same) a
 
 -- a head that is where the track register says comes to where the data register says
 gets_there : (byte track : ℕ) → byte ≤ 83 → head_moved (nat_lt track byte) (max byte track - min byte track) track ≡ byte
 gets_there byte track small = elim (cases_lt track byte) [
   | inl more ↦
-      let e : min 83 (track + (max byte track - min byte track)) ≡ byte = omega (arith, small, more) in
+      let e : min 83 (track + (max byte track - min byte track)) ≡ byte = omega arith in
       ap (λ b. head_moved b (max byte track - min byte track) track) (lt-ltb track byte more) ∙ e
   | inr less ↦
-      let e : track - (max byte track - min byte track) ≡ byte = omega (arith, less) in
+      let e : track - (max byte track - min byte track) ≡ byte = omega arith in
       ap (λ b. head_moved b (max byte track - min byte track) track) (le-ltb track byte less) ∙ e
 ]
 
@@ -362,7 +362,7 @@ still : (s : State) (v : ℕ) (waits : List Event) (m : Motion) (left : ℕ) →
     × ((history waits (write_leaves 0 v s)).track ≡ s.track)
 unfolding counting
 still s v waits m left low is moves some inside =
-    let written = begun v s is.idle is.live (λ e. omega (arith, e, low)) in
+    let written = begun v s is.idle is.live (λ e. omega arith) in
     let w = waited s v waits m left low is moves some inside in
     let y = history waits (write_leaves 0 v s) in (
       ap is_busy w.command,
@@ -401,11 +401,11 @@ motions_arrive = record {
   seek = sought;
   sought = found_it;
   step_on = λ s v waits low high is end.
-      stepped s v s.last_inward waits low (omega (arith, high)) (ap (λ b. if b then s.last_inward else nat_lt v 0x60) (lt-ltb v 0x40 high)) is end;
+      stepped s v s.last_inward waits low (omega arith) (ap (λ b. if b then s.last_inward else nat_lt v 0x60) (lt-ltb v 0x40 high)) is end;
   step_in = λ s v waits low high is end.
-      stepped s v true waits (omega (arith, low)) (omega (arith, high))
+      stepped s v true waits (omega arith) (omega arith)
       (ap (λ b. if b then s.last_inward else nat_lt v 0x60) (le-ltb v 0x40 low) ∙ lt-ltb v 0x60 high) is end;
   step_out = λ s v waits low high is end.
-      stepped s v false waits (omega (arith, low)) high
-      (ap (λ b. if b then s.last_inward else nat_lt v 0x60) (le-ltb v 0x40 (omega (arith, low))) ∙ le-ltb v 0x60 low) is end;
+      stepped s v false waits (omega arith) high
+      (ap (λ b. if b then s.last_inward else nat_lt v 0x60) (le-ltb v 0x40 (omega arith)) ∙ le-ltb v 0x60 low) is end;
 }

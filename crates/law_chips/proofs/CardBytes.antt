@@ -67,7 +67,7 @@ stored : (page of to at v : ℕ) (bytes : List ℕ) → length bytes ≡ 65536 �
 stored page of to at v bytes long small low' high' low high = elim (cases_eq (card_place of at) (card_place page to)) [
   | inl same ↦
       let parts = places_differ page of to at low' high' low high same in
-      let inside : card_place page to < length bytes = omega (arith, long, place_in page to small low' high') in
+      let inside : card_place page to < length bytes = omega (arith, place_in page to small low' high') in
       rw (eq-eqb page of parts.0, eq-eqb to at parts.1, same) (sym (get_or-set_same bytes (card_place page to) v 0 inside))
   | inr other ↦
       elim (cases_eq page of) [
@@ -86,7 +86,7 @@ stored page of to at v bytes long small low' high' low high = elim (cases_eq (ca
 -- a write outside JIM leaves its bytes
 elsewhere : (page of to at v b : ℕ) → to < 0xFD00 → 0xFD00 ≤ at → (if (page == of) && (to == at) then v else b) ≡ b
 elsewhere page of to at v b out low =
-    let other : to ≡ at → ⊥ = λ e. omega (arith, e) in
+    let other : to ≡ at → ⊥ = λ e. omega arith in
     rw (and_right (page == of) (to == at) (ne_eqb to at other)) refl
 
 one_byte : (a : Access) (page of at : ℕ) (bytes : List ℕ) → IsAccess a → length bytes ≡ 65536 → page < 256 → 0xFD00 ≤ at → at ≤ 0xFDFF →
@@ -95,7 +95,7 @@ unfolding bytes_after
 one_byte (read from) page of at bytes is long small low high = refl
 one_byte (write to v) page of at bytes is long small low high = elim (cases_lt to 0xFD00) [
   | inr inside ↦
-      let other : to ≡ 0xFCFF → ⊥ = λ e. omega (arith, e) in
+      let other : to ≡ 0xFCFF → ⊥ = λ e. omega arith in
       rw (ne_eqb to 0xFCFF other, le-leb 0xFD00 to inside) (stored page of to at v bytes long small inside is.0.1 low high)
   | inl out ↦
       elim (cases_eq to 0xFCFF) [
@@ -110,7 +110,7 @@ one_byte (write to v) page of at bytes is long small low high = elim (cases_lt t
 in_jim : (page at : ℕ) (bytes : List ℕ) → 0xFD00 ≤ at → plug_answer (card page bytes) at ≡ get_or bytes (card_place page at) 0
 unfolding card
 in_jim page at bytes low =
-    let other : at ≡ 0xFCFF → ⊥ = λ e. omega (arith, e) in
+    let other : at ≡ 0xFCFF → ⊥ = λ e. omega arith in
     rw (ne_eqb at 0xFCFF other, le-leb 0xFD00 at low) refl
 
 remembers : (accesses : List Access) (page at : ℕ) (bytes : List ℕ) → AreAccesses accesses → length bytes ≡ 65536 → page < 256 → 0xFD00 ≤ at → at ≤ 0xFDFF →

@@ -85,11 +85,11 @@ by_rows P a b c d n h = elim (cases_lt n 8) [
   | inl low ↦ a n low
   | inr from8 ↦
       elim (cases_lt n 16) [
-        | inl low ↦ let same : n - 8 + 8 ≡ n = omega (arith, from8) in subst P same (b (n - 8) (omega (arith, low, from8)))
+        | inl low ↦ let same : n - 8 + 8 ≡ n = omega arith in subst P same (b (n - 8) (omega arith))
         | inr from16 ↦
             elim (cases_lt n 24) [
-              | inl low ↦ let same : n - 16 + 16 ≡ n = omega (arith, from16) in subst P same (c (n - 16) (omega (arith, low, from16)))
-              | inr from24 ↦ let same : n - 24 + 24 ≡ n = omega (arith, from24) in subst P same (d (n - 24) (omega (arith, h, from24)))
+              | inl low ↦ let same : n - 16 + 16 ≡ n = omega arith in subst P same (c (n - 16) (omega arith))
+              | inr from24 ↦ let same : n - 24 + 24 ≡ n = omega arith in subst P same (d (n - 24) (omega arith))
             ]
       ]
 ]
@@ -115,7 +115,7 @@ all_low [] = true
 all_low (c ∷ cs) = nat_lt c.last 0x20 && all_low cs
 
 below : (last code : ℕ) → nat_lt last 0x20 ≡ true → 0x20 ≤ code → last < code
-below last code low high = let is = ltb-true last 0x20 low in omega (arith, is, high)
+below last code low high = let is = ltb-true last 0x20 low in omega arith
 
 no_control : (cs : List Control) (code : ℕ) → all_low cs ≡ true → 0x20 ≤ code → holds_at_once cs code ≡ false
 unfolding all_low
@@ -128,20 +128,20 @@ no_control (c ∷ cs) code low high =
 
 -- none of the tests passes
 no_letters : (code : ℕ) → 0x20 ≤ code → is_letters code ≡ false
-no_letters code high = and_right (nat_le 0x01 code) (nat_le code 0x07) (lt-leb code 0x07 (omega (arith, high)))
+no_letters code high = and_right (nat_le 0x01 code) (nat_le code 0x07) (lt-leb code 0x07 (omega arith))
 
 no_colour : (code : ℕ) → 0x20 ≤ code → is_colour code ≡ false
 no_colour code high =
     ap (λ b. b || (nat_le 0x11 code && nat_le code 0x17)) (no_letters code high) ∙ and_right (nat_le 0x11 code) (nat_le code 0x17)
-    (lt-leb code 0x17 (omega (arith, high)))
+    (lt-leb code 0x17 (omega arith))
 
 no_change : (code : ℕ) (double : Bool) → 0x20 ≤ code → changes_height code double ≡ false
 no_change code double high =
-    ap (λ b. if b then double else if code == 0x0D then not double else false) (ne_eqb code 0x0C (λ e. omega (arith, e, high)))
-    ∙ ap (λ b. if b then not double else false) (ne_eqb code 0x0D (λ e. omega (arith, e, high)))
+    ap (λ b. if b then double else if code == 0x0D then not double else false) (ne_eqb code 0x0C (λ e. omega arith))
+    ∙ ap (λ b. if b then not double else false) (ne_eqb code 0x0D (λ e. omega arith))
 
 is_not : (code n : ℕ) → n < 0x20 → 0x20 ≤ code → (code == n) ≡ false
-is_not code n low high = ne_eqb code n (λ e. omega (arith, e, low, high))
+is_not code n low high = ne_eqb code n (λ e. omega arith)
 
 -- a sixel is held
 with_sixel : ℕ → Style → Style

@@ -63,12 +63,12 @@ stays_if false left p q x y dots frame here apart = refl
 -- another character of the same line, or one of another line, is elsewhere
 columns_apart : (a b dots d : ℕ) → (a ≡ b → ⊥) → d < dots → (dots ≡ 8) ⊎ (dots ≡ 16) → (a * dots + d < b * dots) ⊎ (b * dots + dots ≤ a * dots + d)
 columns_apart a b dots d other within (inl e) = elim (cases_lt a b) [
-  | inl before ↦ inl (rw e (omega (arith, before, within, e)))
-  | inr after ↦ inr (rw e (omega (arith, after, other, e)))
+  | inl before ↦ inl (rw e (omega arith))
+  | inr after ↦ inr (rw e (omega arith))
 ]
 columns_apart a b dots d other within (inr e) = elim (cases_lt a b) [
-  | inl before ↦ inl (rw e (omega (arith, before, within, e)))
-  | inr after ↦ inr (rw e (omega (arith, after, other, e)))
+  | inl before ↦ inl (rw e (omega arith))
+  | inr after ↦ inr (rw e (omega arith))
 ]
 
 same_line : (w u j : ℕ) → 0 < w → (u + j) / w ≡ u / w → j < w
@@ -77,14 +77,14 @@ same_line w u j some same =
     let g : (u + j) / w * w + (u + j) % w ≡ u + j = div-add-mod' (u + j) w in
     let k : (u + j) / w * w ≡ u / w * w = ap (λ i. i * w) same in
     let lt : (u + j) % w < w = mod_below (u + j) w some in
-    omega (arith, e, g, k, lt)
+    omega arith
 
 apart : (w a u j dots d many : ℕ) → 0 < w → 0 < j → d < dots → (dots ≡ 8) ⊎ (dots ≡ 16) → u / w < 296 → many ≡ dots →
     IsApart (a % w * dots + d) (u / w) ((a + j) % w * dots) (min ((u + j) / w) 1023) many
 apart w a u j dots d many some more within widths bottom all = elim (cases_eq ((u + j) / w) (u / w)) [
   | inl same ↦
       inr (rw all (columns_apart (a % w) ((a + j) % w) dots d (differs w a j more (same_line w u j some same)) within widths))
-  | inr other ↦ inl (λ line. other (omega (arith, line, bottom)))
+  | inr other ↦ inl (λ line. other (omega arith))
 ]
 
 pub apart_at : (p q x y k l many : ℕ) → x ≡ k → y ≡ l → IsApart p q k l many → IsApart p q x y many
@@ -101,11 +101,11 @@ pub no_sync : Laws → (s : State) (t j : ℕ) → MakesFrames s.crtc → t % fr
     × ((t + suc j) % frame_clocks s.crtc.registers ≡ t % frame_clocks s.crtc.registers + suc j)
 no_sync laws s t j makes below =
     let f = frame_clocks s.crtc.registers in
-    let more : (t + suc j) % f ≡ t % f + suc j = elim (added f t (suc j) (omega (arith, below)) (omega (arith, below))) [
+    let more : (t + suc j) % f ≡ t % f + suc j = elim (added f t (suc j) (omega arith) (omega arith)) [
       | inl is ↦ is
-      | inr is ↦ absurd (omega (arith, is, below))
+      | inr is ↦ absurd (omega arith)
     ] in
-    (frame_sync laws s.crtc makes (t + suc j) ∙ test_false ((t + suc j) % f) 0 (λ none. omega (arith, none, more)), more)
+    (frame_sync laws s.crtc makes (t + suc j) ∙ test_false ((t + suc j) % f) 0 (λ none. omega arith), more)
 
 -- ---- The finished frame.
 
@@ -127,10 +127,10 @@ finished_stays laws ram size font s t makes whole (suc i) below =
     let g : sync_clock s.crtc.registers + (t + suc i) ≡ m = omega arith in
     let x = char_clocks ram size font m s in
     let runs : (tells m s.crtc).frame_end ≡ false =
-    ap (λ k. (tells k s.crtc).frame_end) (sym g) ∙ (no_sync laws s t i makes (omega (arith, whole, below))).0 in
+    ap (λ k. (tells k s.crtc).frame_end) (sym g) ∙ (no_sync laws s t i makes (omega arith)).0 in
     ap (λ k. (char_clocks ram size font k s).finished) e ∙ (clock ram size font s m).finished
     ∙ ap (λ k. if k then x.working else x.finished) runs
-    ∙ finished_stays laws ram size font s t makes whole i (omega (arith, below))
+    ∙ finished_stays laws ram size font s t makes whole i (omega arith)
 
 module _ (laws : Laws) (left : ℕ) (ram : ℕ → List ℕ) (size : ℕ → ℕ) (font : Font) (s : State) (dots : ℕ → List ℕ) where
   frame_length : MakesFrames s.crtc →
@@ -173,7 +173,7 @@ module _ (laws : Laws) (left : ℕ) (ram : ℕ → List ℕ) (size : ℕ → ℕ
       let column : place.x ≡ a % w * dots_of s.ula.control =
       ap (λ k. (place_in ram size font s k).x) (sym at.horizontal) ∙ column_walk laws ram size font s makes a in
       let level : place.y ≡ q =
-      ap (λ k. (place_in ram size font s k).y) (sym at.vertical) ∙ line_walk laws ram size font s makes t ∙ omega (arith, bottom) in
+      ap (λ k. (place_in ram size font s k).y) (sym at.vertical) ∙ line_walk laws ram size font s makes t ∙ omega arith in
       let long : length frame ≡ 163840 =
       ap (λ k. length (frame_at (tells k s.crtc) (char_clocks ram size font k s))) (sym at.vertical)
       ∙ frame_length makes shows t in
@@ -182,7 +182,7 @@ module _ (laws : Laws) (left : ℕ) (ram : ℕ → List ℕ) (size : ℕ → ℕ
       ∙ ap (λ k. slice_index (if k then dots_set left place.x place.y (dots n) frame else frame) (dot_index left p q)) is
       ∙ ap (λ k. slice_index (dots_set left k place.y (dots n) frame) (dot_index left p q)) column
       ∙ ap (λ k. slice_index (dots_set left (a % w * dots_of s.ula.control) k (dots n) frame) (dot_index left p q)) level
-      ∙ drawn_dot left (a % w * dots_of s.ula.control) q d (dots n) frame (omega (arith, many, within)) here long
+      ∙ drawn_dot left (a % w * dots_of s.ula.control) q d (dots n) frame (omega (arith, many)) here long
 
   -- and it stays to the end of the frame
   drawn_later : (n t a d colour : ℕ) → MakesFrames s.crtc →
@@ -213,9 +213,9 @@ module _ (laws : Laws) (left : ℕ) (ram : ℕ → List ℕ) (size : ℕ → ℕ
       let b = tells m s.crtc in
       let x = char_clocks ram size font m s in
       let place = place_in ram size font s m in
-      let vertical : sync_clock s.crtc.registers + (t + suc j) ≡ m = let v = at.vertical in omega (arith, v) in
-      let horizontal : s.crtc.registers.horizontal_sync_position + (a + suc j) ≡ m = let h = at.horizontal in omega (arith, h) in
-      let inner = no_sync laws s t j makes (omega (arith, below)) in
+      let vertical : sync_clock s.crtc.registers + (t + suc j) ≡ m = let v = at.vertical in omega arith in
+      let horizontal : s.crtc.registers.horizontal_sync_position + (a + suc j) ≡ m = let h = at.horizontal in omega arith in
+      let inner = no_sync laws s t j makes (omega arith) in
       let runs : b.frame_end ≡ false = ap (λ k. (tells k s.crtc).frame_end) (sym vertical) ∙ inner.0 in
       let column : place.x ≡ (a + suc j) % w * wide =
       ap (λ k. (place_in ram size font s k).x) (sym horizontal) ∙ column_walk laws ram size font s makes (a + suc j) in
@@ -229,7 +229,7 @@ module _ (laws : Laws) (left : ℕ) (ram : ℕ → List ℕ) (size : ℕ → ℕ
       ∙ ap (λ xs. slice_index xs (dot_index left p q)) (shows.working m)
       ∙ stays_if b.shown left p q place.x place.y (dots m) (frame_at b x) i (λ is. apart_here)
       ∙ ap (λ k. slice_index (if k then black else x.working) (dot_index left p q)) runs
-      ∙ drawn_later n t a d colour makes shows at within here first j (omega (arith, below))
+      ∙ drawn_later n t a d colour makes shows at within here first j (omega arith)
 
   -- A dot of a character that is shown is in the finished frame.
   pub finished_dot : (n d m : ℕ) →
@@ -250,10 +250,10 @@ module _ (laws : Laws) (left : ℕ) (ram : ℕ → List ℕ) (size : ℕ → ℕ
       let p = a % w * dots_of s.ula.control + d in
       let q = u / w in
       let early : first < f = sync_in_frame s.crtc makes in
-      let some : 0 < f = omega (arith, early) in
+      let some : 0 < f = omega arith in
       let v : first ≤ n = runs.vertical in
       let h : r.horizontal_sync_position ≤ n = runs.horizontal in
-      let at : IsClock r n t a = record { vertical = omega (arith, v); horizontal = omega (arith, h) } in
+      let at : IsClock r n t a = record { vertical = omega arith; horizontal = omega arith } in
       let below : u < f = mod_below t f some in
       let turns = (t / f + 1) * f in
       let split : t / f * f + u ≡ t = div-add-mod' t f in
@@ -261,14 +261,14 @@ module _ (laws : Laws) (left : ℕ) (ram : ℕ → List ℕ) (size : ℕ → ℕ
       let whole : turns % f ≡ 0 = mul-mod_left (t / f + 1) f in
       let j = f - u - 1 in
       let i = m - (first + turns) - 1 in
-      let last : n + suc j ≡ first + turns = omega (arith, split, one_turn, below, v) in
-      let now : first + turns + suc i ≡ m = omega (arith, after) in
+      let last : n + suc j ≡ first + turns = omega arith in
+      let now : first + turns + suc i ≡ m = omega arith in
       ap (λ k. slice_index (char_clocks ram size font k s).finished (dot_index left p q)) (sym now)
       ∙ ap (λ xs. slice_index xs (dot_index left p q))
-      (finished_stays laws ram size font s turns makes whole i (omega (arith, before, after)))
+      (finished_stays laws ram size font s turns makes whole i (omega arith))
       ∙ ap (λ k. slice_index (char_clocks ram size font k s).working (dot_index left p q)) (sym last)
       ∙ drawn_later n t a d _ makes shows at within here
-      (drawn_now n t a d makes shows at is within here) j (omega (arith, below))
+      (drawn_now n t a d makes shows at is within here) j (omega arith)
 
 -- ---- The dots of a character.
 
@@ -294,9 +294,9 @@ pub cursor_was : (ram : ℕ → List ℕ) (size : ℕ → ℕ) (font : Font) (s 
     (char_clocks ram size font n s).cursor ≡ cursor_before s.crtc n
 cursor_was ram size font s n three =
     let k = n - 3 in
-    let e : n ≡ suc (suc (suc k)) = omega (arith, three) in
-    let one : n - 1 ≡ suc (suc k) = omega (arith, three) in
-    let two : n - 2 ≡ suc k = omega (arith, three) in
+    let e : n ≡ suc (suc (suc k)) = omega arith in
+    let one : n - 1 ≡ suc (suc k) = omega arith in
+    let two : n - 2 ≡ suc k = omega arith in
     let last = (clock ram size font s k).cursor in
     let middle = (clock ram size font s (suc k)).cursor in
     let first = (clock ram size font s (suc (suc k))).cursor in
@@ -354,7 +354,7 @@ black_dot left p q i =
     let to = i.to in
     let top = i.top in
     let bottom = i.bottom in
-    get_or-replicate {A = ℕ} 163840 (dot_index left p q) 0 0 (omega (arith, from, to, top, bottom))
+    get_or-replicate {A = ℕ} 163840 (dot_index left p q) 0 0 (omega arith)
 
 and_second : (a b : Bool) → (a && b) ≡ false → a ≡ true → b ≡ false
 and_second true b e is = e
@@ -365,7 +365,7 @@ both_true a b c h i j = rw (h, i, j) refl
 
 elsewhere : (l x p q dots : ℕ) → q < 296 → (l == q && nat_le x p && nat_lt p (x + dots)) ≡ false → IsApart p q x (min l 1023) dots
 elsewhere l x p q dots bottom other = elim (cases_eq l q) [
-  | inr line ↦ inl (λ same. line (omega (arith, same, bottom)))
+  | inr line ↦ inl (λ same. line (omega arith))
   | inl same ↦ elim (cases_lt p x) [
     | inl before ↦ inr (inl before)
     | inr from ↦ elim (cases_lt p (x + dots)) [
@@ -389,7 +389,7 @@ next_start : (s : State) (k : ℕ) → frame_start s.crtc.registers (k + 1) ≡ 
 next_start s k =
     let f = frame_clocks s.crtc.registers in
     let up : (k + 1) * f ≡ k * f + f = grind arith in
-    omega (arith, up)
+    omega arith
 
 -- one clock of the frame
 stays_black : Laws → CharactersAreShown → (left : ℕ) (ram : ℕ → List ℕ) (size : ℕ → ℕ) (font : Font) (s : State) (dots : ℕ → List ℕ) (k p q j : ℕ) →
@@ -412,14 +412,14 @@ stays_black laws characters left ram size font s dots k p q j makes shows late h
     let a = n - r.horizontal_sync_position in
     let t = n - sync_clock r in
     let vertical : sync_clock r + t ≡ n = omega arith in
-    let horizontal : r.horizontal_sync_position + a ≡ n = omega (arith, late) in
+    let horizontal : r.horizontal_sync_position + a ≡ n = omega arith in
     let column : place.x ≡ beam_dot r wide n =
     ap (λ i. (place_in ram size font s i).x) (sym horizontal) ∙ column_walk laws ram size font s makes a in
     let level : place.y ≡ min (beam_line r n) 1023 =
     ap (λ i. (place_in ram size font s i).y) (sym vertical) ∙ line_walk laws ram size font s makes t in
     let many : length (dots n) ≡ wide = shows.many n in
     let next = next_start s k in
-    let none : (is_shown_at r n && has_dot r wide n p q) ≡ false = free n (omega arith) (omega (arith, next, below)) in
+    let none : (is_shown_at r n && has_dot r wide n p q) ≡ false = free n (omega arith) (omega arith) in
     let apart : b.shown ≡ true → IsApart p q place.x place.y (length (dots n)) = λ is.
     apart_at p q place.x place.y (beam_dot r wide n) (min (beam_line r n) 1023) _ column level
     (rw many (elsewhere (beam_line r n) (beam_dot r wide n) p q wide bottom
@@ -449,11 +449,11 @@ black_after laws characters left ram size font s dots k p q (suc j) makes shows 
     let g : suc (frame_start r k + j) ≡ n = omega arith in
     let whole : k * f % f ≡ 0 = mul-mod_left k f in
     let runs : (tells n s.crtc).frame_end ≡ false =
-    ap (λ i. (tells i s.crtc).frame_end) (sym e) ∙ (no_sync laws s (k * f) j makes (omega (arith, whole, below))).0 in
+    ap (λ i. (tells i s.crtc).frame_end) (sym e) ∙ (no_sync laws s (k * f) j makes (omega arith)).0 in
     stays_black laws characters left ram size font s dots k p q (suc j) makes shows late here free below
     ∙ ap (λ i. slice_index (if i then black else (char_clocks ram size font n s).working) (dot_index left p q)) runs
     ∙ ap (λ i. slice_index (char_clocks ram size font i s).working (dot_index left p q)) (sym g)
-    ∙ black_after laws characters left ram size font s dots k p q j makes shows late here free (omega (arith, below))
+    ∙ black_after laws characters left ram size font s dots k p q j makes shows late here free (omega arith)
 
 -- a dot that no character of a frame has is black in it
 pub free_is_black : Laws → CharactersAreShown → (left : ℕ) (ram : ℕ → List ℕ) (size : ℕ → ℕ) (font : Font) (s : State) (dots : ℕ → List ℕ) (k x y m : ℕ) →
@@ -470,13 +470,13 @@ free_is_black laws characters left ram size font s dots k x y m makes shows late
     let next : finish ≡ frame_start r k + f = next_start s k in
     let i = m - finish - 1 in
     let j = f - 1 in
-    let last : suc (frame_start r k + j) ≡ finish = omega (arith, next, early) in
-    let now : finish + suc i ≡ m = omega (arith, after) in
+    let last : suc (frame_start r k + j) ≡ finish = omega arith in
+    let now : finish + suc i ≡ m = omega arith in
     ap (λ n. slice_index (char_clocks ram size font n s).finished (dot_index left x y)) (sym now)
     ∙ ap (λ xs. slice_index xs (dot_index left x y))
-    (finished_stays laws ram size font s ((k + 1) * f) makes (mul-mod_left (k + 1) f) i (omega (arith, before, after)))
+    (finished_stays laws ram size font s ((k + 1) * f) makes (mul-mod_left (k + 1) f) i (omega arith))
     ∙ ap (λ n. slice_index (char_clocks ram size font n s).working (dot_index left x y)) (sym last)
-    ∙ black_after laws characters left ram size font s dots k x y j makes shows late here free (omega (arith, early))
+    ∙ black_after laws characters left ram size font s dots k x y j makes shows late here free (omega arith)
 
 pub rest_is_black : Laws → CharactersAreShown → RestIsBlack
 rest_is_black laws characters ram size font s k x y m makes off late here free after before =

@@ -146,14 +146,14 @@ flipped (suc (suc p)) q small is = absurd (omega arith)
 not_bit : (d n : ℕ) → d < 256 → n < 8 → bit (255 - d) n ≡ not (bit d n)
 not_bit d n byte inside =
     by_bit (λ n. bit (255 - d) n ≡ not (bit d n))
-    (flipped (d / 1 % 2) ((255 - d) / 1 % 2) (omega arith) (omega (arith, byte)))
-    (flipped (d / 2 % 2) ((255 - d) / 2 % 2) (omega arith) (omega (arith, byte)))
-    (flipped (d / 4 % 2) ((255 - d) / 4 % 2) (omega arith) (omega (arith, byte)))
-    (flipped (d / 8 % 2) ((255 - d) / 8 % 2) (omega arith) (omega (arith, byte)))
-    (flipped (d / 16 % 2) ((255 - d) / 16 % 2) (omega arith) (omega (arith, byte)))
-    (flipped (d / 32 % 2) ((255 - d) / 32 % 2) (omega arith) (omega (arith, byte)))
-    (flipped (d / 64 % 2) ((255 - d) / 64 % 2) (omega arith) (omega (arith, byte)))
-    (flipped (d / 128 % 2) ((255 - d) / 128 % 2) (omega arith) (omega (arith, byte)))
+    (flipped (d / 1 % 2) ((255 - d) / 1 % 2) (omega arith) (omega arith))
+    (flipped (d / 2 % 2) ((255 - d) / 2 % 2) (omega arith) (omega arith))
+    (flipped (d / 4 % 2) ((255 - d) / 4 % 2) (omega arith) (omega arith))
+    (flipped (d / 8 % 2) ((255 - d) / 8 % 2) (omega arith) (omega arith))
+    (flipped (d / 16 % 2) ((255 - d) / 16 % 2) (omega arith) (omega arith))
+    (flipped (d / 32 % 2) ((255 - d) / 32 % 2) (omega arith) (omega arith))
+    (flipped (d / 64 % 2) ((255 - d) / 64 % 2) (omega arith) (omega arith))
+    (flipped (d / 128 % 2) ((255 - d) / 128 % 2) (omega arith) (omega arith))
     n inside
 
 chosen : (d o p : Bool) → ((o && d) || (p && not d)) ≡ (if d then o else p)
@@ -387,14 +387,14 @@ has_digits a b c d e f g h =
     let sf = small f in
     let sg = small g in
     let sh = small h in
-    let e7 : n / 128 % 2 ≡ one a = omega (arith, is, sa, sb, sc, sd, se, sf, sg, sh) in
-    let e6 : n / 64 % 2 ≡ one b = omega (arith, is, sa, sb, sc, sd, se, sf, sg, sh) in
-    let e5 : n / 32 % 2 ≡ one c = omega (arith, is, sa, sb, sc, sd, se, sf, sg, sh) in
-    let e4 : n / 16 % 2 ≡ one d = omega (arith, is, sa, sb, sc, sd, se, sf, sg, sh) in
-    let e3 : n / 8 % 2 ≡ one e = omega (arith, is, sa, sb, sc, sd, se, sf, sg, sh) in
-    let e2 : n / 4 % 2 ≡ one f = omega (arith, is, sa, sb, sc, sd, se, sf, sg, sh) in
-    let e1 : n / 2 % 2 ≡ one g = omega (arith, is, sa, sb, sc, sd, se, sf, sg, sh) in
-    let e0 : n / 1 % 2 ≡ one h = omega (arith, is, sa, sb, sc, sd, se, sf, sg, sh) in
+    let e7 : n / 128 % 2 ≡ one a = omega arith in
+    let e6 : n / 64 % 2 ≡ one b = omega arith in
+    let e5 : n / 32 % 2 ≡ one c = omega arith in
+    let e4 : n / 16 % 2 ≡ one d = omega arith in
+    let e3 : n / 8 % 2 ≡ one e = omega arith in
+    let e2 : n / 4 % 2 ≡ one f = omega arith in
+    let e1 : n / 2 % 2 ≡ one g = omega arith in
+    let e0 : n / 1 % 2 ≡ one h = omega arith in
     record {
       bit7 = ap (λ k. k == 1) e7 ∙ shown a;
       bit6 = ap (λ k. k == 1) e6 ∙ shown b;

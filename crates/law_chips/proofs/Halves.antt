@@ -9,7 +9,7 @@ is_half bytes half = rw half refl
 
 pub both_halves : HalfRomStandsTwice
 both_halves roms rom slot at here half low =
-    let inside : at < length rom.bytes = omega (arith, half) in
+    let inside : at < length rom.bytes = omega arith in
     let past : length rom.bytes ≡ 8192 = half in
     let back : 8192 + at - 8192 ≡ at = omega arith in
     let is_here = ap (λ r. byte_in r at) here in

@@ -131,7 +131,7 @@ shown_before r k j column next line is =
     let q = and_parts _ _ p.0 in
     let same : row_at r (k + 1) ≡ row_at r k = ap (λ i. i % frame_lines r / row_lines r) line in
     let inside : (k + 1) % line_characters r < r.horizontal_displayed = ltb-true ((k + 1) % line_characters r) r.horizontal_displayed q.0 in
-    let before : k % line_characters r < r.horizontal_displayed = omega (arith, inside, next, column) in
+    let before : k % line_characters r < r.horizontal_displayed = omega arith in
     and_from _ _ (and_from _ _ (lt-ltb (k % line_characters r) r.horizontal_displayed before) (ap (λ i. nat_lt i r.vertical_displayed) (sym same) ∙ q.1))
     (ap (λ i. nat_le i r.vertical_total) (sym same) ∙ p.1)
 
@@ -145,7 +145,7 @@ after_code code t = refl
 after_one : (w n j : ℕ) → n % w ≡ suc j → n ≡ n - 1 + 1
 after_one w zero j column = absurd (none_left w j column) where
   none_left : (w j : ℕ) → 0 % w ≡ suc j → ⊥
-  none_left w j e = let z : 0 % w ≡ 0 = zero-mod w in omega (arith, z, e)
+  none_left w j e = let z : 0 % w ≡ 0 = zero-mod w in omega arith
 after_one w (suc n) j column = omega arith
 
 codes_are : OneCodeMore → Laws → ShownAddressesCount → CharactersAreShown → (ram : ℕ → List ℕ) (size : ℕ → ℕ) (font : Font) (s : State) → MakesFrames s.crtc →
@@ -159,21 +159,21 @@ codes_are one laws count characters ram size font s makes on (suc j) n column is
     let w = line_characters r in
     let k = n - 1 in
     let some : n ≡ k + 1 = after_one w n j column in
-    let next : n ≡ suc k = omega (arith, some) in
+    let next : n ≡ suc k = omega arith in
     let x = char_clocks ram size font k s in
     let b = tells k s.crtc in
     let here_too : (k + 1) % w ≡ suc j = ap (λ i. i % w) (sym some) ∙ column in
     elim (next_place w k (omega arith)) [
-      | inl o ↦ let none : (k + 1) % w ≡ 0 = o.0 in absurd (omega (arith, none, here_too))
+      | inl o ↦ let none : (k + 1) % w ≡ 0 = o.0 in absurd (omega arith)
       | inr o ↦
           let up : (k + 1) % w ≡ k % w + 1 = o.0 in
           let line : (k + 1) / w ≡ k / w = o.1.0 in
-          let column_k : k % w ≡ j = omega (arith, up, here_too) in
-          let column_n : (k + 1) % w ≡ j + 1 = omega (arith, here_too) in
+          let column_k : k % w ≡ j = omega arith in
+          let column_n : (k + 1) % w ≡ j + 1 = omega arith in
           let is_k : is_shown_at r k ≡ true = shown_before r k j column_k column_n line (ap (is_shown_at r) (sym some) ∙ is) in
           let shown : b.shown ≡ true = characters.which s.crtc k makes.bits makes.begins ∙ is_k in
           let inner : (tells n s.crtc).line_start ≡ false =
-          laws.lines s.crtc n makes.bits makes.begins.character ∙ test_false (n % w) 0 (λ none. omega (arith, none, column)) in
+          laws.lines s.crtc n makes.bits makes.begins.character ∙ test_false (n % w) 0 (λ none. omega arith) in
           codes_at (tells n s.crtc) (char_clocks ram size font n s).text false inner
           ∙ ap (λ i. (char_clocks ram size font i s).text.codes) next
           ∙ ap (λ (t : Text). t.codes) (told ram size font s on k).text
@@ -193,12 +193,12 @@ cell_length font code ra lower fields row =
     length-map-range_with_len (pixel (cell_dot font code ra lower fields style) style.foreground style.background) 0 16
 
 of_sixteen : (dots : ℕ) → (dots ≡ 8) ⊎ (dots ≡ 16) → min dots 16 ≡ dots
-of_sixteen dots (inl e) = omega (arith, e)
-of_sixteen dots (inr e) = omega (arith, e)
+of_sixteen dots (inl e) = omega arith
+of_sixteen dots (inr e) = omega arith
 
 within_sixteen : (dots d : ℕ) → (dots ≡ 8) ⊎ (dots ≡ 16) → d < dots → d < 16
-within_sixteen dots d (inl e) h = omega (arith, e, h)
-within_sixteen dots d (inr e) h = omega (arith, e, h)
+within_sixteen dots d (inl e) h = omega arith
+within_sixteen dots d (inr e) h = omega arith
 
 told_many : (ram : List ℕ) (size : ℕ) (font : Font) (b : Beam) (s : State) → length (told_dots ram size font b s) ≡ dots_of s.ula.control
 unfolding told_dots told_code cell_of
@@ -224,7 +224,7 @@ told_dot ram size font b s d within =
     let long : length c ≡ 16 = cell_length font code b.ra t.bottom b.fields t.codes in
     let inside : d < 16 = within_sixteen (dots_of s.ula.control) d (eight_or_sixteen s.ula.control) within in
     get_or-take (dots_of s.ula.control) (map (under_cursor marked) c) d 0 within
-    ∙ get_or-map (under_cursor marked) c d 0 0 (omega (arith, long, inside))
+    ∙ get_or-map (under_cursor marked) c d 0 0 (omega arith)
     ∙ ap (λ lower. under_cursor marked (slice_index (cell font code b.ra lower b.fields t.codes) d)) (bottom_kept b s.text)
 
 cells_shown : (ram : ℕ → List ℕ) (size : ℕ → ℕ) (font : Font) (s : State) → bit s.ula.control 1 ≡ true →

@@ -51,18 +51,18 @@ odd_is number k odd low =
     let o : number % 2 ≡ 0 → ⊥ = eqb-false (number % 2) 0 odd in
     elim (cases_eq number (2 * k - 1)) [
       | inl same ↦ eq-eqb number (2 * k - 1) same ∙ sym (eq-eqb (number / 2 + 1) k (omega arith))
-      | inr other ↦ ne_eqb number (2 * k - 1) other ∙ sym (ne_eqb (number / 2 + 1) k (λ e. other (omega (arith, o, e))))
+      | inr other ↦ ne_eqb number (2 * k - 1) other ∙ sym (ne_eqb (number / 2 + 1) k (λ e. other (omega arith)))
     ]
 
 even_is : (number k : ℕ) → is_status number ≡ true → 1 ≤ k → (number == byte_number k) ≡ false
 even_is number k even low =
     let e : number % 2 ≡ 0 = eqb-true (number % 2) 0 even in
-    ne_eqb number (2 * k - 1) (λ same. omega (arith, e, same))
+    ne_eqb number (2 * k - 1) (λ same. omega arith)
 
 odd_not_0 : (number : ℕ) → is_status number ≡ false → (number == 0) ≡ false
 odd_not_0 number odd =
     let o : number % 2 ≡ 0 → ⊥ = eqb-false (number % 2) 0 odd in
-    ne_eqb number 0 (λ e. omega (arith, o, e))
+    ne_eqb number 0 (λ e. omega arith)
 
 -- What leaves a register and what comes into it, by what an event is for it: it clears all (z), writes this byte (s), reads (r).
 record Balance (z : Bool) (s : Option ℕ) (r : Bool) (room : ℕ) (shown made : List ℕ) (q after : Register) : Type 0 where
@@ -90,7 +90,7 @@ untouched : {z : Bool} {s : Option ℕ} {room : ℕ} {shown made : List ℕ} {q 
 untouched ez es ea = balanced ez es ea (apart _ _ _ _)
 
 is_some_held : (front : ℕ) (rest : List ℕ) → is_empty (holds front rest) ≡ false
-is_some_held front rest = ne_eqb (length (front ∷ rest)) 0 (λ e. omega (arith, e))
+is_some_held front rest = ne_eqb (length (front ∷ rest)) 0 (λ e. omega arith)
 
 -- a read, or none
 one_read : (b : Bool) (room : ℕ) (shown made : List ℕ) (q : Register) → (b ≡ true → shown ≡ front_of q ∷ []) →
@@ -183,8 +183,8 @@ read_shows : (from : Side) (k number : ℕ) (c : State) → 1 ≤ k → (number 
     answer_of c (reader from) (Read number) ≡ front_of (queue from k c)
 read_shows from k number c low is =
     let e : number ≡ 2 * k - 1 = eqb-true number (2 * k - 1) is in
-    let odd : is_status number ≡ false = ne_eqb (number % 2) 0 (λ z. omega (arith, e, z)) in
-    let same : register_number number ≡ k = omega (arith, e) in
+    let odd : is_status number ≡ false = ne_eqb (number % 2) 0 (λ z. omega arith) in
+    let same : register_number number ≡ k = omega arith in
     rw odd (ap (λ i. front_of (register i (incoming_bank (reader from) c))) same ∙ ap front_of (incoming_is from k c))
 
 -- The side that writes it reads other registers.

@@ -155,19 +155,19 @@ characters lines c bits begins (suc n) =
       | inr o ↦
           let more : suc n % w ≡ n % w + 1 = ap (λ k. k % w) (sym g) ∙ o.0 in
           let inner : n % w + 1 < w = o.1.1 in
-          let some : (y.character == 0) ≡ false = law ∙ test_false (suc n % w) 0 (λ none. omega (arith, none, more)) in
+          let some : (y.character == 0) ≡ false = law ∙ test_false (suc n % w) 0 (λ none. omega (arith, none)) in
           elim (character_after (start_leaves x)) [
             | inl first ↦ absurd (true≢false (sym (test_true y.character 0 (ap (λ (d : State). d.character) next ∙ first)) ∙ some))
             | inr on ↦
                 ap (λ (d : State). d.character) next ∙ on ∙ ap (λ k. (k + 1) % 256) (same ∙ is)
-                ∙ mod-eq_of_lt (omega (arith, inner, wide)) ∙ sym more
+                ∙ mod-eq_of_lt (omega arith) ∙ sym more
           ]
     ]
 
 pub frame_some : (r : Registers) → 0 < frame_lines r
 frame_some r =
     let whole : (r.vertical_total + 1) * row_lines r ≡ r.vertical_total * row_lines r + row_lines r = grind arith in
-    omega (arith, whole)
+    omega arith
 
 -- what is so of clock n, behind the start of a line
 pub record AtClock (c : State) (n : ℕ) : Type 0 where
@@ -202,16 +202,16 @@ not_last c n at up inner =
     let column = at.column in
     let total = at.total in
     let digits = at.digits in (
-      test_false d.character d.registers.horizontal_total (λ same. omega (arith, same, column, total, inner)),
-      test_false ((n + 1) % (line_characters c.registers * frame_lines c.registers)) 0 (λ none. omega (arith, none, digits, up)),
+      test_false d.character d.registers.horizontal_total (λ same. omega (arith, column, total)),
+      test_false ((n + 1) % (line_characters c.registers * frame_lines c.registers)) 0 (λ none. omega (arith, none, digits)),
     )
 
 -- ---- The rasters of a row.
 
 pub last_of : (b : Bool) (m k : ℕ) → k + 1 ≡ (if b then m - m % 2 else m) / (if b then 2 else 1) + 1 →
     k * (if b then 2 else 1) ≡ (if b then m - m % 2 else m)
-last_of true m k e = omega (arith, e)
-last_of false m k e = omega (arith, e)
+last_of true m k e = omega arith
+last_of false m k e = omega arith
 
 -- there is room for one more
 pub record HasNext (b : Bool) (m k : ℕ) : Type 0 where
@@ -219,8 +219,8 @@ pub record HasNext (b : Bool) (m k : ℕ) : Type 0 where
   pub step : (k * (if b then 2 else 1) + (if b then 2 else 1)) % 32 ≡ (k + 1) * (if b then 2 else 1)
 
 pub next_of : (b : Bool) (m k : ℕ) → m < 32 → k + 1 < (if b then m - m % 2 else m) / (if b then 2 else 1) + 1 → HasNext b m k
-next_of true m k small e = record { other = λ same. omega (arith, same, e); step = omega (arith, small, e) }
-next_of false m k small e = record { other = λ same. omega (arith, same, e); step = omega (arith, small, e) }
+next_of true m k small e = record { other = λ same. omega arith; step = omega arith }
+next_of false m k small e = record { other = λ same. omega arith; step = omega arith }
 
 -- ---- The line of the frame.
 
@@ -247,7 +247,7 @@ first_line r row raster adjust a b none =
     let whole : (r.vertical_total + 1) * row_lines r ≡ r.vertical_total * row_lines r + row_lines r = grind arith in
     record {
       none = none;
-      rows = omega (arith, whole);
+      rows = omega arith;
       row_is = a ∙ sym q;
       raster_is = b ∙ z ∙ ap (λ i. i * raster_step r) (sym k);
     }
@@ -293,16 +293,16 @@ row_goes_on l c bits at other =
             | inl last ↦
                 let same : l / n * n ≡ r.vertical_total * n = ap (λ k. k * n) (sym row_is ∙ last) in
                 subst (IsAt r (l + 1)) (sym (rows_line c done (test_true c.row r.vertical_total last) other))
-                (inr (record { line = 0; some = refl; past = omega (arith, split, same, whole, end) }))
+                (inr (record { line = 0; some = refl; past = omega arith }))
             | inr above ↦
-                let below : (l / n + 1) * n ≤ r.vertical_total * n = mul-le-mul_right n (omega (arith, row_small, row_is, above)) in
+                let below : (l / n + 1) * n ≤ r.vertical_total * n = mul-le-mul_right n (omega (arith, row_is)) in
                 let stays : (c.row + 1) % 128 ≡ (l + 1) / n =
-                mod-eq_of_lt (omega (arith, row_small, row_is, narrow)) ∙ ap (λ k. k + 1) row_is ∙ sym o.1.0 in
+                mod-eq_of_lt (omega (arith, row_is)) ∙ ap (λ k. k + 1) row_is ∙ sym o.1.0 in
                 let z : 0 ≡ 0 * raster_step r = omega arith in
                 subst (IsAt r (l + 1)) (sym (row_line c done (test_false c.row r.vertical_total above)))
                 (inl (record {
                   none = none;
-                  rows = omega (arith, split, up, below, whole, end);
+                  rows = omega arith;
                   row_is = stays;
                   raster_is = z ∙ ap (λ k. k * raster_step r) (sym o.0);
                 }))
@@ -310,12 +310,12 @@ row_goes_on l c bits at other =
       | inr o ↦
           let inner : l % n + 1 < n = o.1.1 in
           let next : HasNext b m (l % n) = next_of b m (l % n) bits.maximum_raster inner in
-          let below : (l / n + 1) * n ≤ (r.vertical_total + 1) * n = mul-le-mul_right n (omega (arith, row_small)) in
+          let below : (l / n + 1) * n ≤ (r.vertical_total + 1) * n = mul-le-mul_right n (omega arith) in
           let not_done : is_row_done c ≡ false = test_false c.raster (last_raster r) (λ same. next.other (sym at.raster_is ∙ same)) in
           subst (IsAt r (l + 1)) (sym (raster_line c not_done))
           (inl (record {
             none = none;
-            rows = omega (arith, split, up, below, inner);
+            rows = omega arith;
             row_is = row_is ∙ sym o.1.0;
             raster_is = ap (λ k. (k + raster_step r) % 32) at.raster_is ∙ next.step ∙ ap (λ k. k * raster_step r) (sym o.0);
           }))
@@ -387,21 +387,21 @@ walk lines frames c bits begins (suc n) =
           at_line r (count_leaves d) (line_at r n) (line_at r (suc n)) same (subst (IsAt r (line_at r n)) (sym (inner_is d test)) here)
       | inl o ↦
           let end : n % w + 1 ≡ w = o.1.1 in
-          let test : ends_line d ≡ true = test_true d.character d.registers.horizontal_total (omega (arith, column, total, end)) in
+          let test : ends_line d ≡ true = test_true d.character d.registers.horizontal_total (omega (arith, column, total)) in
           let lasts : is_last_line d ≡ ((n + 1) % (w * f) == 0) = sym (and_left (ends_line d) (is_last_line d) test) ∙ law in
           subst (IsAt r (line_at r (suc n))) (sym (last_is d test)) (elim (next_place f (n / w) some) [
             | inl i ↦
                 let to : line_at r (suc n) ≡ 0 = ap (λ k. k / w % f) (sym g) ∙ ap (λ k. k % f) o.1.0 ∙ i.0 in
                 let none : (n + 1) / w % f ≡ 0 = ap (λ k. k % f) o.1.0 ∙ i.0 in
                 let zeroed : (n + 1) / w % f * w ≡ 0 = ap (λ k. k * w) none ∙ omega arith in
-                let whole : is_last_line d ≡ true = lasts ∙ test_true ((n + 1) % (w * f)) 0 (digits ∙ omega (arith, zeroed, o.0)) in
+                let whole : is_last_line d ≡ true = lasts ∙ test_true ((n + 1) % (w * f)) 0 (digits ∙ omega (arith, o.0)) in
                 at_line r (line_ended d) 0 (line_at r (suc n)) (sym to) (subst (λ (q : Registers). IsAt q 0 (line_ended d)) regs (frame_again d whole))
             | inr i ↦
                 let to : line_at r (suc n) ≡ line_at r n + 1 = ap (λ k. k / w % f) (sym g) ∙ ap (λ k. k % f) o.1.0 ∙ i.0 in
                 let more : (n + 1) / w % f ≡ n / w % f + 1 = ap (λ k. k % f) o.1.0 ∙ i.0 in
                 let up : (n / w % f + 1) * w ≡ n / w % f * w + w = grind arith in
                 let many : (n + 1) / w % f * w ≡ n / w % f * w + w = ap (λ k. k * w) more ∙ up in
-                let other : is_last_line d ≡ false = lasts ∙ test_false ((n + 1) % (w * f)) 0 (λ none. omega (arith, none, digits, many)) in
+                let other : is_last_line d ≡ false = lasts ∙ test_false ((n + 1) % (w * f)) 0 (λ none. omega (arith, none, digits)) in
                 at_line r (line_ended d) (line_at r n + 1) (line_at r (suc n)) (sym to)
                 (subst (λ (q : Registers). IsAt q (line_at r n + 1) (line_ended d)) regs
                 (line_goes_on d.adjust (line_at r n) (record d { character = 0 }) refl (subst HaveTheirBits (sym regs) bits)

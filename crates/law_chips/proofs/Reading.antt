@@ -35,8 +35,8 @@ no_place k m other =
 
 pub a_place : (k m : ℕ) → (m + 1) % 64 ≡ 0 → places_into k (64 * (312 * k) + m + 1) ≡ Some ((m + 1) / 64)
 a_place k m is =
-    let zero_left : (64 * (312 * k) + m + 1) % 64 ≡ 0 = omega (arith, is) in
-    let same : (64 * (312 * k) + m + 1) / 64 - 312 * k ≡ (m + 1) / 64 = omega (arith, is) in
+    let zero_left : (64 * (312 * k) + m + 1) % 64 ≡ 0 = omega arith in
+    let same : (64 * (312 * k) + m + 1) / 64 - 312 * k ≡ (m + 1) / 64 = omega arith in
     rw (eq-eqb ((64 * (312 * k) + m + 1) % 64) 0 zero_left, same) refl
 
 -- the step behind m steps is at the next angle
@@ -92,7 +92,7 @@ quiet : (t : Transfer) (k : ℕ) (s : State) (m : ℕ) → m < 18432 → s.comma
 unfolding moved_on
 quiet t k s m inside is early none = record {
   command = λ h. is;
-  over = λ h. absurd (early (omega (arith, h, inside)));
+  over = λ h. absurd (early (omega arith));
   angle = next_place k m;
   drive0 = refl;
   drive1 = refl;
@@ -105,21 +105,21 @@ ends_so : (b : Bool) (t : Transfer) (k : ℕ) (s : State) (m : ℕ) → t.multip
     (if b then record (moved_on s k m) { sector = ((moved_on s k m).sector + 1) % 256; command = search_of t } else finish_leaves (moved_on s k m)) m
 unfolding moved_on
 ends_so true t k s m many end = record {
-  command = λ h. absurd (omega (arith, h, end));
+  command = λ h. absurd (omega arith);
   over = λ h. ap (λ b. if b then search_of t else Idle) (sym many);
   angle = next_place k m;
   drive0 = refl;
   drive1 = refl;
-  byte = λ place low high. absurd (omega (arith, high, end));
+  byte = λ place low high. absurd (omega arith);
   none = λ h. (refl, refl, refl);
 }
 ends_so false t k s m many end = record {
-  command = λ h. absurd (omega (arith, h, end));
+  command = λ h. absurd (omega arith);
   over = λ h. ap (λ b. if b then search_of t else Idle) (sym many);
   angle = next_place k m;
   drive0 = refl;
   drive1 = refl;
-  byte = λ place low high. absurd (omega (arith, high, end));
+  byte = λ place low high. absurd (omega arith);
   none = λ h. (refl, refl, refl);
 }
 
@@ -130,26 +130,26 @@ at_place t k s m inside is_place is =
     let place = (m + 1) / 64 in
     elim (cases_lt place 31) [
       | inl early ↦
-          rw (before_bytes place early, ne_eqb place 288 (λ e. omega (arith, e, early)))
-          (quiet t k s m inside is (λ e. omega (arith, e, early)) (λ h low high. omega (arith, low, early)))
+          rw (before_bytes place early, ne_eqb place 288 (λ e. omega arith))
+          (quiet t k s m inside is (λ e. omega arith) (λ h low high. omega arith))
       | inr late ↦
           elim (cases_lt place 287) [
             | inl low ↦
                 rw (at_byte place late low) (record {
                   command = λ h. is;
-                  over = λ h. absurd (omega (arith, h, low));
+                  over = λ h. absurd (omega arith);
                   angle = next_place k m;
                   drive0 = refl;
                   drive1 = refl;
                   byte = λ h l high. (refl, refl, ap (λ o. byte_on_disc o t.target k (place - 31)) (same_disc t.target.drive (moved_on s k m) s refl refl));
-                  none = λ h. absurd (h is_place late (omega (arith, low)));
+                  none = λ h. absurd (h is_place late (omega arith));
                 })
             | inr high ↦
                 elim (cases_eq place 288) [
                   | inl end ↦ rw (behind_bytes place high, eq-eqb place 288 end) (ends_so t.multiple t k s m refl end)
                   | inr other ↦
                       rw (behind_bytes place high, ne_eqb place 288 other)
-                      (quiet t k s m inside is (λ e. other (omega (arith, e))) (λ h low over. omega (arith, over, high)))
+                      (quiet t k s m inside is (λ e. other (omega arith)) (λ h low over. omega arith))
                 ]
           ]
     ]
@@ -159,7 +159,7 @@ unfolding moved_on
 sector_goes t k few reads s m inside is at =
     at_each (reading_at t k) (λ x. Next (of_sector t k) s x m) k m (moved_on s k m) (work_leaves s)
     (worked_is s t k m few inside is at ∙ reads_is t k (64 * (312 * k) + m + 1) (moved_on s k m) reads)
-    (λ place. at_place t k s m inside place is) (λ none. quiet t k s m inside is (λ e. none (omega (arith, e))) (λ h low high. none h))
+    (λ place. at_place t k s m inside place is) (λ none. quiet t k s m inside is (λ e. none (omega arith)) (λ h low high. none h))
 
 -- A sector on a disc has a number below 10, and 256 bytes.
 bytes_of : (b : Bool) (xs bytes : List ℕ) → (if b then Some xs else None) ≡ Some bytes → (b ≡ true) × (xs ≡ bytes)
@@ -177,7 +177,7 @@ bytes_long d side track k bytes is =
     (λ at. byte_at d (place d.kind side track k 0 + at)) 0 256
 
 all_come : (m : ℕ) (bytes : List ℕ) → m ≡ 18432 → length bytes ≡ 256 → take (bytes_come m) bytes ≡ bytes
-all_come m bytes now long = let all : length bytes ≤ bytes_come m = omega (arith, now, long) in take_all (bytes_come m) bytes all
+all_come m bytes now long = let all : length bytes ≤ bytes_come m = omega arith in take_all (bytes_come m) bytes all
 
 -- a disc with these bytes gives them
 gives : (s0 : State) (t : Transfer) (k : ℕ) (d : Image) (bytes : List ℕ) (s : State) (i : ℕ) → HasBytes s0 t k d bytes → s.drive0 ≡ s0.drive0 →
@@ -212,8 +212,8 @@ pub sector_read : SectorIsRead
 sector_read = record {
   so_far = λ s t k d bytes events at has reads all most kept. (from_start s t k d bytes events at has reads all most).taken kept;
   whole = λ s t k d bytes events at has reads all count kept.
-      (from_start s t k d bytes events at has reads all (omega (arith, count))).taken kept
+      (from_start s t k d bytes events at has reads all (omega arith)).taken kept
       ∙ all_come (count_steps events) bytes count (bytes_long d t.target.side t.target.head k bytes has.sector);
   end = λ s t k d bytes events at has reads all count.
-      (from_start s t k d bytes events at has reads all (omega (arith, count))).over (omega (arith, count));
+      (from_start s t k d bytes events at has reads all (omega arith)).over (omega arith);
 }

@@ -118,7 +118,7 @@ goes facts c makes n =
       | inl o ↦
           let end : n % w + 1 ≡ w = o.1.1 in
           let line : (n + 1) / w ≡ n / w + 1 = o.1.0 in
-          let test : ends_line d ≡ true = test_true d.character d.registers.horizontal_total (omega (arith, column, total, end)) in
+          let test : ends_line d ≡ true = test_true d.character d.registers.horizontal_total (omega arith) in
           elim (next_place f (n / w) some) [
             | inl i ↦
                 let none : (n + 1) / w % f ≡ 0 = ap (λ k. k % f) line ∙ i.0 in
@@ -126,13 +126,13 @@ goes facts c makes n =
                 inr (inl (record {
                   frame = ap (λ i. i / f) line ∙ i.1.0;
                   row = ap (λ i. i / h) none ∙ zero-div h;
-                  restart = law ∙ test_true ((n + 1) % (w * f)) 0 (digits ∙ omega (arith, zeroed, o.0));
+                  restart = law ∙ test_true ((n + 1) % (w * f)) 0 (digits ∙ omega (arith, o.0));
                 }))
             | inr i ↦
                 let more : (n + 1) / w % f ≡ n / w % f + 1 = ap (λ k. k % f) line ∙ i.0 in
                 let up : (n / w % f + 1) * w ≡ n / w % f * w + w = grind arith in
                 let many : (n + 1) / w % f * w ≡ n / w % f * w + w = ap (λ k. k * w) more ∙ up in
-                let restart : (tells n c).restart ≡ false = law ∙ test_false ((n + 1) % (w * f)) 0 (λ none. omega (arith, none, digits, many)) in
+                let restart : (tells n c).restart ≡ false = law ∙ test_false ((n + 1) % (w * f)) 0 (λ none. omega arith) in
                 let other : is_last_line d ≡ false = sym (and_left (ends_line d) (is_last_line d) test) ∙ restart in
                 let frame : frame_index r (n + 1) ≡ frame_index r n = ap (λ i. i / f) line ∙ i.1.0 in
                 let next : row_at r (n + 1) ≡ (line_at r n + 1) / h = ap (λ i. i / h) more in
@@ -145,8 +145,8 @@ goes facts c makes n =
                   | inr adjust ↦
                       let past = adjust.past in
                       let large : r.vertical_total + 1 ≤ (line_at r n + 1) / h =
-                      le-div (r.vertical_total + 1) (line_at r n + 1) h (omega arith) (omega (arith, past)) in
-                      inr (inr (omega (arith, large, next)))
+                      le-div (r.vertical_total + 1) (line_at r n + 1) h (omega arith) (omega arith) in
+                      inr (inr (omega arith))
                 ]
           ]
     ]
@@ -154,7 +154,7 @@ goes facts c makes n =
 -- ---- Earlier clocks are in no later row.
 
 div_grows : (m n k : ℕ) → 0 < k → m ≤ n → m / k ≤ n / k
-div_grows m n k some before = let least = div-mul-le_self m k in le-div (m / k) n k some (omega (arith, least, before))
+div_grows m n k some before = let least = div-mul-le_self m k in le-div (m / k) n k some (omega arith)
 
 frame_grows : (r : Registers) (m n : ℕ) → m ≤ n → frame_index r m ≤ frame_index r n
 frame_grows r m n before =
@@ -168,7 +168,7 @@ row_grows r m n before same =
     let b : n / w / f * f + n / w % f ≡ n / w = div-add-mod' (n / w) f in
     let e : m / w / f * f ≡ n / w / f * f = ap (λ i. i * f) same in
     let lines : m / w ≤ n / w = div_grows m n w (omega arith) before in
-    div_grows (m / w % f) (n / w % f) (row_lines r) (omega arith) (omega (arith, a, b, e, lines))
+    div_grows (m / w % f) (n / w % f) (row_lines r) (omega arith) (omega (arith, lines))
 
 -- ---- What a clock makes of the text.
 
@@ -304,13 +304,13 @@ and_on false = refl
 
 too_far : (c : Crtc) (n : ℕ) → row_at c.registers (n + 1) ≤ c.registers.vertical_total → Beyond c n → ⊥
 unfolding Beyond
-too_far c n inside beyond = omega (arith, inside, beyond)
+too_far c n inside beyond = omega arith
 
 -- no earlier clock is in the row that begins
 new_row : (r : Registers) (n m : ℕ) → frame_index r (n + 1) ≡ frame_index r n → row_at r (n + 1) ≡ row_at r n + 1 → m ≤ n →
     frame_index r m ≡ frame_index r (n + 1) → row_at r m ≡ row_at r (n + 1) → ⊥
 new_row r n m frame row before same_frame same_row =
-    let low = row_grows r m n before (same_frame ∙ frame) in omega (arith, low, row, same_row)
+    let low = row_grows r m n before (same_frame ∙ frame) in omega (arith, row)
 
 -- the next frame begins
 to_frame : (ram : ℕ → List ℕ) (size : ℕ → ℕ) (font : Font) (s : State) → bit s.ula.control 1 ≡ true → (n : ℕ) → Begins s.crtc n → Holds ram size font s (n + 1)
@@ -323,16 +323,16 @@ to_frame ram size font s on n begins =
     let frame = begins.frame in
     let row = begins.row in
     let earlier_none : (m : ℕ) → m ≤ n → frame_index r m ≡ frame_index r (n + 1) → ⊥ = λ m before same.
-    let low = frame_grows r m n before in omega (arith, low, frame, same) in
+    let low = frame_grows r m n before in omega (arith, frame) in
     record {
       found = λ had. absurd (true≢false (sym had ∙ none));
       finds = λ had. let earlier = had.earlier in absurd (earlier_none had.clock (omega (arith, earlier)) had.frame);
       row = λ m before same same_row. elim (cases_eq m (n + 1)) [
         | inl is ↦ ap (is_lower ram size font s) is
-        | inr other ↦ absurd (earlier_none m (omega (arith, before, other)) same)
+        | inr other ↦ absurd (earlier_none m (omega arith) same)
       ];
       first = λ top. lower;
-      below = λ m is doubles. let up = is.row in absurd (omega (arith, up, row));
+      below = λ m is doubles. let up = is.row in absurd (omega (arith, row));
       plain = λ nothing. lower;
     }
 
@@ -418,7 +418,7 @@ module _ (facts : Facts) (ram : ℕ → List ℕ) (size : ℕ → ℕ) (font : F
               let earlier = had.earlier in
               behind_had n holds (record {
                 clock = had.clock;
-                earlier = omega (arith, earlier, before);
+                earlier = omega (arith, earlier);
                 frame = had.frame ∙ stays.frame;
                 row = had.row ∙ stays.row;
                 doubles = had.doubles;
@@ -426,7 +426,7 @@ module _ (facts : Facts) (ram : ℕ → List ℕ) (size : ℕ → ℕ) (font : F
         ]);
         row = λ m before frame row. elim (cases_eq m (n + 1)) [
           | inl same ↦ ap (is_lower ram size font s) same
-          | inr other ↦ holds.row m (omega (arith, before, other)) (frame ∙ stays.frame) (row ∙ stays.row) ∙ sym lower
+          | inr other ↦ holds.row m (omega arith) (frame ∙ stays.frame) (row ∙ stays.row) ∙ sym lower
         ];
         first = λ top. lower ∙ holds.first (sym stays.row ∙ top);
         below = λ m is doubles. lower ∙ holds.below m (above m is) doubles;
@@ -447,10 +447,10 @@ module _ (facts : Facts) (ram : ℕ → List ℕ) (size : ℕ → ℕ) (font : F
       let row = goes.row in
       let in_it : (m : ℕ) → IsAbove r m (n + 1) → (m ≤ n) × (row_at r m ≡ row_at r n) = λ m is.
       let up = is.row in
-      let same : row_at r m ≡ row_at r n = omega (arith, up, row) in (
+      let same : row_at r m ≡ row_at r n = omega (arith, row) in (
         elim (cases_lt n m) [
           | inl later ↦
-              let high = row_grows r (n + 1) m (omega (arith, later)) (sym is.frame) in absurd (omega (arith, high, row, same))
+              let high = row_grows r (n + 1) m (omega arith) (sym is.frame) in absurd (omega (arith, row))
           | inr before ↦ before
         ],
         same,
@@ -462,9 +462,9 @@ module _ (facts : Facts) (ram : ℕ → List ℕ) (size : ℕ → ℕ) (font : F
             let earlier = had.earlier in absurd (new_row r n had.clock goes.frame row (omega (arith, earlier)) had.frame had.row);
         row = λ m before frame same. elim (cases_eq m (n + 1)) [
           | inl is ↦ ap (is_lower ram size font s) is
-          | inr other ↦ absurd (new_row r n m goes.frame row (omega (arith, before, other)) frame same)
+          | inr other ↦ absurd (new_row r n m goes.frame row (omega arith) frame same)
         ];
-        first = λ top. absurd (omega (arith, top, row));
+        first = λ top. absurd (omega (arith, row));
         below = λ m is doubles.
             let where_it_is = in_it m is in
             let had : t.doubled ≡ true = elim (cases_eq m n) [
@@ -472,7 +472,7 @@ module _ (facts : Facts) (ram : ℕ → List ℕ) (size : ℕ → ℕ) (font : F
               | inr other ↦
                   behind_had n holds (record {
                     clock = m;
-                    earlier = let low = where_it_is.0 in omega (arith, low, other);
+                    earlier = let low = where_it_is.0 in omega arith;
                     frame = is.frame ∙ goes.frame;
                     row = where_it_is.1;
                     doubles = doubles;
@@ -499,7 +499,7 @@ module _ (facts : Facts) (ram : ℕ → List ℕ) (size : ℕ → ℕ) (font : F
   at_each zero some inside =
       let r = s.crtc.registers in
       let none : frame_index r 0 ≡ 0 = ap (λ i. i / frame_lines r) (zero-div (line_characters r)) ∙ zero-div (frame_lines r) in
-      absurd (omega (arith, none, some))
+      absurd (omega arith)
   at_each (suc n) some inside =
       let r = s.crtc.registers in
       let e : suc n ≡ n + 1 = sym (add-one n) in
@@ -511,11 +511,11 @@ module _ (facts : Facts) (ram : ℕ → List ℕ) (size : ℕ → ℕ) (font : F
               | inl stays ↦
                   let frame = stays.frame in
                   let row = stays.row in
-                  in_row n stays (at_each n (omega (arith, frame, some_too)) (omega (arith, row, inside_too)))
+                  in_row n stays (at_each n (omega (arith, frame)) (omega (arith, row)))
               | inr next ↦
                   let frame = next.frame in
                   let row = next.row in
-                  to_row n next (at_each n (omega (arith, frame, some_too)) (omega (arith, row, inside_too)))
+                  to_row n next (at_each n (omega (arith, frame)) (omega (arith, row)))
             ]
         | inr far ↦
             elim far [
@@ -527,7 +527,7 @@ module _ (facts : Facts) (ram : ℕ → List ℕ) (size : ℕ → ℕ) (font : F
 pub lower_rows_follow : Facts → LowerRowsFollow
 lower_rows_follow facts = record {
   first = λ ram size font s n makes on some top.
-      (at_each facts ram size font s makes on n some (omega (arith, top))).first top;
+      (at_each facts ram size font s makes on n some (omega arith)).first top;
   below = λ ram size font s n m makes on some inside is doubles. (at_each facts ram size font s makes on n some inside).below m is doubles;
   plain = λ ram size font s n makes on some inside none. (at_each facts ram size font s makes on n some inside).plain none;
 }

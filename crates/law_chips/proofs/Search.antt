@@ -86,7 +86,7 @@ goes_on s0 t left last before none s m inside going =
     let s1 : State = record s { angle = Some (next_angle s.angle) } in
     let less : left - m - 1 ≡ left - (m + 1) = omega arith in
     step_by false s0 s t left m going (none m inside)
-    ∙ ap (λ b. if b then record s1 { command = Searching t (left - m - 1) } else not_found s1) (lt-ltb 1 (left - m) (omega (arith, before, inside)))
+    ∙ ap (λ b. if b then record s1 { command = Searching t (left - m - 1) } else not_found s1) (lt-ltb 1 (left - m) (omega arith))
     ∙ ap (λ k. record s1 { command = Searching t k }) less
 
 finds : (s0 s : State) (t : Transfer) (left m : ℕ) → Going s0 t left s m → has_match t s0 ≡ true →
@@ -110,7 +110,7 @@ loses s0 s t left m going none end =
     let s1 : State = record s { angle = Some (next_angle s.angle) } in
     let is : work_leaves s ≡ not_found s1 =
     step_by false s0 s t left m going none
-    ∙ ap (λ b. if b then record s1 { command = Searching t (left - m - 1) } else not_found s1) (le-ltb 1 (left - m) (omega (arith, end))) in
+    ∙ ap (λ b. if b then record s1 { command = Searching t (left - m - 1) } else not_found s1) (le-ltb 1 (left - m) (omega arith)) in
     subst (λ y. Lost (count_leaves (is_asking s) y)) (sym is) (record { command = refl; none = refl })
 
 -- ---- Reads of registers.
@@ -148,13 +148,13 @@ run_over P reads (latch v ∷ es) s all none holds = absurd all.0
 run_done : (P : State → Type 0) → ((reg : ℕ) (s : State) → P s → P (read_leaves reg s)) → (s0 : State) (t : Transfer) (left last : ℕ) →
     ((s : State) → Going s0 t left s last → P (step s)) → last < left → ((i : ℕ) → i < last → NoneAt s0 t i) →
     (events : List Event) (s : State) (m : ℕ) → AllWait events → m + count_steps events ≡ last + 1 → m ≤ last → Going s0 t left s m → P (history events s)
-run_done P reads s0 t left last ends before none [] s m all count most going = absurd (omega (arith, count, most))
+run_done P reads s0 t left last ends before none [] s m all count most going = absurd (omega arith)
 run_done P reads s0 t left last ends before none (microsecond ∷ es) s m all count most going = elim (cases_eq m last) [
   | inl now ↦
-      run_over P reads es (step s) all.1 (omega (arith, count, now)) (ends s (subst (λ n. Going s0 t left s n) now going))
+      run_over P reads es (step s) all.1 (omega arith) (ends s (subst (λ n. Going s0 t left s n) now going))
   | inr earlier ↦
-      let more : m < last = omega (arith, most, earlier) in
-      run_done P reads s0 t left last ends before none es (step s) (m + 1) all.1 (omega (arith, count)) (omega (arith, more))
+      let more : m < last = omega arith in
+      run_done P reads s0 t left last ends before none es (step s) (m + 1) all.1 (omega arith) (omega arith)
       (one_step (λ m. Searching t (left - m)) last s0 (goes_on s0 t left last before none) s m more going)
 ]
 run_done P reads s0 t left last ends before none (read reg ∷ es) s m all count most going =
@@ -186,12 +186,12 @@ unfolding NoneAt
 not_before s t has i early =
     let small = small_angle s.angle in
     let few = sector_small s t has in
-    let other : (next_angle s.angle + i) % 200000 ≡ sector_angle s.sector → ⊥ = λ e. omega (arith, e, early, small, few) in
+    let other : (next_angle s.angle + i) % 200000 ≡ sector_angle s.sector → ⊥ = λ e. omega arith in
     and_right (has_match t s) _ (ne_eqb _ _ other)
 
 then_now : (s : State) (t : Transfer) → has_match t s ≡ true →
     (next_angle s.angle + (sector_angle s.sector + 200000 - next_angle s.angle) % 200000) % 200000 ≡ sector_angle s.sector
-then_now s t has = let small = small_angle s.angle in let few = sector_small s t has in omega (arith, small, few)
+then_now s t has = let small = small_angle s.angle in let few = sector_small s t has in omega arith
 
 never : (s : State) (t : Transfer) → has_match t s ≡ false → (i : ℕ) → NoneAt s t i
 unfolding NoneAt
@@ -206,15 +206,15 @@ pub search_found : (s : State) (t : Transfer) (left : ℕ) (events : List Event)
     count_steps events ≡ steps_to (sector_angle s.sector) s → Found s t (history events s)
 search_found s t left events is enough has all count =
     let last = (sector_angle s.sector + 200000 - next_angle s.angle) % 200000 in
-    run_done (Found s t) (found_read s t) s t left last (λ x going. finds s x t left last going has (then_now s t has)) (omega (arith, turn s, enough))
+    run_done (Found s t) (found_read s t) s t left last (λ x going. finds s x t left last going has (then_now s t has)) (omega (arith, turn s))
     (not_before s t has)
-    events s 0 all (omega (arith, count)) (omega arith) (begins s t left is)
+    events s 0 all (omega arith) (omega arith) (begins s t left is)
 
 pub search_ends : SearchEnds
 search_ends = record {
   goes_on = λ s t left events is enough has all early.
       let last = (sector_angle s.sector + 200000 - next_angle s.angle) % 200000 in
-      runs_on s t left last events is (omega (arith, turn s, enough)) (not_before s t has) all (omega (arith, early));
+      runs_on s t left last events is (omega (arith, turn s)) (not_before s t has) all (omega arith);
   found = λ s t left events is enough has off all count.
       let found = search_found s t left events is enough has all count in (
         record { command = found.command; angle = found.angle; drq = found.drq off },
@@ -226,8 +226,8 @@ search_ends = record {
       runs_on s t left (count_steps events) events is early (λ i h. never s t none i) all (omega arith);
   not_found = λ s t left events is some none all count.
       let lost : Lost (history events s) =
-      run_done Lost lost_read s t left (left - 1) (λ x going. loses s x t left (left - 1) going (never s t none (left - 1)) (omega (arith, some)))
-      (omega (arith, some))
-      (λ i h. never s t none i) events s 0 all (omega (arith, count, some)) (omega arith) (begins s t left is) in
+      run_done Lost lost_read s t left (left - 1) (λ x going. loses s x t left (left - 1) going (never s t none (left - 1)) (omega arith))
+      (omega arith)
+      (λ i h. never s t none i) events s 0 all (omega arith) (omega arith) (begins s t left is) in
       (lost.command, lost.none);
 }

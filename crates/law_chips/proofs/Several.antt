@@ -60,8 +60,8 @@ plain : (s0 s x : State) (m : ℕ) → m + 1 < 18432 → Regs s x → Kept s0 s 
 plain s0 s x m inside regs is = record {
   latch = regs.latch ∙ is.latch;
   track = regs.track ∙ is.track;
-  sector = λ h. regs.sector ∙ is.sector (omega (arith, h));
-  next = λ h. absurd (omega (arith, h, inside));
+  sector = λ h. regs.sector ∙ is.sector (omega arith);
+  next = λ h. absurd (omega (arith, inside));
 }
 
 ends_so : (s0 : State) (t : Transfer) (k : ℕ) (s : State) (m : ℕ) → t.multiple ≡ true → m + 1 ≡ 18432 → Kept s0 s m →
@@ -73,14 +73,14 @@ ends_so s0 t k s m many end is =
     subst (λ y. Kept s0 y (m + 1)) (sym (ap (λ b. if b then x else finish_leaves s1) many)) (record {
       latch = is.latch;
       track = is.track;
-      sector = λ h. absurd (omega (arith, h, end));
-      next = λ h. ap (λ n. (n + 1) % 256) (is.sector (omega (arith, end)));
+      sector = λ h. absurd (omega arith);
+      next = λ h. ap (λ n. (n + 1) % 256) (is.sector (omega arith));
     })
 
 before_end : (m : ℕ) → m < 18432 → ((m + 1) % 64 ≡ 0 → (m + 1) / 64 ≡ 288 → ⊥) → m + 1 < 18432
 before_end m inside other = elim (cases_eq (m + 1) 18432) [
-  | inl end ↦ absurd (other (omega (arith, end)) (omega (arith, end)))
-  | inr before ↦ omega (arith, inside, before)
+  | inl end ↦ absurd (other (omega arith) (omega arith))
+  | inr before ↦ omega (arith, inside)
 ]
 
 -- what a command does at its places
@@ -103,7 +103,7 @@ kept_step t k at leaves few many s0 s m inside going angle by is =
     (λ passes_by.
     let place = (m + 1) / 64 in
     elim (cases_eq place 288) [
-      | inl end ↦ subst To (sym (leaves.ends place s1 end)) (counted (sector_ended t s1) (ends_so s0 t k s m many (omega (arith, end, passes_by)) is))
+      | inl end ↦ subst To (sym (leaves.ends place s1 end)) (counted (sector_ended t s1) (ends_so s0 t k s m many (omega arith) is))
       | inr other ↦
           let regs = leaves.others place s1 other in
           counted (at (Some place) s1) (plain s0 s (at (Some place) s1) m (before_end m inside (λ h e. other e))
@@ -131,7 +131,7 @@ kept_access s0 e s m access may is =
     }
 
 pub kept_first : (s : State) → Kept s s 0
-kept_first s = record { latch = refl; track = refl; sector = λ h. refl; next = λ h. absurd (omega (arith, h)) }
+kept_first s = record { latch = refl; track = refl; sector = λ h. refl; next = λ h. absurd (omega arith) }
 
 waits_give : (e : Event) → Waits e → Gives e
 waits_give microsecond may = tt
@@ -148,7 +148,7 @@ reading_leaves t k = record {
       (if place == 288 then sector_ended t s else s)
       (record { latch = refl; track = refl; sector = refl })
       (subst (λ b. Regs s (if b then sector_ended t s else s)) (sym (ne_eqb place 288 other)) (record { latch = refl; track = refl; sector = refl }));
-  ends = λ place s end. rw (behind_bytes place (omega (arith, end)), eq-eqb place 288 end) refl;
+  ends = λ place s end. rw (behind_bytes place (omega arith), eq-eqb place 288 end) refl;
 }
 
 reads_only : (events : List Event) → AllWait events → AllRead events
@@ -205,7 +205,7 @@ one s t d round is few timely =
     )) 18432 round.serves s1 timely.read timely.count (omega arith) (at_start s1 t k bytes at, kept_first s1) in
     let inside = both.0 in
     let kept = both.1 in
-    let next_one : (s1.sector + 1) % 256 ≡ k + 1 = ap (λ n. (n + 1) % 256) found.sector ∙ let e : (k + 1) % 256 ≡ k + 1 = omega (arith, few) in e in
+    let next_one : (s1.sector + 1) % 256 ≡ k + 1 = ap (λ n. (n + 1) % 256) found.sector ∙ let e : (k + 1) % 256 ≡ k + 1 = omega arith in e in
     record {
       bytes = whole s1 t k d bytes round.serves at has is.reads lost all timely.count timely.in_time;
       goes_on = record {
@@ -230,15 +230,15 @@ sectors_follow s t d [] is inside timely = record {
 }
 sectors_follow s t d (round ∷ rounds) is inside timely =
     let more : length (round ∷ rounds) ≡ length rounds + 1 = omega arith in
-    let done = one s t d round is (omega (arith, inside, more)) timely.0 in
+    let done = one s t d round is (omega (arith, inside)) timely.0 in
     let s2 = round_end round s in
-    let rest = sectors_follow s2 t d rounds done.goes_on (omega (arith, inside, more, done.sector)) timely.1 in
+    let rest = sectors_follow s2 t d rounds done.goes_on (omega (arith, inside, done.sector)) timely.1 in
     record {
       bytes =
           ap (λ xs. xs ++ bytes_of rounds s2) done.bytes
           ∙ ap (λ xs. sector_bytes d t.target.side t.target.head s.sector ++ xs) (rest.bytes ∙ ap (λ n. bytes_from d t.target n rounds) done.sector);
       goes_on = rest.goes_on;
-      sector = rest.sector ∙ omega (arith, done.sector, more);
+      sector = rest.sector ∙ omega (arith, done.sector);
     }
 
 -- ---- The registers.
@@ -345,13 +345,13 @@ one_written back others s t d round is few timely =
     let has = has_it d t k few is.on_disc in
     let lost = found.lost ∙ is.lost in
     let end : s2.lost_data ≡ false =
-    writes_kept s1 t k round.serves at few lost is.writes (lets_go writing s1 round.serves timely.written) (let c = timely.count in omega (arith, c))
+    writes_kept s1 t k round.serves at few lost is.writes (lets_go writing s1 round.serves timely.written) (let c = timely.count in omega arith)
     (λ i over. timely.in_time i over.byte) in
     let both : Both s1 d t k s2 18432 (bytes_given round.serves) =
     gives_all back others s1 d t k round.serves few has is.writes is.multiple at disc1 timely.written timely.gives timely.count end in
     let stored = write_whole d t k s2 (bytes_given round.serves) has both.inside in
     let now = both.inside.now in
-    let next_one : (s1.sector + 1) % 256 ≡ k + 1 = ap (λ n. (n + 1) % 256) found.sector ∙ let e : (k + 1) % 256 ≡ k + 1 = omega (arith, few) in e in
+    let next_one : (s1.sector + 1) % 256 ≡ k + 1 = ap (λ n. (n + 1) % 256) found.sector ∙ let e : (k + 1) % 256 ≡ k + 1 = omega arith in e in
     record {
       now = now;
       goes_on = record {
@@ -375,7 +375,7 @@ one_written back others s t d round is few timely =
 
 apart_places : (sides side track k j i i' : ℕ) → i < 256 → i' < 256 → k < j →
     256 * (10 * (sides * track + side) + k) + 0 + i ≡ 256 * (10 * (sides * track + side) + j) + i' → ⊥
-apart_places sides side track k j i i' low low' other e = omega (arith, e, low, low', other)
+apart_places sides side track k j i i' low low' other e = omega arith
 
 same_bytes : (f g : ℕ → ℕ) → ((i : ℕ) → i < 256 → g i ≡ f i) → map g (range_with_len 0 256) ≡ map f (range_with_len 0 256)
 same_bytes f g h =
@@ -392,7 +392,7 @@ sector_stays before after target k many kind same =
     let g : ℕ → ℕ = λ i. byte_at after (place before.kind side head k 0 + i) in
     ap (λ kind. if has_sector kind side head k then Some (map (λ i. byte_at after (place kind side head k 0 + i)) (range_with_len 0 256)) else None) kind
     ∙ ap (λ xs. if has_sector before.kind side head k then Some xs else None) (same_bytes f g (λ i low.
-    same (place before.kind side head k 0 + i) (λ j i' from to low' e. apart_places (sides before.kind) side head k j i i' low low' (omega (arith, from)) e)))
+    same (place before.kind side head k 0 + i) (λ j i' from to low' e. apart_places (sides before.kind) side head k j i i' low low' (omega arith) e)))
 
 pub sectors_are_written : (back : IsReadBack) (others : OthersStay) → SectorsAreWritten
 sectors_are_written back others s t d [] is inside timely = record {
@@ -406,23 +406,23 @@ sectors_are_written back others s t d [] is inside timely = record {
 sectors_are_written back others s t d (round ∷ rounds) is inside timely =
     let more : length (round ∷ rounds) ≡ length rounds + 1 = omega arith in
     let k = s.sector in
-    let done = one_written back others s t d round is (omega (arith, inside, more)) timely.0 in
+    let done = one_written back others s t d round is (omega (arith, inside)) timely.0 in
     let s2 = round_end round s in
     let next = done.sector in
-    let rest = sectors_are_written back others s2 t done.now rounds done.goes_on (omega (arith, inside, more, next)) timely.1 in
+    let rest = sectors_are_written back others s2 t done.now rounds done.goes_on (omega (arith, inside, next)) timely.1 in
     let rest_others : (n : ℕ) → IsOutside done.now t.target (k + 1) (length rounds) n → byte_at rest.now n ≡ byte_at done.now n =
-    λ n out. rest.others n (λ j i from to low. out j i (omega (arith, from, next)) (omega (arith, to, next)) low) in
+    λ n out. rest.others n (λ j i from to low. out j i (omega (arith, next)) (omega (arith, next)) low) in
     record {
       now = rest.now;
       goes_on = rest.goes_on;
-      sector = rest.sector ∙ omega (arith, next, more);
+      sector = rest.sector ∙ omega (arith, next);
       stored = (
         sector_stays done.now rest.now t.target k (length rounds) rest.kind rest_others ∙ done.stored,
         subst (λ n. HasAll rest.now t.target n rounds) next rest.stored,
       );
       others = λ n out.
           rest_others n (λ j i from to low e.
-          out j i (omega (arith, from)) (omega (arith, to, more)) low (e ∙ ap (λ kind. place kind t.target.side t.target.head j i) done.kind))
-          ∙ done.others n (λ i low. out k i (omega arith) (omega (arith, more)) low);
+          out j i (omega arith) (omega arith) low (e ∙ ap (λ kind. place kind t.target.side t.target.head j i) done.kind))
+          ∙ done.others n (λ i low. out k i (omega arith) (omega arith) low);
       kind = rest.kind ∙ done.kind;
     }

@@ -44,7 +44,7 @@ drq_read false b q h = refl
 read_leaves_it : (reg : ℕ) (s : State) → Accessed (reg == 3) s (read_leaves reg s)
 read_leaves_it reg s =
     let other : (reg == 0) ≡ true → (reg == 3) ≡ false = λ h. elim (cases_eq reg 0) [
-      | inl zero ↦ ne_eqb reg 3 (λ e. omega (arith, e, zero))
+      | inl zero ↦ ne_eqb reg 3 (λ e. omega arith)
       | inr some ↦ absurd (true≢false (sym h ∙ ne_eqb reg 0 some))
     ] in
     subst (λ y. Accessed (reg == 3) s (count_leaves (is_asking s) y)) (sym (read_makes (reg == 0) (reg == 3) s)) (record {
@@ -64,7 +64,7 @@ of_three P one two three reg low high = elim (cases_eq reg 1) [
   | inr more ↦
       elim (cases_eq reg 2) [
         | inl is ↦ subst P (sym is) two
-        | inr most ↦ let is : 3 ≡ reg = omega (arith, low, high, more, most) in subst P is three
+        | inr most ↦ let is : 3 ≡ reg = omega (arith, more) in subst P is three
       ]
 ]
 
@@ -132,7 +132,7 @@ pub record Program : Type 1 where
 pub reads_let : (e : Event) → Reads e → LetsGo e
 reads_let microsecond may = tt
 reads_let (read reg) may = tt
-reads_let (write reg v) may = let most = may.1 in (may.0, omega (arith, most))
+reads_let (write reg v) may = let most = may.1 in (may.0, omega arith)
 reads_let (latch v) may = may
 
 -- to wait is to read no more than a reader may
@@ -222,7 +222,7 @@ module _ (p : Program) (P : State → ℕ → List ℕ → Type 0) (last : ℕ)
   one_event : (e : Event) (es : List Event) (s : State) (m : ℕ) (got : List ℕ) → p.may s e → m + count_steps (e ∷ es) ≤ last → P s m got →
       P (happens e s) (steps_behind m e) (got ++ p.out s m e)
   one_event microsecond es s m got may most is =
-      subst (P (step s) (m + 1)) (sym (ap (λ xs. got ++ xs) (p.quiet s m) ∙ append-nil got)) (step_keeps s m got (omega (arith, most)) is)
+      subst (P (step s) (m + 1)) (sym (ap (λ xs. got ++ xs) (p.quiet s m) ∙ append-nil got)) (step_keeps s m got (omega arith) is)
   one_event (read reg) es s m got may most is = access_keeps (read reg) s m got tt may (accessed (read reg) s (p.lets s (read reg) may) tt) is
   one_event (write reg v) es s m got may most is = access_keeps (write reg v) s m got tt may (accessed (write reg v) s (p.lets s (write reg v) may) tt) is
   one_event (latch v) es s m got may most is = access_keeps (latch v) s m got tt may (accessed (latch v) s (p.lets s (latch v) may) tt) is
@@ -246,8 +246,8 @@ module _ (p : Program) (P : State → ℕ → List ℕ → Type 0) (last : ℕ)
   pub runs_all : (n : ℕ) (events : List Event) (s : State) → p.all s events → count_steps events ≡ n → n ≤ last → P s 0 [] →
       P (history events s) n (p.outs s 0 events)
   runs_all n events s all count most is =
-      let same : 0 + count_steps events ≡ n = omega (arith, count) in
-      subst (λ n. P (history events s) n (p.outs s 0 events)) same (runs events s 0 [] all (omega (arith, count, most)) is)
+      let same : 0 + count_steps events ≡ n = omega arith in
+      subst (λ n. P (history events s) n (p.outs s 0 events)) same (runs events s 0 [] all (omega arith) is)
 
 -- whether a place is among these
 unfoldable pub has_place : ℕ → List ℕ → Bool
@@ -343,7 +343,7 @@ module _ (f : Stream) where
   unfolding has_place
   comes s x m ps some place low high off taken next is =
       let now = next.byte place low high in
-      let new : has_place ((m + 1) / 64) ps ≡ false = is.ahead ((m + 1) / 64) (omega (arith, place)) in
+      let new : has_place ((m + 1) / 64) ps ≡ false = is.ahead ((m + 1) / 64) (omega arith) in
       record {
         command = next.command;
         angle = next.angle;
@@ -351,12 +351,12 @@ module _ (f : Stream) where
         drq = λ h. now.0 ∙ sym (rw (le-leb f.first ((m + 1) / 64) low, new) refl);
         served = λ i inside over. elim (cases_lt (m + 1) (64 * (f.first + i + 1) + 1)) [
           | inl last_one ↦
-              let here : m / 64 ≡ f.first + i = omega (arith, last_one, over, place) in
-              subst (λ n. has_place n ps ≡ true) here (taken (omega (arith, last_one, over, place)))
-          | inr before ↦ is.served i inside (omega (arith, before))
+              let here : m / 64 ≡ f.first + i = omega (arith, over) in
+              subst (λ n. has_place n ps ≡ true) here (taken (omega (arith, over)))
+          | inr before ↦ is.served i inside (omega arith)
         ];
-        ahead = λ p more. is.ahead p (omega (arith, more, place));
-        last_taken = λ over had. absurd (true≢false (sym had ∙ is.ahead (f.first + f.l) (omega (arith, over, place, high))));
+        ahead = λ p more. is.ahead p (omega (arith, more));
+        last_taken = λ over had. absurd (true≢false (sym had ∙ is.ahead (f.first + f.l) (omega (arith, over))));
       }
 
   -- nothing comes
@@ -369,24 +369,24 @@ module _ (f : Stream) where
         command = next.command;
         angle = next.angle;
         kept = now.1 ∙ is.kept;
-        drq = λ h. now.0 ∙ is.drq (omega (arith, h)) ∙ (elim (cases_eq ((m + 1) % 64) 0) [
+        drq = λ h. now.0 ∙ is.drq (omega arith) ∙ (elim (cases_eq ((m + 1) % 64) 0) [
           | inl place ↦
               let early : (m + 1) / 64 < f.first =
-              elim (cases_lt ((m + 1) / 64) f.first) [ inl low ↦ low | inr late ↦ absurd (none place late (omega (arith, h, place))) ] in
-              let before : m / 64 < f.first = omega (arith, early) in
+              elim (cases_lt ((m + 1) / 64) f.first) [ inl low ↦ low | inr late ↦ absurd (none place late (omega arith)) ] in
+              let before : m / 64 < f.first = omega arith in
               ap (λ b. b && not (has_place (m / 64) ps)) (lt-leb f.first (m / 64) before) ∙ sym
               (ap (λ b. b && not (has_place ((m + 1) / 64) ps)) (lt-leb f.first ((m + 1) / 64) early))
           | inr inner ↦
-              let same : m / 64 ≡ (m + 1) / 64 = omega (arith, inner) in
+              let same : m / 64 ≡ (m + 1) / 64 = omega arith in
               ap (λ n. nat_le f.first n && not (has_place n ps)) same
         ]);
         served = λ i inside over. elim (cases_lt m (64 * (f.first + i + 1))) [
-          | inl new ↦ absurd (none (omega (arith, new, over)) (omega (arith, new, over)) (omega (arith, new, over, inside)))
+          | inl new ↦ absurd (none (omega (arith, over)) (omega (arith, over)) (omega (arith, over, inside)))
           | inr old ↦ is.served i inside old
         ];
         ahead = λ p more. is.ahead p (omega (arith, more));
         last_taken = λ over had. now.0 ∙ is.last_taken (elim (cases_lt m (64 * (f.first + f.l))) [
-          | inl new ↦ absurd (none (omega (arith, new, over)) (omega (arith, new, over)) (omega (arith, new, over)))
+          | inl new ↦ absurd (none (omega (arith, over)) (omega (arith, over)) (omega (arith, over)))
           | inr old ↦ old
         ]) had;
       }
@@ -422,30 +422,30 @@ module _ (f : Stream) where
         | inr inner ↦ fine (passes s (work_leaves s) m ps (λ place low high. inner place) next is)
         | inl place ↦
             elim (cases_lt ((m + 1) / 64) f.first) [
-              | inl early ↦ fine (passes s (work_leaves s) m ps (λ h low high. omega (arith, low, early)) next is)
+              | inl early ↦ fine (passes s (work_leaves s) m ps (λ h low high. omega arith) next is)
               | inr low ↦
                   elim (cases_lt (f.first + f.l) ((m + 1) / 64)) [
-                    | inl late ↦ fine (passes s (work_leaves s) m ps (λ h l' high. omega (arith, late, high)) next is)
+                    | inl late ↦ fine (passes s (work_leaves s) m ps (λ h l' high. omega arith) next is)
                     | inr high ↦
                         elim (cases_eq ((m + 1) / 64) f.first) [
                           | inl at_first ↦
                               let off : s.drq ≡ false =
-                              drq_before s m ps true (omega (arith, high)) is (λ h. absurd (omega (arith, h, at_first, place))) (λ h. refl) in
-                              fine (comes s (work_leaves s) m ps some place low high off (λ h. absurd (omega (arith, h, at_first))) next is)
+                              drq_before s m ps true (omega arith) is (λ h. absurd (omega arith)) (λ h. refl) in
+                              fine (comes s (work_leaves s) m ps some place low high off (λ h. absurd (omega arith)) next is)
                           | inr later ↦
                               elim (bool_cases (has_place (m / 64) ps)) [
                                 | inl taken ↦
-                                    let off : s.drq ≡ false = drq_before s m ps true (omega (arith, high)) is (λ h. taken) (λ h. refl) in
+                                    let off : s.drq ≡ false = drq_before s m ps true (omega arith) is (λ h. taken) (λ h. refl) in
                                     fine (comes s (work_leaves s) m ps some place low high off (λ h. taken) next is)
                                 | inr missed ↦
                                     let on : s.drq ≡ true =
-                                    drq_before s m ps false (omega (arith, high)) is (λ h. missed) (λ h. absurd (omega (arith, h, later, low, place))) in
-                                    let which : f.first + (m / 64 - f.first) ≡ m / 64 = omega (arith, low, later, place) in
+                                    drq_before s m ps false (omega arith) is (λ h. missed) (λ h. absurd (omega arith)) in
+                                    let which : f.first + (m / 64 - f.first) ≡ m / 64 = omega arith in
                                     inr (record {
                                       lost = (next.byte place low high).1 ∙ ap (λ b. s.lost_data || b) on ∙ or_true s.lost_data;
                                       byte = m / 64 - f.first;
-                                      inside = omega (arith, low, later, place, high);
-                                      over = omega (arith, which);
+                                      inside = omega arith;
+                                      over = omega arith;
                                       missed = ap (λ n. has_place n ps) which ∙ missed;
                                     })
                               ]
@@ -472,7 +472,7 @@ module _ (f : Stream) where
         ∙ sym (ap (λ b. nat_le f.first (m / 64) && not b) (any_now (λ p. p == m / 64) ps (m / 64) (eq-eqb (m / 64) (m / 64) refl)) ∙ and_false
         (nat_le f.first (m / 64)));
     served = λ i inside over. any_stays (λ p. p == f.first + i) ps (m / 64) (is.served i inside over);
-    ahead = λ p more. any_other (λ q. q == p) ps (m / 64) (is.ahead p more) (ne_eqb (m / 64) p (λ e. omega (arith, e, more)));
+    ahead = λ p more. any_other (λ q. q == p) ps (m / 64) (is.ahead p more) (ne_eqb (m / 64) p (λ e. omega (arith, more)));
     last_taken = λ over had. acc.drq;
   })
   accessed_in false s x m ps acc (inl is) =
@@ -490,7 +490,7 @@ module _ (f : Stream) where
     byte = is.byte;
     inside = is.inside;
     over = is.over;
-    missed = any_other (λ p. p == f.first + is.byte) ps (m / 64) is.missed (ne_eqb (m / 64) (f.first + is.byte) (λ e. omega (arith, e, is.over)));
+    missed = any_other (λ p. p == f.first + is.byte) ps (m / 64) is.missed (ne_eqb (m / 64) (f.first + is.byte) (λ e. omega (arith, is.over)));
   })
   accessed_in false s x m ps acc (inr is) =
       subst (Either x m) (sym (append-nil ps))
@@ -504,7 +504,7 @@ module _ (f : Stream) where
     command = λ h. command;
     angle = angle ∙ ap (λ (n : ℕ). Some n) (let e : f.base ≡ f.base + 0 = omega arith in e);
     kept = kept;
-    drq = λ h. off ∙ sym (ap (λ b. b && true) (lt-leb f.first 0 (omega (arith, some))));
+    drq = λ h. off ∙ sym (ap (λ b. b && true) (lt-leb f.first 0 (omega arith)));
     served = λ i inside over. absurd (omega (arith, over));
     ahead = λ p more. refl;
     last_taken = λ over had. off;
@@ -532,7 +532,7 @@ taken_is (read reg) s may = elim (cases_eq reg 3) [
       ap (λ b. if b && s.drq then answer_of reg s ∷ [] else []) off ∙ sym (ap (λ b. if b && s.drq then s.byte ∷ [] else []) off)
 ]
 taken_is (write reg v) s may =
-    let most = may.1 in sym (ap (λ b. if b && s.drq then s.byte ∷ [] else []) (ne_eqb reg 3 (λ e. omega (arith, e, most))))
+    let most = may.1 in sym (ap (λ b. if b && s.drq then s.byte ∷ [] else []) (ne_eqb reg 3 (λ e. omega arith)))
 taken_is (latch v) s may = refl
 
 -- what is taken, and the byte that waits behind it
@@ -579,9 +579,9 @@ module _ (f : Stream) (bytes : List ℕ) (s0 : State) where
       let long = given.long in
       let i = (m + 1) / 64 - f.first in
       let parts = or_parts s.lost_data s.drq (sym now.1 ∙ kept) in
-      let before : come f m ≡ i = omega (arith, some, place, low, high) in
-      let after : come f (m + 1) ≡ i + 1 = omega (arith, some, place, low, high) in
-      let inside : i < length bytes = omega (arith, long, low, high) in
+      let before : come f m ≡ i = omega arith in
+      let after : come f (m + 1) ≡ i + 1 = omega arith in
+      let inside : i < length bytes = omega arith in
       let have : got ≡ take i bytes =
       sym (append-nil got) ∙ ap (λ b. got ++ (if b then s.byte ∷ [] else [])) (sym parts.1) ∙ is.taken parts.0 ∙ ap (λ n. take n bytes) before in
       ap (λ d. got ++ (if d then x.byte ∷ [] else [])) now.0 ∙ ap (λ y. got ++ y ∷ []) (now.2 ∙ given.gives s i is.drive0 is.drive1)
@@ -592,13 +592,13 @@ module _ (f : Stream) (bytes : List ℕ) (s0 : State) where
   waits_behind s x m got given next is =
       let some = given.some in
       elim (cases_eq ((m + 1) % 64) 0) [
-        | inr inner ↦ waits_on s x m got (λ place low high. inner place) (omega (arith, inner)) next is
+        | inr inner ↦ waits_on s x m got (λ place low high. inner place) (omega arith) next is
         | inl place ↦
             elim (cases_lt ((m + 1) / 64) f.first) [
-              | inl early ↦ waits_on s x m got (λ h low high. omega (arith, low, early)) (omega (arith, early, place)) next is
+              | inl early ↦ waits_on s x m got (λ h low high. omega arith) (omega arith) next is
               | inr low ↦
                   elim (cases_lt (f.first + f.l) ((m + 1) / 64)) [
-                    | inl late ↦ waits_on s x m got (λ h l high. omega (arith, late, high)) (omega (arith, late, place, some)) next is
+                    | inl late ↦ waits_on s x m got (λ h l high. omega arith) (omega arith) next is
                     | inr high ↦ one_comes s x m got given place low high next is
                   ]
             ]
@@ -634,7 +634,7 @@ module _ (f : Stream) (bytes : List ℕ) (s0 : State) where
   pub takes_first : 1 ≤ f.last → s0.command ≡ f.command → s0.angle ≡ Some f.base → s0.drq ≡ false → Taking s0 0 []
   takes_first some command angle off = record {
     going = λ h. command;
-    over = λ h. absurd (omega (arith, h, some));
+    over = λ h. absurd (omega arith);
     angle = angle ∙ ap (λ (n : ℕ). Some n) (let e : f.base ≡ f.base + 0 = omega arith in e);
     drive0 = refl;
     drive1 = refl;

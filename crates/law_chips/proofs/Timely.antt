@@ -45,25 +45,25 @@ wants_first place ps low high = rw (le-ltb place 12 low, lt-ltb place 22 high) r
 
 wants_no_more : (place : ℕ) (ps : List ℕ) → 22 ≤ place → place < 30 → wants place ps ≡ false
 unfolding wants
-wants_no_more place ps low high = rw (le-ltb place 12 (omega (arith, low)), le-ltb place 22 low, lt-ltb place 30 high) refl
+wants_no_more place ps low high = rw (le-ltb place 12 (omega arith), le-ltb place 22 low, lt-ltb place 30 high) refl
 
 wants_next : (place : ℕ) (ps : List ℕ) → 30 ≤ place → wants place ps ≡ not (has_place place ps)
 unfolding wants
 wants_next place ps low =
-    rw (le-ltb place 12 (omega (arith, low)), le-ltb place 22 (omega (arith, low)), le-ltb place 30 low) refl
+    rw (le-ltb place 12 (omega arith), le-ltb place 22 (omega arith), le-ltb place 30 low) refl
 
 -- a byte behind the first is given in one place
 given_in : (i place : ℕ) (ps : List ℕ) → 1 ≤ i → place ≡ 29 + i → given i ps ≡ has_place place ps
 unfolding given has_place
 given_in i place ps some is =
-    ap (λ b. list_any (λ p. if b then nat_le 12 p && nat_lt p 22 else p == 29 + i) ps) (ne_eqb i 0 (λ e. omega (arith, e, some)))
+    ap (λ b. list_any (λ p. if b then nat_le 12 p && nat_lt p 22 else p == 29 + i) ps) (ne_eqb i 0 (λ e. omega arith))
     ∙ ap (λ n. list_any (λ p. p == n) ps) (sym is)
 
 over_first : (i : ℕ) → i ≡ 0 → time_over true i ≡ 22
 over_first i is = ap (λ b. if b then 22 else 30 + i) (eq-eqb i 0 is)
 
 over_next : (i : ℕ) → 1 ≤ i → time_over true i ≡ 30 + i
-over_next i some = ap (λ b. if b then 22 else 30 + i) (ne_eqb i 0 (λ e. omega (arith, e, some)))
+over_next i some = ap (λ b. if b then 22 else 30 + i) (ne_eqb i 0 (λ e. omega arith))
 
 -- after its time a byte is not given
 not_in_time : (i place : ℕ) → time_over true i ≤ place → is_in_time true i place ≡ false
@@ -73,8 +73,8 @@ not_in_time i place over = elim (cases_eq i 0) [
       ap (λ b. if b then nat_le 12 place && nat_lt place 22 else place == 29 + i) (eq-eqb i 0 zero)
       ∙ ap (λ b. nat_le 12 place && b) (le-ltb place 22 late) ∙ and_false (nat_le 12 place)
   | inr some ↦
-      let late : 30 + i ≤ place = omega (arith, over, over_next i (omega (arith, some))) in
-      ap (λ b. if b then nat_le 12 place && nat_lt place 22 else place == 29 + i) (ne_eqb i 0 some) ∙ ne_eqb place (29 + i) (λ e. omega (arith, e, late))
+      let late : 30 + i ≤ place = omega (arith, over, over_next i (omega arith)) in
+      ap (λ b. if b then nat_le 12 place && nat_lt place 22 else place == 29 + i) (ne_eqb i 0 some) ∙ ne_eqb place (29 + i) (λ e. omega arith)
 ]
 
 -- After m steps, and accesses in these places, nothing is lost and each byte was given.
@@ -117,7 +117,7 @@ NoneOver m = (i : ℕ) → i < 256 → 64 * time_over true i ≤ m + 1 → 64 * 
 over_cases : (i : ℕ) → ((i ≡ 0) × (time_over true i ≡ 22)) ⊎ ((1 ≤ i) × (time_over true i ≡ 30 + i))
 over_cases i = elim (cases_eq i 0) [
   | inl zero ↦ inl (zero, over_first i zero)
-  | inr some ↦ let more : 1 ≤ i = omega (arith, some) in inr (more, over_next i more)
+  | inr some ↦ let more : 1 ≤ i = omega arith in inr (more, over_next i more)
 ]
 
 none_over : (m : ℕ) → (m + 1 ≡ 64 * 22 → ⊥) → ((i : ℕ) → 1 ≤ i → i < 256 → m + 1 ≡ 64 * (30 + i) → ⊥) → NoneOver m
@@ -125,12 +125,12 @@ unfolding NoneOver
 none_over m not_first not_next i inside over = elim (over_cases i) [
   | inl first ↦
       elim (cases_lt m (64 * time_over true i)) [
-        | inl new ↦ absurd (not_first (omega (arith, new, over, first.1)))
+        | inl new ↦ absurd (not_first (omega (arith, over, first.1)))
         | inr old ↦ old
       ]
   | inr next ↦
       elim (cases_lt m (64 * time_over true i)) [
-        | inl new ↦ absurd (not_next i next.0 inside (omega (arith, new, over, next.1)))
+        | inl new ↦ absurd (not_next i next.0 inside (omega (arith, over, next.1)))
         | inr old ↦ old
       ]
 ]
@@ -146,20 +146,20 @@ plain t k s x m ps none command angle kept drq is = record {
   kept = kept ∙ is.kept;
   drq = drq;
   served = λ i inside over. is.served i inside (none i inside over);
-  ahead = λ p more. is.ahead p (omega (arith, more));
-  early = λ low. is.early (omega (arith, low));
+  ahead = λ p more. is.ahead p (omega arith);
+  early = λ low. is.early (omega arith);
 }
 
 -- nothing comes in another place before the bytes
 same_wants : (m : ℕ) (ps : List ℕ) → (m + 1 ≡ 64 * 12 → ⊥) → (m + 1 ≡ 64 * 22 → ⊥) → m + 1 < 64 * 30 → wants ((m + 1) / 64) ps ≡ wants (m / 64) ps
 same_wants m ps not_12 not_22 early = elim (cases_lt (m / 64) 12) [
-  | inl low ↦ wants_none ((m + 1) / 64) ps (omega (arith, low, not_12)) ∙ sym (wants_none (m / 64) ps low)
+  | inl low ↦ wants_none ((m + 1) / 64) ps (omega arith) ∙ sym (wants_none (m / 64) ps low)
   | inr more ↦
       elim (cases_lt (m / 64) 22) [
         | inl first ↦
-            wants_first ((m + 1) / 64) ps (omega (arith, more)) (omega (arith, first, not_22)) ∙ sym (wants_first (m / 64) ps more first)
+            wants_first ((m + 1) / 64) ps (omega arith) (omega arith) ∙ sym (wants_first (m / 64) ps more first)
         | inr late ↦
-            wants_no_more ((m + 1) / 64) ps (omega (arith, late)) (omega (arith, early)) ∙ sym (wants_no_more (m / 64) ps late (omega (arith, early)))
+            wants_no_more ((m + 1) / 64) ps (omega arith) (omega (arith, early)) ∙ sym (wants_no_more (m / 64) ps late (omega (arith, early)))
       ]
 ]
 
@@ -168,31 +168,31 @@ asks_first : (t : Transfer) (k : ℕ) (s : State) (m : ℕ) (ps : List ℕ) → 
     Fine t k (record (moved_on s k m) { drq = true }) (m + 1) ps
 unfolding moved_on
 asks_first t k s m ps now is =
-    plain t k s (record (moved_on s k m) { drq = true }) m ps (none_over m (λ e. omega (arith, e, now)) (λ i some inside e. omega (arith, e, now)))
-    (λ h. is.command (omega (arith, now))) refl refl
-    (λ h. sym (wants_first ((m + 1) / 64) ps (omega (arith, now)) (omega (arith, now)) ∙ ap not (is.early (omega (arith, now))))) is
+    plain t k s (record (moved_on s k m) { drq = true }) m ps (none_over m (λ e. omega arith) (λ i some inside e. omega arith))
+    (λ h. is.command (omega arith)) refl refl
+    (λ h. sym (wants_first ((m + 1) / 64) ps (omega arith) (omega arith) ∙ ap not (is.early (omega arith)))) is
 
 -- place 22
 looks : (t : Transfer) (k : ℕ) (s : State) (m : ℕ) (ps : List ℕ) → m + 1 ≡ 64 * 22 → s.drq ≡ false → given 0 ps ≡ true → Fine t k s m ps →
     Fine t k (moved_on s k m) (m + 1) ps
 unfolding moved_on
 looks t k s m ps now off had is = record {
-  command = λ h. is.command (omega (arith, h));
+  command = λ h. is.command (omega arith);
   angle = next_place k m;
   kept = is.kept;
-  drq = λ h. off ∙ sym (wants_no_more ((m + 1) / 64) ps (omega (arith, now)) (omega (arith, now)));
+  drq = λ h. off ∙ sym (wants_no_more ((m + 1) / 64) ps (omega arith) (omega arith));
   served = λ i inside over. elim (over_cases i) [
     | inl first ↦ ap (λ n. given n ps) first.0 ∙ had
-    | inr next ↦ absurd (omega (arith, over, now, next.0, next.1))
+    | inr next ↦ absurd (omega (arith, over, next.0, next.1))
   ];
-  ahead = λ p more. is.ahead p (omega (arith, more));
-  early = λ low. absurd (omega (arith, low, now));
+  ahead = λ p more. is.ahead p (omega arith);
+  early = λ low. absurd (omega arith);
 }
 
 -- whether the first byte was given, by whether DRQ asks for it still
 first_asked : (t : Transfer) (k : ℕ) (s : State) (m : ℕ) (ps : List ℕ) (b : Bool) → m + 1 ≡ 64 * 22 → s.drq ≡ b → Fine t k s m ps → given 0 ps ≡ not b
 first_asked t k s m ps b now drq is =
-    let was : s.drq ≡ not (given 0 ps) = is.drq (omega (arith, now)) ∙ wants_first (m / 64) ps (omega (arith, now)) (omega (arith, now)) in
+    let was : s.drq ≡ not (given 0 ps) = is.drq (omega arith) ∙ wants_first (m / 64) ps (omega arith) (omega arith) in
     other_of (given 0 ps) b (sym was ∙ drq) where
       other_of : (a b : Bool) → not a ≡ b → a ≡ not b
       other_of true b is = ap not is
@@ -207,33 +207,33 @@ byte_goes t k s m i ps inside now is =
     let p = put t.target t.target.drive k i (if s.drq then 0 else s.byte) s1 in
     let fine : s.drq ≡ false → given i ps ≡ true → Fine t k (byte_written t.target k i s1) (m + 1) ps =
     λ off had. record {
-      command = λ h. p.command ∙ is.command (omega (arith, h));
+      command = λ h. p.command ∙ is.command (omega arith);
       angle = p.angle ∙ next_place k m;
       kept = ap (λ b. b || s.drq) is.kept ∙ off;
       drq = λ h.
-          let set : (i == 255) ≡ false = ne_eqb i 255 (λ e. omega (arith, e, h, now)) in
+          let set : (i == 255) ≡ false = ne_eqb i 255 (λ e. omega arith) in
           ap (λ b. b || not (i == 255)) off ∙ ap not set
-          ∙ sym (wants_next ((m + 1) / 64) ps (omega (arith, now)) ∙ ap not (is.ahead ((m + 1) / 64) (omega (arith, now))));
+          ∙ sym (wants_next ((m + 1) / 64) ps (omega arith) ∙ ap not (is.ahead ((m + 1) / 64) (omega arith)));
       served = λ j few over. elim (cases_eq j i) [
         | inl same ↦ ap (λ n. given n ps) same ∙ had
         | inr other ↦
             is.served j few (elim (over_cases j) [
-              | inl first ↦ omega (arith, first.1, now)
-              | inr next ↦ omega (arith, next.1, over, now, other)
+              | inl first ↦ omega (arith, first.1)
+              | inr next ↦ omega (arith, next.1, over)
             ])
       ];
-      ahead = λ q more. is.ahead q (omega (arith, more));
-      early = λ low. absurd (omega (arith, low, now));
+      ahead = λ q more. is.ahead q (omega arith);
+      early = λ low. absurd (omega arith);
     } in
     elim (cases_eq i 0) [
       | inl zero ↦
-          let off : s.drq ≡ false = is.drq (omega (arith, now, zero)) ∙ wants_no_more (m / 64) ps (omega (arith, now, zero)) (omega (arith, now, zero)) in
-          inl (fine off (ap (λ n. given n ps) zero ∙ is.served 0 (omega arith) (omega (arith, now))))
+          let off : s.drq ≡ false = is.drq (omega arith) ∙ wants_no_more (m / 64) ps (omega arith) (omega arith) in
+          inl (fine off (ap (λ n. given n ps) zero ∙ is.served 0 (omega arith) (omega arith)))
       | inr some ↦
-          let more : 1 ≤ i = omega (arith, some) in
-          let where_it_is : m / 64 ≡ 29 + i = omega (arith, now) in
+          let more : 1 ≤ i = omega arith in
+          let where_it_is : m / 64 ≡ 29 + i = omega arith in
           let was : s.drq ≡ not (given i ps) =
-          is.drq (omega (arith, now, inside)) ∙ wants_next (m / 64) ps (omega (arith, now, more)) ∙ ap not (sym (given_in i (m / 64) ps more where_it_is)) in
+          is.drq (omega (arith, inside)) ∙ wants_next (m / 64) ps (omega arith) ∙ ap not (sym (given_in i (m / 64) ps more where_it_is)) in
           elim (bool_cases (given i ps)) [
             | inl had ↦ inl (fine (was ∙ ap not had) had)
             | inr none ↦
@@ -242,7 +242,7 @@ byte_goes t k s m i ps inside now is =
                   lost = ap (λ b. s.lost_data || b) on ∙ or_true s.lost_data;
                   byte = i;
                   inside = inside;
-                  over = omega (arith, over_next i more, now);
+                  over = omega (arith, over_next i more);
                   missed = none;
                 })
           ]
@@ -254,12 +254,12 @@ ends_so : (b : Bool) (t : Transfer) (k : ℕ) (s : State) (m : ℕ) (ps : List �
 unfolding moved_on
 ends_so true t k s m ps now is =
     plain t k s (record (moved_on s k m) { sector = ((moved_on s k m).sector + 1) % 256; command = search_of t }) m ps
-    (none_over m (λ e. omega (arith, e, now)) (λ i some inside e. omega (arith, e, now, inside))) (λ h. absurd (omega (arith, h, now))) refl refl
-    (λ h. absurd (omega (arith, h, now))) is
+    (none_over m (λ e. omega arith) (λ i some inside e. omega (arith, inside))) (λ h. absurd (omega arith)) refl refl
+    (λ h. absurd (omega arith)) is
 ends_so false t k s m ps now is =
     plain t k s (finish_leaves (moved_on s k m)) m ps
-    (none_over m (λ e. omega (arith, e, now)) (λ i some inside e. omega (arith, e, now, inside))) (λ h. absurd (omega (arith, h, now))) refl refl
-    (λ h. absurd (omega (arith, h, now))) is
+    (none_over m (λ e. omega arith) (λ i some inside e. omega (arith, inside))) (λ h. absurd (omega arith)) refl refl
+    (λ h. absurd (omega arith)) is
 
 at_place : (t : Transfer) (k : ℕ) (s : State) (m : ℕ) (ps : List ℕ) → m < 18432 → (m + 1) % 64 ≡ 0 → Fine t k s m ps →
     Either t k (writing_at t k (Some ((m + 1) / 64)) (moved_on s k m)) (m + 1) ps
@@ -267,25 +267,25 @@ unfolding moved_on
 at_place t k s m ps inside is_place is =
     let place = (m + 1) / 64 in
     let s1 = moved_on s k m in
-    by_place (λ x. Either t k x (m + 1) ps) t k place s1 (λ first. inl (asks_first t k s m ps (omega (arith, first, is_place)) is))
+    by_place (λ x. Either t k x (m + 1) ps) t k place s1 (λ first. inl (asks_first t k s m ps (omega arith) is))
     (λ look on.
-    let missed = first_asked t k s m ps true (omega (arith, look, is_place)) on is in
-    inr (record { lost = refl; byte = 0; inside = omega arith; over = omega (arith, look, is_place); missed = missed }))
-    (λ late low. byte_goes t k s m (place - 30) ps (omega (arith, low)) (omega (arith, late, is_place)) is)
-    (λ end. inl (ends_so t.multiple t k s m ps (omega (arith, end, is_place)) is))
+    let missed = first_asked t k s m ps true (omega arith) on is in
+    inr (record { lost = refl; byte = 0; inside = omega arith; over = omega arith; missed = missed }))
+    (λ late low. byte_goes t k s m (place - 30) ps (omega arith) (omega arith) is)
+    (λ end. inl (ends_so t.multiple t k s m ps (omega arith) is))
     (λ not_first off where_it_is other. inl (elim (cases_eq place 22) [
       | inl look ↦
-          let now : m + 1 ≡ 64 * 22 = omega (arith, look, is_place) in looks t k s m ps now (off look) (first_asked t k s m ps false now (off look) is) is
+          let now : m + 1 ≡ 64 * 22 = omega arith in looks t k s m ps now (off look) (first_asked t k s m ps false now (off look) is) is
       | inr no_look ↦
           elim where_it_is [
             | inl early ↦
-                plain t k s s1 m ps (none_over m (λ e. no_look (omega (arith, e))) (λ i some few e. omega (arith, e, early))) (λ h. is.command inside) refl refl
-                (λ h. is.drq (omega (arith, h)) ∙ sym
-                (same_wants m ps (λ e. not_first (omega (arith, e))) (λ e. no_look (omega (arith, e))) (omega (arith, early, is_place)))) is
+                plain t k s s1 m ps (none_over m (λ e. no_look (omega arith)) (λ i some few e. omega (arith, early))) (λ h. is.command inside) refl refl
+                (λ h. is.drq (omega arith) ∙ sym
+                (same_wants m ps (λ e. not_first (omega arith)) (λ e. no_look (omega arith)) (omega (arith, early)))) is
             | inr high ↦
-                plain t k s s1 m ps (none_over m (λ e. no_look (omega (arith, e))) (λ i some few e. omega (arith, e, high, few)))
+                plain t k s s1 m ps (none_over m (λ e. no_look (omega arith)) (λ i some few e. omega arith))
                 (λ h. is.command inside) refl refl
-                (λ h. absurd (omega (arith, h, high))) is
+                (λ h. absurd (omega arith)) is
           ]
     ]))
 
@@ -293,9 +293,9 @@ at_place t k s m ps inside is_place is =
 at_none : (t : Transfer) (k : ℕ) (s : State) (m : ℕ) (ps : List ℕ) → m < 18432 → ((m + 1) % 64 ≡ 0 → ⊥) → Fine t k s m ps → Fine t k (moved_on s k m) (m + 1) ps
 unfolding moved_on
 at_none t k s m ps inside none is =
-    let same : m / 64 ≡ (m + 1) / 64 = omega (arith, none) in
-    plain t k s (moved_on s k m) m ps (none_over m (λ e. none (omega (arith, e))) (λ i some few e. none (omega (arith, e)))) (λ h. is.command inside) refl refl
-    (λ h. is.drq (omega (arith, h)) ∙ ap (λ n. wants n ps) same) is
+    let same : m / 64 ≡ (m + 1) / 64 = omega arith in
+    plain t k s (moved_on s k m) m ps (none_over m (λ e. none (omega arith)) (λ i some few e. none (omega arith))) (λ h. is.command inside) refl refl
+    (λ h. is.drq (omega arith) ∙ ap (λ n. wants n ps) same) is
 
 stepped : (t : Transfer) (k : ℕ) → k < 10 → t.writes ≡ true → (s : State) (m : ℕ) (ps : List ℕ) → m < 18432 → Either t k s m ps → Either t k (step s) (m + 1) ps
 unfolding moved_on
@@ -337,7 +337,7 @@ accessed t k true s x m ps acc (inl is) = inl (record {
   kept = acc.lost ∙ is.kept;
   drq = λ h. acc.drq ∙ sym (wants_after m ps);
   served = λ i inside over. any_stays (is_in_time true i) ps (m / 64) (is.served i inside over);
-  ahead = λ p more. any_other (λ q. q == p) ps (m / 64) (is.ahead p more) (ne_eqb (m / 64) p (λ e. omega (arith, e, more)));
+  ahead = λ p more. any_other (λ q. q == p) ps (m / 64) (is.ahead p more) (ne_eqb (m / 64) p (λ e. omega arith));
   early = λ low. any_other (is_in_time true 0) ps (m / 64) (is.early low) (ap (λ b. b && nat_lt (m / 64) 22) (lt-leb 12 (m / 64) low));
 })
 accessed t k false s x m ps acc (inl is) =
@@ -406,7 +406,7 @@ pub after_reads : (s : State) (t : Transfer) (k : ℕ) (events : List Event) →
     AllLetGo events → count_steps events ≤ sector_steps →
     Taken (of_sector t k) (history events s) (count_steps events) (accesses 0 events)
 after_reads s t k events at few kept reads all most =
-    reads_run (of_sector t k) (sector_goes t k few reads) (omega arith) events s all (omega (arith, most)) at.command at.angle kept at.drq
+    reads_run (of_sector t k) (sector_goes t k few reads) (omega arith) events s all (omega arith) at.command at.angle kept at.drq
 
 kept_so : (b : Bool) (s : State) (t : Transfer) (k : ℕ) (events : List Event) → t.writes ≡ b → IsAtSector s t k → k < 10 → s.lost_data ≡ false →
     AllLetGo events → count_steps events ≤ sector_steps → ((i : ℕ) → IsOver b i (count_steps events) → is_served b i events ≡ true) →
@@ -444,9 +444,9 @@ pub served : (s : State) (t : Transfer) (k : ℕ) (events : List Event) → IsAt
     AllRead events → count_steps events ≡ sector_steps → IsInTime false events → Served (history events s)
 unfolding has_place
 served s t k events at few kept reads all count in_time =
-    elim (after_reads s t k events at few kept reads (lets_go reading s events all) (omega (arith, count))) [
-      | inl fine ↦ record { kept = fine.kept; off = fine.last_taken (omega (arith, count)) (in_time 255 (omega arith)) }
-      | inr missed ↦ absurd (true≢false (sym (in_time missed.byte (let small = missed.inside in omega (arith, small))) ∙ missed.missed))
+    elim (after_reads s t k events at few kept reads (lets_go reading s events all) (omega arith)) [
+      | inl fine ↦ record { kept = fine.kept; off = fine.last_taken (omega arith) (in_time 255 (omega arith)) }
+      | inr missed ↦ absurd (true≢false (sym (in_time missed.byte (let small = missed.inside in omega arith)) ∙ missed.missed))
     ]
 
 pub whole : (s : State) (t : Transfer) (k : ℕ) (d : Image) (bytes : List ℕ) (events : List Event) →
@@ -463,7 +463,7 @@ reads_in_time = record {
   whole = whole;
   commanded = λ s v d bytes settles waits reads low high is has all count in_time.
       let t = transfer_of v s in
-      let found = starts s v settles waits low (omega (arith, high)) is in
+      let found = starts s v settles waits low (omega arith) is in
       let s1 = found_after v settles waits s in
       let on_disc : HasBytes s1 t s.sector d bytes = record { disc = found.disc ∙ has.disc; sector = has.sector } in
       whole s1 t s.sector d bytes reads found.at on_disc (is_read v low high) found.lost all count in_time;
@@ -476,7 +476,7 @@ whole_written : (back : IsReadBack) (others : OthersStay) (s : State) (t : Trans
 whole_written back others s t k d events at here has writes kept all count in_time =
     let few : k < 10 = ltb-true k 10 (and_parts _ _ has).1 in
     let end : (history events s).lost_data ≡ false =
-    writes_kept s t k events at few kept writes (lets_go writing s events all) (omega (arith, count)) (λ i over. in_time i over.byte) in
+    writes_kept s t k events at few kept writes (lets_go writing s events all) (omega arith) (λ i over. in_time i over.byte) in
     let law = sector_written back others in
     (law.stored s t k d events at here has writes all count end, law.end s t k d events at here has writes all count end)
 
@@ -490,7 +490,7 @@ writes_in_time back others = record {
   whole = whole_written back others;
   commanded = λ s v d settles waits writes low high is here all count in_time.
       let t = transfer_of v s in
-      let found = starts s v settles waits (omega (arith, low)) high is in
+      let found = starts s v settles waits (omega arith) high is in
       let s1 = found_after v settles waits s in
       let has : has_sector d.kind t.target.side t.target.head s.sector ≡ true =
       on_disc (disc_in t.target.drive s) d t s.sector here (and_parts _ _ (and_parts _ _ is.has).1).1 in

@@ -97,7 +97,7 @@ run c last s0 counts [] s m all most is =
 run c last s0 counts (microsecond ∷ es) s m all most is =
     let same : m + 1 + count_steps es ≡ m + (count_steps es + 1) = omega arith in
     subst (λ n. Waited s0 (c n) (history es (step s)) n) same
-    (run c last s0 counts es (step s) (m + 1) all.1 (omega (arith, most)) (one_step c last s0 counts s m (omega (arith, most)) is))
+    (run c last s0 counts es (step s) (m + 1) all.1 (omega arith) (one_step c last s0 counts s m (omega arith) is))
 run c last s0 counts (read reg ∷ es) s m all most is = run c last s0 counts es (read_leaves reg s) m all.1 most (waited_read s0 (c m) reg s m is)
 run c last s0 counts (write reg v ∷ es) s m all most is = absurd all.0
 run c last s0 counts (latch v ∷ es) s m all most is = absurd all.0
@@ -119,14 +119,14 @@ at_first c s is =
       not_found = refl;
       lost = refl;
       drq = λ off. off;
-      angle = omega (arith, small);
+      angle = omega arith;
     }
 
 pub waits_from : (c : ℕ → Command) (last : ℕ) (s : State) → CountsFrom s c last → (events : List Event) → AllWait events → count_steps events ≤ last →
     s.command ≡ c 0 → Waited s (c (count_steps events)) (history events s) (count_steps events)
 waits_from c last s counts events all most is =
     let none_first : 0 + count_steps events ≡ count_steps events = omega arith in
-    subst (λ n. Waited s (c n) (history events s) n) none_first (run c last s counts events s 0 all (omega (arith, most)) (at_first (c 0) s is))
+    subst (λ n. Waited s (c n) (history events s) n) none_first (run c last s counts events s 0 all (omega arith) (at_first (c 0) s is))
 
 pub waits_so : (c : ℕ → Command) (last : ℕ) → CountsDown c last → (events : List Event) (s : State) → AllWait events → count_steps events ≤ last →
     s.command ≡ c 0 → Waited s (c (count_steps events)) (history events s) (count_steps events)

@@ -82,8 +82,8 @@ same_kind side track sector i v d =
 owed_behind : (i : ℕ) (drq : Bool) → drq ≡ false → i < 256 → i + 1 + owed (drq || not (i == 255)) ≡ min 256 (i + 2)
 unfolding owed
 owed_behind i drq off low = elim (cases_eq i 255) [
-  | inl last ↦ rw (off, eq-eqb i 255 last) (omega (arith, last))
-  | inr other ↦ rw (off, ne_eqb i 255 other) (omega (arith, low, other))
+  | inl last ↦ rw (off, eq-eqb i 255 last) (omega arith)
+  | inr other ↦ rw (off, ne_eqb i 255 other) (omega arith)
 ]
 
 last_of : (i : ℕ) (drq : Bool) → (drq || not (i == 255)) ≡ false → i ≡ 255
@@ -97,7 +97,7 @@ last_of i drq off = elim (cases_eq i 255) [
 
 -- places of a sector differ
 places_differ : (kind : Kind) (side track k i j : ℕ) → place kind side track k j ≡ place kind side track k i → j ≡ i
-places_differ kind side track k i j e = omega (arith, e)
+places_differ kind side track k i j e = omega arith
 
 -- ---- What a step at a place does.
 
@@ -124,11 +124,11 @@ by_place P t k place s first late byte end none = elim (cases_eq place 12) [
               | inl on ↦
                   let parts = and_parts _ _ on in rw (ne_eqb place 12 not_12, on) (late (eqb-true place 22 parts.0) parts.1)
               | inr off ↦
-                  rw (ne_eqb place 12 not_12, off, before_bytes place early, ne_eqb place 288 (λ e. omega (arith, e, early)))
-                  (none not_12 (λ is. sym (ap (λ b. b && s.drq) (eq-eqb place 22 is)) ∙ off) (inl early) (λ e. omega (arith, e, early)))
+                  rw (ne_eqb place 12 not_12, off, before_bytes place early, ne_eqb place 288 (λ e. omega arith))
+                  (none not_12 (λ is. sym (ap (λ b. b && s.drq) (eq-eqb place 22 is)) ∙ off) (inl early) (λ e. omega arith))
             ]
         | inr from ↦
-            let not_22 : (place == 22) ≡ false = ne_eqb place 22 (λ e. omega (arith, e, from)) in
+            let not_22 : (place == 22) ≡ false = ne_eqb place 22 (λ e. omega arith) in
             elim (cases_lt place 286) [
               | inl to ↦ rw (ne_eqb place 12 not_12, not_22, byte_place place from to) (byte from to)
               | inr over ↦
@@ -136,7 +136,7 @@ by_place P t k place s first late byte end none = elim (cases_eq place 12) [
                     | inl is ↦ rw (ne_eqb place 12 not_12, not_22, behind_bytes place over, eq-eqb place 288 is) (end is)
                     | inr other ↦
                         rw (ne_eqb place 12 not_12, not_22, behind_bytes place over, ne_eqb place 288 other)
-                        (none not_12 (λ e. absurd (omega (arith, e, from))) (inr over) other)
+                        (none not_12 (λ e. absurd (omega arith)) (inr over) other)
                   ]
             ]
       ]
@@ -145,9 +145,9 @@ by_place P t k place s first late byte end none = elim (cases_eq place 12) [
 pub w_end : (t : Transfer) (k place : ℕ) (s : State) → place ≡ 288 → writing_at t k (Some place) s ≡ sector_ended t s
 w_end t k place s is =
     rw (
-      ne_eqb place 12 (λ e. omega (arith, e, is)),
-      ne_eqb place 22 (λ e. omega (arith, e, is)),
-      behind_bytes place (omega (arith, is)),
+      ne_eqb place 12 (λ e. omega arith),
+      ne_eqb place 22 (λ e. omega arith),
+      behind_bytes place (omega arith),
       eq-eqb place 288 is,
     ) refl
 
@@ -215,7 +215,7 @@ module _ (d : Image) (t : Transfer) (k : ℕ) where
       (m + 1 ≡ 18432 → ⊥) → Inside s m bytes → Inside (moved_on s k m) (m + 1) bytes
   unfolding moved_on
   passes s m bytes inside same none early is =
-      plain s (moved_on s k m) m bytes is (λ h. is.going inside) (λ h. absurd (early (omega (arith, h, inside)))) refl refl refl refl same (is.count ∙ sym none)
+      plain s (moved_on s k m) m bytes is (λ h. is.going inside) (λ h. absurd (early (omega arith))) refl refl refl refl same (is.count ∙ sym none)
       (λ off more. is.pending off (subst (λ n. gone m < n) none more))
 
   -- DRQ becomes set for the first byte
@@ -223,18 +223,18 @@ module _ (d : Image) (t : Transfer) (k : ℕ) where
       Inside (record (moved_on s k m) { drq = true }) (m + 1) bytes
   unfolding moved_on gone asked owed
   asks_first s m bytes now is =
-      let none : length bytes ≡ 0 = omega (arith, is.count, now) in
-      plain s (record (moved_on s k m) { drq = true }) m bytes is (λ h. is.going (omega (arith, now))) (λ h. absurd (omega (arith, h, now))) refl refl refl refl
-      (omega (arith, now)) (omega (arith, now, none)) (λ off. absurd (true≢false off))
+      let none : length bytes ≡ 0 = omega (arith, is.count) in
+      plain s (record (moved_on s k m) { drq = true }) m bytes is (λ h. is.going (omega arith)) (λ h. absurd (omega arith)) refl refl refl refl
+      (omega arith) (omega arith) (λ off. absurd (true≢false off))
 
   ends_so : (s : State) (m : ℕ) (bytes : List ℕ) → m + 1 ≡ 18432 →
       Inside s m bytes → Inside (sector_ended t (moved_on s k m)) (m + 1) bytes
   unfolding moved_on gone asked owed
   ends_so s m bytes now is =
       let end = ended_by t.multiple t (moved_on s k m) refl in
-      let same : asked (m + 1) ≡ asked m = omega (arith, now) in
-      plain s (sector_ended t (moved_on s k m)) m bytes is (λ h. absurd (omega (arith, h, now))) (λ h. end.command) end.angle end.drive0 end.drive1 end.byte
-      (omega (arith, now)) (ap (λ b. length bytes + owed b) end.drq ∙ is.count ∙ sym same)
+      let same : asked (m + 1) ≡ asked m = omega arith in
+      plain s (sector_ended t (moved_on s k m)) m bytes is (λ h. absurd (omega arith)) (λ h. end.command) end.angle end.drive0 end.drive1 end.byte
+      (omega arith) (ap (λ b. length bytes + owed b) end.drq ∙ is.count ∙ sym same)
       (λ off more. is.pending (sym end.drq ∙ off) (subst (λ n. gone m < n) same more))
 
   -- ---- Accesses.
@@ -272,9 +272,9 @@ module _ (d : Image) (t : Transfer) (k : ℕ) where
         disc = same_disc t.target.drive (write_leaves 3 v s) s refl refl ∙ is.disc;
         kind = is.kind;
         count = ap (λ n. n + 0) more ∙ let e : length bytes + 1 + 0 ≡ length bytes + 1 = omega arith in e ∙ all;
-        enough = omega (arith, is.enough, more);
-        stored = λ i low. is.stored i low ∙ sym (get_or_append_left bytes (v ∷ []) 0 i (omega (arith, low, is.enough)));
-        pending = λ off fewer. get_or_push bytes v 0 (gone m) (omega (arith, all, is.enough));
+        enough = omega (arith, is.enough);
+        stored = λ i low. is.stored i low ∙ sym (get_or_append_left bytes (v ∷ []) 0 i (omega (arith, is.enough)));
+        pending = λ off fewer. get_or_push bytes v 0 (gone m) (omega (arith, is.enough));
         others = is.others;
       }
 
@@ -283,7 +283,7 @@ module _ (d : Image) (t : Transfer) (k : ℕ) where
       Inside s m bytes → Inside (happens e s) m (bytes ++ given_by e)
   accessed microsecond s m bytes access may acc is = absurd access
   accessed (read reg) s m bytes access may acc is =
-      leaves_it s (read_leaves reg s) m bytes (subst (λ b. Accessed b s (read_leaves reg s)) (ne_eqb reg 3 (λ e. omega (arith, e, may))) acc) is
+      leaves_it s (read_leaves reg s) m bytes (subst (λ b. Accessed b s (read_leaves reg s)) (ne_eqb reg 3 (λ e. omega arith)) acc) is
   accessed (write reg v) s m bytes access may acc is = elim (cases_eq reg 3) [
     | inl three ↦
         subst (λ r. Inside (write_leaves r v s) m (bytes ++ given_by (write r v))) (sym three) (byte_given s v m bytes (may.2 three) is)
@@ -304,15 +304,15 @@ module _ (d : Image) (t : Transfer) (k : ℕ) where
   unfolding gone asked owed
   begins s at here = record {
     going = λ h. at.command;
-    over = λ h. absurd (omega (arith, h));
+    over = λ h. absurd (omega arith);
     angle = at.angle ∙ ap (λ (n : ℕ). Some n) (let e : 64 * (312 * k) ≡ 64 * (312 * k) + 0 = omega arith in e);
     now = d;
     disc = here;
     kind = refl;
     count = ap (λ b. 0 + owed b) at.drq;
     enough = omega arith;
-    stored = λ i low. absurd (omega (arith, low));
-    pending = λ off more. absurd (omega (arith, more));
+    stored = λ i low. absurd (omega arith);
+    pending = λ off more. absurd (omega arith);
     others = λ n apart. refl;
   }
 
@@ -344,7 +344,7 @@ module _ (d : Image) (t : Transfer) (k : ℕ) where
       false_from_ne_true s.drq (λ on.
       let all : length bytes + 1 ≡ asked 18432 = ap (λ b. length bytes + owed b) (sym on) ∙ is.count in
       let enough = is.enough in
-      omega (arith, all, enough))
+      omega arith)
 
 -- Byte i is written.
 byte_goes : (back : IsReadBack) (others : OthersStay) (d : Image) (t : Transfer) (k : ℕ) (s : State) (m i : ℕ) (bytes : List ℕ) →
@@ -358,16 +358,16 @@ byte_goes back others d t k s m i bytes has inside low now off is =
     let head = t.target.head in
     let p = put t.target t.target.drive k i v s1 in
     let has_it : has_sector is.now.kind side head k ≡ true = ap (λ kind. has_sector kind side head k) is.kind ∙ has in
-    let here : gone m ≡ i = omega (arith, now, low) in
-    let there : gone (m + 1) ≡ i + 1 = omega (arith, now, low) in
-    let had : asked m ≡ i + 1 = omega (arith, now, low) in
-    let wants : asked (m + 1) ≡ min 256 (i + 2) = omega (arith, now, low) in
+    let here : gone m ≡ i = omega arith in
+    let there : gone (m + 1) ≡ i + 1 = omega arith in
+    let had : asked m ≡ i + 1 = omega arith in
+    let wants : asked (m + 1) ≡ min 256 (i + 2) = omega arith in
     let long : length bytes ≡ i + 1 = sym (omega arith) ∙ ap (λ b. length bytes + owed b) (sym off) ∙ is.count ∙ had in
     let is_v : v ≡ s.byte = ap (λ b. if b then 0 else s.byte) off in
-    let last : get_or bytes i 0 ≡ s.byte = ap (λ n. get_or bytes n 0) (sym here) ∙ is.pending off (omega (arith, here, had)) in
+    let last : get_or bytes i 0 ≡ s.byte = ap (λ n. get_or bytes n 0) (sym here) ∙ is.pending off (omega arith) in
     record {
       going = λ h. p.command ∙ is.going inside;
-      over = λ h. absurd (omega (arith, h, now, low));
+      over = λ h. absurd (omega arith);
       angle = p.angle ∙ next_place k m;
       now = byte_put side head k i v is.now;
       disc =
@@ -375,7 +375,7 @@ byte_goes back others d t k s m i bytes has inside low now off is =
           ∙ p.disc is.now (same_disc t.target.drive s1 s refl refl ∙ is.disc);
       kind = same_kind side head k i v is.now ∙ is.kind;
       count = ap (λ n. n + owed (s.drq || not (i == 255))) long ∙ owed_behind i s.drq off low ∙ sym wants;
-      enough = omega (arith, there, long);
+      enough = omega arith;
       stored = λ j before. elim (cases_eq j i) [
         | inl same ↦
             ap (λ n. byte_at (byte_put side head k i v is.now) (place d.kind side head k n)) same
@@ -384,9 +384,9 @@ byte_goes back others d t k s m i bytes has inside low now off is =
         | inr other ↦
             others is.now side head k i v (place d.kind side head k j) has_it low
             (λ e. other (places_differ d.kind side head k i j (e ∙ ap (λ kind. place kind side head k i) is.kind)))
-            ∙ is.stored j (omega (arith, before, there, here, other))
+            ∙ is.stored j (omega arith)
       ];
-      pending = λ none more. absurd (omega (arith, more, there, wants, last_of i s.drq none));
+      pending = λ none more. absurd (omega (arith, last_of i s.drq none));
       others = λ n apart.
           others is.now side head k i v n has_it low (λ e. apart i low (e ∙ ap (λ kind. place kind side head k i) is.kind)) ∙ is.others n apart;
     }
@@ -400,14 +400,14 @@ unfolding moved_on gone asked
 at_place back others d t k s m bytes has inside is_place is =
     let place = (m + 1) / 64 in
     by_place (λ x. x.lost_data ≡ false → Inside d t k x (m + 1) bytes) t k place (moved_on s k m)
-    (λ first kept. asks_first d t k s m bytes (omega (arith, first, is_place)) is) (λ late on kept. absurd (true≢false kept))
+    (λ first kept. asks_first d t k s m bytes (omega arith) is) (λ late on kept. absurd (true≢false kept))
     (λ late low kept.
-    byte_goes back others d t k s m (place - 30) bytes has inside (omega (arith, low)) (omega (arith, late, is_place)) (or_parts s.lost_data s.drq kept).1 is)
-    (λ end kept. ends_so d t k s m bytes (omega (arith, end, is_place)) is)
+    byte_goes back others d t k s m (place - 30) bytes has inside (omega arith) (omega arith) (or_parts s.lost_data s.drq kept).1 is)
+    (λ end kept. ends_so d t k s m bytes (omega arith) is)
     (λ not_first off where_it_is other kept. elim where_it_is [
       | inl early ↦
-          passes d t k s m bytes inside (omega (arith, early, is_place)) (omega (arith, early, not_first, is_place)) (λ e. omega (arith, e, early)) is
-      | inr high ↦ passes d t k s m bytes inside (omega (arith, high, is_place)) (omega (arith, high, is_place)) (λ e. other (omega (arith, e))) is
+          passes d t k s m bytes inside (omega arith) (omega arith) (λ e. omega arith) is
+      | inr high ↦ passes d t k s m bytes inside (omega arith) (omega arith) (λ e. other (omega arith)) is
     ])
 
 pub stepped : (back : IsReadBack) (others : OthersStay) (d : Image) (t : Transfer) (k : ℕ) (s : State) (m : ℕ) (bytes : List ℕ) → k < 10 →
@@ -420,7 +420,7 @@ stepped back others d t k s m bytes few has writes inside is kept =
     (at_each (writing_at t k) (λ x. x.lost_data ≡ false → Inside d t k x (m + 1) bytes) k m s1 (work_leaves s)
     (worked_is s t k m few inside (is.going inside) is.angle ∙ writes_is t k (64 * (312 * k) + m + 1) s1 writes)
     (λ place. at_place back others d t k s m bytes has inside place is)
-    (λ none kept. passes d t k s m bytes inside (omega (arith, none)) (omega (arith, none)) (λ e. none (omega (arith, e))) is) kept)
+    (λ none kept. passes d t k s m bytes inside (omega arith) (omega arith) (λ e. none (omega arith)) is) kept)
 
 from_start : (back : IsReadBack) (others : OthersStay) (s : State) (t : Transfer) (k : ℕ) (d : Image) (events : List Event) →
     IsAtSector s t k → disc_in t.target.drive s ≡ Some d → has_sector d.kind t.target.side t.target.head k ≡ true → t.writes ≡ true →
