@@ -159,10 +159,10 @@ other_one left p q x y colour frame here apart = by_test (is_in_frame left x y) 
       let to2 = here.to in
       let top2 = here.top in
       get_or-set_other frame (dot_index left x y) (dot_index left p q) colour 0 (λ same. elim apart [
-        | inl line ↦ line (omega (arith, from, to, top))
+        | inl line ↦ line (omega arith)
         | inr beside ↦ elim beside [
-          | inl before ↦ omega (arith, from, to, top)
-          | inr after ↦ omega (arith, from, to, top)
+          | inl before ↦ omega arith
+          | inr after ↦ omega arith
         ]
       ])
 
@@ -193,7 +193,7 @@ one left x y colour frame is long =
     let top = i.top in
     let bottom = i.bottom in
     ap (λ b. slice_index (if b then slice_set frame (dot_index left x y) colour else frame) (dot_index left x y)) is
-    ∙ get_or-set_same frame (dot_index left x y) colour 0 (omega (arith, from, to, top, bottom))
+    ∙ get_or-set_same frame (dot_index left x y) colour 0 (omega arith)
 
 pub drawn_dot : (left x y d : ℕ) (dots frame : List ℕ) → d < length dots → is_in_frame left (x + d) y ≡ true → length frame ≡ 163840 →
     slice_index (dots_set left x y dots frame) (dot_index left (x + d) y) ≡ slice_index dots d

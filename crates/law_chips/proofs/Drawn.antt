@@ -182,7 +182,7 @@ module _ (laws : Laws) (left : ℕ) (ram : ℕ → List ℕ) (size : ℕ → ℕ
       ∙ ap (λ k. slice_index (if k then dots_set left place.x place.y (dots n) frame else frame) (dot_index left p q)) is
       ∙ ap (λ k. slice_index (dots_set left k place.y (dots n) frame) (dot_index left p q)) column
       ∙ ap (λ k. slice_index (dots_set left (a % w * dots_of s.ula.control) k (dots n) frame) (dot_index left p q)) level
-      ∙ drawn_dot left (a % w * dots_of s.ula.control) q d (dots n) frame (omega (arith, many)) here long
+      ∙ drawn_dot left (a % w * dots_of s.ula.control) q d (dots n) frame (omega arith) here long
 
   -- and it stays to the end of the frame
   drawn_later : (n t a d colour : ℕ) → MakesFrames s.crtc →

@@ -155,7 +155,7 @@ characters lines c bits begins (suc n) =
       | inr o ↦
           let more : suc n % w ≡ n % w + 1 = ap (λ k. k % w) (sym g) ∙ o.0 in
           let inner : n % w + 1 < w = o.1.1 in
-          let some : (y.character == 0) ≡ false = law ∙ test_false (suc n % w) 0 (λ none. omega (arith, none)) in
+          let some : (y.character == 0) ≡ false = law ∙ test_false (suc n % w) 0 (λ none. omega arith) in
           elim (character_after (start_leaves x)) [
             | inl first ↦ absurd (true≢false (sym (test_true y.character 0 (ap (λ (d : State). d.character) next ∙ first)) ∙ some))
             | inr on ↦
@@ -202,8 +202,8 @@ not_last c n at up inner =
     let column = at.column in
     let total = at.total in
     let digits = at.digits in (
-      test_false d.character d.registers.horizontal_total (λ same. omega (arith, column, total)),
-      test_false ((n + 1) % (line_characters c.registers * frame_lines c.registers)) 0 (λ none. omega (arith, none, digits)),
+      test_false d.character d.registers.horizontal_total (λ same. omega arith),
+      test_false ((n + 1) % (line_characters c.registers * frame_lines c.registers)) 0 (λ none. omega arith),
     )
 
 -- ---- The rasters of a row.
@@ -295,9 +295,9 @@ row_goes_on l c bits at other =
                 subst (IsAt r (l + 1)) (sym (rows_line c done (test_true c.row r.vertical_total last) other))
                 (inr (record { line = 0; some = refl; past = omega arith }))
             | inr above ↦
-                let below : (l / n + 1) * n ≤ r.vertical_total * n = mul-le-mul_right n (omega (arith, row_is)) in
+                let below : (l / n + 1) * n ≤ r.vertical_total * n = mul-le-mul_right n (omega arith) in
                 let stays : (c.row + 1) % 128 ≡ (l + 1) / n =
-                mod-eq_of_lt (omega (arith, row_is)) ∙ ap (λ k. k + 1) row_is ∙ sym o.1.0 in
+                mod-eq_of_lt (omega arith) ∙ ap (λ k. k + 1) row_is ∙ sym o.1.0 in
                 let z : 0 ≡ 0 * raster_step r = omega arith in
                 subst (IsAt r (l + 1)) (sym (row_line c done (test_false c.row r.vertical_total above)))
                 (inl (record {
@@ -328,7 +328,7 @@ line_goes_on None l c is bits (inr at) other = absurd (true≢false (sym (ap is_
 line_goes_on (Some a) l c is bits (inl at) other = absurd (true≢false (ap is_none (sym at.none ∙ is)))
 line_goes_on (Some a) l c is bits (inr at) other =
     let past = at.past in
-    subst (IsAt c.registers (l + 1)) (sym (adjust_line c a other)) (inr (record { line = (a + 1) % 32; some = refl; past = omega (arith, past) }))
+    subst (IsAt c.registers (l + 1)) (sym (adjust_line c a other)) (inr (record { line = (a + 1) % 32; some = refl; past = omega arith }))
 
 -- the last line of a frame ends, and a new frame begins
 last_goes_on : (adjust : Option ℕ) (c : State) → is_last_line_in adjust c ≡ true → line_ended_in adjust c ≡ frame_begun c
@@ -387,7 +387,7 @@ walk lines frames c bits begins (suc n) =
           at_line r (count_leaves d) (line_at r n) (line_at r (suc n)) same (subst (IsAt r (line_at r n)) (sym (inner_is d test)) here)
       | inl o ↦
           let end : n % w + 1 ≡ w = o.1.1 in
-          let test : ends_line d ≡ true = test_true d.character d.registers.horizontal_total (omega (arith, column, total)) in
+          let test : ends_line d ≡ true = test_true d.character d.registers.horizontal_total (omega arith) in
           let lasts : is_last_line d ≡ ((n + 1) % (w * f) == 0) = sym (and_left (ends_line d) (is_last_line d) test) ∙ law in
           subst (IsAt r (line_at r (suc n))) (sym (last_is d test)) (elim (next_place f (n / w) some) [
             | inl i ↦
@@ -401,7 +401,7 @@ walk lines frames c bits begins (suc n) =
                 let more : (n + 1) / w % f ≡ n / w % f + 1 = ap (λ k. k % f) o.1.0 ∙ i.0 in
                 let up : (n / w % f + 1) * w ≡ n / w % f * w + w = grind arith in
                 let many : (n + 1) / w % f * w ≡ n / w % f * w + w = ap (λ k. k * w) more ∙ up in
-                let other : is_last_line d ≡ false = lasts ∙ test_false ((n + 1) % (w * f)) 0 (λ none. omega (arith, none, digits)) in
+                let other : is_last_line d ≡ false = lasts ∙ test_false ((n + 1) % (w * f)) 0 (λ none. omega arith) in
                 at_line r (line_ended d) (line_at r n + 1) (line_at r (suc n)) (sym to)
                 (subst (λ (q : Registers). IsAt q (line_at r n + 1) (line_ended d)) regs
                 (line_goes_on d.adjust (line_at r n) (record d { character = 0 }) refl (subst HaveTheirBits (sym regs) bits)

@@ -168,7 +168,7 @@ row_grows r m n before same =
     let b : n / w / f * f + n / w % f ≡ n / w = div-add-mod' (n / w) f in
     let e : m / w / f * f ≡ n / w / f * f = ap (λ i. i * f) same in
     let lines : m / w ≤ n / w = div_grows m n w (omega arith) before in
-    div_grows (m / w % f) (n / w % f) (row_lines r) (omega arith) (omega (arith, lines))
+    div_grows (m / w % f) (n / w % f) (row_lines r) (omega arith) (omega arith)
 
 -- ---- What a clock makes of the text.
 
@@ -310,7 +310,7 @@ too_far c n inside beyond = omega arith
 new_row : (r : Registers) (n m : ℕ) → frame_index r (n + 1) ≡ frame_index r n → row_at r (n + 1) ≡ row_at r n + 1 → m ≤ n →
     frame_index r m ≡ frame_index r (n + 1) → row_at r m ≡ row_at r (n + 1) → ⊥
 new_row r n m frame row before same_frame same_row =
-    let low = row_grows r m n before (same_frame ∙ frame) in omega (arith, row)
+    let low = row_grows r m n before (same_frame ∙ frame) in omega arith
 
 -- the next frame begins
 to_frame : (ram : ℕ → List ℕ) (size : ℕ → ℕ) (font : Font) (s : State) → bit s.ula.control 1 ≡ true → (n : ℕ) → Begins s.crtc n → Holds ram size font s (n + 1)
@@ -323,16 +323,16 @@ to_frame ram size font s on n begins =
     let frame = begins.frame in
     let row = begins.row in
     let earlier_none : (m : ℕ) → m ≤ n → frame_index r m ≡ frame_index r (n + 1) → ⊥ = λ m before same.
-    let low = frame_grows r m n before in omega (arith, frame) in
+    let low = frame_grows r m n before in omega arith in
     record {
       found = λ had. absurd (true≢false (sym had ∙ none));
-      finds = λ had. let earlier = had.earlier in absurd (earlier_none had.clock (omega (arith, earlier)) had.frame);
+      finds = λ had. let earlier = had.earlier in absurd (earlier_none had.clock (omega arith) had.frame);
       row = λ m before same same_row. elim (cases_eq m (n + 1)) [
         | inl is ↦ ap (is_lower ram size font s) is
         | inr other ↦ absurd (earlier_none m (omega arith) same)
       ];
       first = λ top. lower;
-      below = λ m is doubles. let up = is.row in absurd (omega (arith, row));
+      below = λ m is doubles. let up = is.row in absurd (omega arith);
       plain = λ nothing. lower;
     }
 
@@ -405,7 +405,7 @@ module _ (facts : Facts) (ram : ℕ → List ℕ) (size : ℕ → ℕ) (font : F
               let earlier = before.earlier in
               record {
                 clock = before.clock;
-                earlier = omega (arith, earlier);
+                earlier = omega arith;
                 frame = before.frame ∙ sym stays.frame;
                 row = before.row ∙ sym stays.row;
                 doubles = before.doubles;
@@ -418,7 +418,7 @@ module _ (facts : Facts) (ram : ℕ → List ℕ) (size : ℕ → ℕ) (font : F
               let earlier = had.earlier in
               behind_had n holds (record {
                 clock = had.clock;
-                earlier = omega (arith, earlier);
+                earlier = omega arith;
                 frame = had.frame ∙ stays.frame;
                 row = had.row ∙ stays.row;
                 doubles = had.doubles;
@@ -447,10 +447,10 @@ module _ (facts : Facts) (ram : ℕ → List ℕ) (size : ℕ → ℕ) (font : F
       let row = goes.row in
       let in_it : (m : ℕ) → IsAbove r m (n + 1) → (m ≤ n) × (row_at r m ≡ row_at r n) = λ m is.
       let up = is.row in
-      let same : row_at r m ≡ row_at r n = omega (arith, row) in (
+      let same : row_at r m ≡ row_at r n = omega arith in (
         elim (cases_lt n m) [
           | inl later ↦
-              let high = row_grows r (n + 1) m (omega arith) (sym is.frame) in absurd (omega (arith, row))
+              let high = row_grows r (n + 1) m (omega arith) (sym is.frame) in absurd (omega arith)
           | inr before ↦ before
         ],
         same,
@@ -459,12 +459,12 @@ module _ (facts : Facts) (ram : ℕ → List ℕ) (size : ℕ → ℕ) (font : F
       record {
         found = λ had. absurd (true≢false (sym had ∙ none));
         finds = λ had.
-            let earlier = had.earlier in absurd (new_row r n had.clock goes.frame row (omega (arith, earlier)) had.frame had.row);
+            let earlier = had.earlier in absurd (new_row r n had.clock goes.frame row (omega arith) had.frame had.row);
         row = λ m before frame same. elim (cases_eq m (n + 1)) [
           | inl is ↦ ap (is_lower ram size font s) is
           | inr other ↦ absurd (new_row r n m goes.frame row (omega arith) frame same)
         ];
-        first = λ top. absurd (omega (arith, row));
+        first = λ top. absurd (omega arith);
         below = λ m is doubles.
             let where_it_is = in_it m is in
             let had : t.doubled ≡ true = elim (cases_eq m n) [
@@ -511,11 +511,11 @@ module _ (facts : Facts) (ram : ℕ → List ℕ) (size : ℕ → ℕ) (font : F
               | inl stays ↦
                   let frame = stays.frame in
                   let row = stays.row in
-                  in_row n stays (at_each n (omega (arith, frame)) (omega (arith, row)))
+                  in_row n stays (at_each n (omega arith) (omega arith))
               | inr next ↦
                   let frame = next.frame in
                   let row = next.row in
-                  to_row n next (at_each n (omega (arith, frame)) (omega (arith, row)))
+                  to_row n next (at_each n (omega arith) (omega arith))
             ]
         | inr far ↦
             elim far [

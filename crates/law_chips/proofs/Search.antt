@@ -140,7 +140,7 @@ run_over : (P : State → Type 0) → ((reg : ℕ) (s : State) → P s → P (re
     count_steps events ≡ 0 →
     P s → P (history events s)
 run_over P reads [] s all none holds = holds
-run_over P reads (microsecond ∷ es) s all none holds = absurd (omega (arith, none))
+run_over P reads (microsecond ∷ es) s all none holds = absurd (omega arith)
 run_over P reads (read reg ∷ es) s all none holds = run_over P reads es (read_leaves reg s) all.1 none (reads reg s holds)
 run_over P reads (write reg v ∷ es) s all none holds = absurd all.0
 run_over P reads (latch v ∷ es) s all none holds = absurd all.0

@@ -61,7 +61,7 @@ plain s0 s x m inside regs is = record {
   latch = regs.latch ∙ is.latch;
   track = regs.track ∙ is.track;
   sector = λ h. regs.sector ∙ is.sector (omega arith);
-  next = λ h. absurd (omega (arith, inside));
+  next = λ h. absurd (omega arith);
 }
 
 ends_so : (s0 : State) (t : Transfer) (k : ℕ) (s : State) (m : ℕ) → t.multiple ≡ true → m + 1 ≡ 18432 → Kept s0 s m →
@@ -80,7 +80,7 @@ ends_so s0 t k s m many end is =
 before_end : (m : ℕ) → m < 18432 → ((m + 1) % 64 ≡ 0 → (m + 1) / 64 ≡ 288 → ⊥) → m + 1 < 18432
 before_end m inside other = elim (cases_eq (m + 1) 18432) [
   | inl end ↦ absurd (other (omega arith) (omega arith))
-  | inr before ↦ omega (arith, inside)
+  | inr before ↦ omega arith
 ]
 
 -- what a command does at its places
@@ -230,9 +230,9 @@ sectors_follow s t d [] is inside timely = record {
 }
 sectors_follow s t d (round ∷ rounds) is inside timely =
     let more : length (round ∷ rounds) ≡ length rounds + 1 = omega arith in
-    let done = one s t d round is (omega (arith, inside)) timely.0 in
+    let done = one s t d round is (omega arith) timely.0 in
     let s2 = round_end round s in
-    let rest = sectors_follow s2 t d rounds done.goes_on (omega (arith, inside, done.sector)) timely.1 in
+    let rest = sectors_follow s2 t d rounds done.goes_on (omega (arith, done.sector)) timely.1 in
     record {
       bytes =
           ap (λ xs. xs ++ bytes_of rounds s2) done.bytes
@@ -406,16 +406,16 @@ sectors_are_written back others s t d [] is inside timely = record {
 sectors_are_written back others s t d (round ∷ rounds) is inside timely =
     let more : length (round ∷ rounds) ≡ length rounds + 1 = omega arith in
     let k = s.sector in
-    let done = one_written back others s t d round is (omega (arith, inside)) timely.0 in
+    let done = one_written back others s t d round is (omega arith) timely.0 in
     let s2 = round_end round s in
     let next = done.sector in
-    let rest = sectors_are_written back others s2 t done.now rounds done.goes_on (omega (arith, inside, next)) timely.1 in
+    let rest = sectors_are_written back others s2 t done.now rounds done.goes_on (omega arith) timely.1 in
     let rest_others : (n : ℕ) → IsOutside done.now t.target (k + 1) (length rounds) n → byte_at rest.now n ≡ byte_at done.now n =
-    λ n out. rest.others n (λ j i from to low. out j i (omega (arith, next)) (omega (arith, next)) low) in
+    λ n out. rest.others n (λ j i from to low. out j i (omega arith) (omega arith) low) in
     record {
       now = rest.now;
       goes_on = rest.goes_on;
-      sector = rest.sector ∙ omega (arith, next);
+      sector = rest.sector ∙ omega arith;
       stored = (
         sector_stays done.now rest.now t.target k (length rounds) rest.kind rest_others ∙ done.stored,
         subst (λ n. HasAll rest.now t.target n rounds) next rest.stored,

@@ -64,7 +64,7 @@ of_three P one two three reg low high = elim (cases_eq reg 1) [
   | inr more ↦
       elim (cases_eq reg 2) [
         | inl is ↦ subst P (sym is) two
-        | inr most ↦ let is : 3 ≡ reg = omega (arith, more) in subst P is three
+        | inr most ↦ let is : 3 ≡ reg = omega arith in subst P is three
       ]
 ]
 
@@ -351,12 +351,12 @@ module _ (f : Stream) where
         drq = λ h. now.0 ∙ sym (rw (le-leb f.first ((m + 1) / 64) low, new) refl);
         served = λ i inside over. elim (cases_lt (m + 1) (64 * (f.first + i + 1) + 1)) [
           | inl last_one ↦
-              let here : m / 64 ≡ f.first + i = omega (arith, over) in
-              subst (λ n. has_place n ps ≡ true) here (taken (omega (arith, over)))
+              let here : m / 64 ≡ f.first + i = omega arith in
+              subst (λ n. has_place n ps ≡ true) here (taken (omega arith))
           | inr before ↦ is.served i inside (omega arith)
         ];
-        ahead = λ p more. is.ahead p (omega (arith, more));
-        last_taken = λ over had. absurd (true≢false (sym had ∙ is.ahead (f.first + f.l) (omega (arith, over))));
+        ahead = λ p more. is.ahead p (omega arith);
+        last_taken = λ over had. absurd (true≢false (sym had ∙ is.ahead (f.first + f.l) (omega arith)));
       }
 
   -- nothing comes
@@ -381,12 +381,12 @@ module _ (f : Stream) where
               ap (λ n. nat_le f.first n && not (has_place n ps)) same
         ]);
         served = λ i inside over. elim (cases_lt m (64 * (f.first + i + 1))) [
-          | inl new ↦ absurd (none (omega (arith, over)) (omega (arith, over)) (omega (arith, over, inside)))
+          | inl new ↦ absurd (none (omega arith) (omega arith) (omega arith))
           | inr old ↦ is.served i inside old
         ];
-        ahead = λ p more. is.ahead p (omega (arith, more));
+        ahead = λ p more. is.ahead p (omega arith);
         last_taken = λ over had. now.0 ∙ is.last_taken (elim (cases_lt m (64 * (f.first + f.l))) [
-          | inl new ↦ absurd (none (omega (arith, over)) (omega (arith, over)) (omega (arith, over)))
+          | inl new ↦ absurd (none (omega arith) (omega arith) (omega arith))
           | inr old ↦ old
         ]) had;
       }
@@ -472,7 +472,7 @@ module _ (f : Stream) where
         ∙ sym (ap (λ b. nat_le f.first (m / 64) && not b) (any_now (λ p. p == m / 64) ps (m / 64) (eq-eqb (m / 64) (m / 64) refl)) ∙ and_false
         (nat_le f.first (m / 64)));
     served = λ i inside over. any_stays (λ p. p == f.first + i) ps (m / 64) (is.served i inside over);
-    ahead = λ p more. any_other (λ q. q == p) ps (m / 64) (is.ahead p more) (ne_eqb (m / 64) p (λ e. omega (arith, more)));
+    ahead = λ p more. any_other (λ q. q == p) ps (m / 64) (is.ahead p more) (ne_eqb (m / 64) p (λ e. omega arith));
     last_taken = λ over had. acc.drq;
   })
   accessed_in false s x m ps acc (inl is) =
@@ -505,7 +505,7 @@ module _ (f : Stream) where
     angle = angle ∙ ap (λ (n : ℕ). Some n) (let e : f.base ≡ f.base + 0 = omega arith in e);
     kept = kept;
     drq = λ h. off ∙ sym (ap (λ b. b && true) (lt-leb f.first 0 (omega arith)));
-    served = λ i inside over. absurd (omega (arith, over));
+    served = λ i inside over. absurd (omega arith);
     ahead = λ p more. refl;
     last_taken = λ over had. off;
   }

@@ -69,7 +69,7 @@ over_next i some = ap (λ b. if b then 22 else 30 + i) (ne_eqb i 0 (λ e. omega 
 not_in_time : (i place : ℕ) → time_over true i ≤ place → is_in_time true i place ≡ false
 not_in_time i place over = elim (cases_eq i 0) [
   | inl zero ↦
-      let late : 22 ≤ place = omega (arith, over, over_first i zero) in
+      let late : 22 ≤ place = omega (arith, over_first i zero) in
       ap (λ b. if b then nat_le 12 place && nat_lt place 22 else place == 29 + i) (eq-eqb i 0 zero)
       ∙ ap (λ b. nat_le 12 place && b) (le-ltb place 22 late) ∙ and_false (nat_le 12 place)
   | inr some ↦
@@ -125,12 +125,12 @@ unfolding NoneOver
 none_over m not_first not_next i inside over = elim (over_cases i) [
   | inl first ↦
       elim (cases_lt m (64 * time_over true i)) [
-        | inl new ↦ absurd (not_first (omega (arith, over, first.1)))
+        | inl new ↦ absurd (not_first (omega (arith, first.1)))
         | inr old ↦ old
       ]
   | inr next ↦
       elim (cases_lt m (64 * time_over true i)) [
-        | inl new ↦ absurd (not_next i next.0 inside (omega (arith, over, next.1)))
+        | inl new ↦ absurd (not_next i next.0 inside (omega (arith, next.1)))
         | inr old ↦ old
       ]
 ]
@@ -159,7 +159,7 @@ same_wants m ps not_12 not_22 early = elim (cases_lt (m / 64) 12) [
         | inl first ↦
             wants_first ((m + 1) / 64) ps (omega arith) (omega arith) ∙ sym (wants_first (m / 64) ps more first)
         | inr late ↦
-            wants_no_more ((m + 1) / 64) ps (omega arith) (omega (arith, early)) ∙ sym (wants_no_more (m / 64) ps late (omega (arith, early)))
+            wants_no_more ((m + 1) / 64) ps (omega arith) (omega arith) ∙ sym (wants_no_more (m / 64) ps late (omega arith))
       ]
 ]
 
@@ -183,7 +183,7 @@ looks t k s m ps now off had is = record {
   drq = λ h. off ∙ sym (wants_no_more ((m + 1) / 64) ps (omega arith) (omega arith));
   served = λ i inside over. elim (over_cases i) [
     | inl first ↦ ap (λ n. given n ps) first.0 ∙ had
-    | inr next ↦ absurd (omega (arith, over, next.0, next.1))
+    | inr next ↦ absurd (omega (arith, next.0, next.1))
   ];
   ahead = λ p more. is.ahead p (omega arith);
   early = λ low. absurd (omega arith);
@@ -219,7 +219,7 @@ byte_goes t k s m i ps inside now is =
         | inr other ↦
             is.served j few (elim (over_cases j) [
               | inl first ↦ omega (arith, first.1)
-              | inr next ↦ omega (arith, next.1, over)
+              | inr next ↦ omega (arith, next.1)
             ])
       ];
       ahead = λ q more. is.ahead q (omega arith);
@@ -233,7 +233,7 @@ byte_goes t k s m i ps inside now is =
           let more : 1 ≤ i = omega arith in
           let where_it_is : m / 64 ≡ 29 + i = omega arith in
           let was : s.drq ≡ not (given i ps) =
-          is.drq (omega (arith, inside)) ∙ wants_next (m / 64) ps (omega arith) ∙ ap not (sym (given_in i (m / 64) ps more where_it_is)) in
+          is.drq (omega arith) ∙ wants_next (m / 64) ps (omega arith) ∙ ap not (sym (given_in i (m / 64) ps more where_it_is)) in
           elim (bool_cases (given i ps)) [
             | inl had ↦ inl (fine (was ∙ ap not had) had)
             | inr none ↦
@@ -254,11 +254,11 @@ ends_so : (b : Bool) (t : Transfer) (k : ℕ) (s : State) (m : ℕ) (ps : List �
 unfolding moved_on
 ends_so true t k s m ps now is =
     plain t k s (record (moved_on s k m) { sector = ((moved_on s k m).sector + 1) % 256; command = search_of t }) m ps
-    (none_over m (λ e. omega arith) (λ i some inside e. omega (arith, inside))) (λ h. absurd (omega arith)) refl refl
+    (none_over m (λ e. omega arith) (λ i some inside e. omega arith)) (λ h. absurd (omega arith)) refl refl
     (λ h. absurd (omega arith)) is
 ends_so false t k s m ps now is =
     plain t k s (finish_leaves (moved_on s k m)) m ps
-    (none_over m (λ e. omega arith) (λ i some inside e. omega (arith, inside))) (λ h. absurd (omega arith)) refl refl
+    (none_over m (λ e. omega arith) (λ i some inside e. omega arith)) (λ h. absurd (omega arith)) refl refl
     (λ h. absurd (omega arith)) is
 
 at_place : (t : Transfer) (k : ℕ) (s : State) (m : ℕ) (ps : List ℕ) → m < 18432 → (m + 1) % 64 ≡ 0 → Fine t k s m ps →
@@ -279,9 +279,9 @@ at_place t k s m ps inside is_place is =
       | inr no_look ↦
           elim where_it_is [
             | inl early ↦
-                plain t k s s1 m ps (none_over m (λ e. no_look (omega arith)) (λ i some few e. omega (arith, early))) (λ h. is.command inside) refl refl
+                plain t k s s1 m ps (none_over m (λ e. no_look (omega arith)) (λ i some few e. omega arith)) (λ h. is.command inside) refl refl
                 (λ h. is.drq (omega arith) ∙ sym
-                (same_wants m ps (λ e. not_first (omega arith)) (λ e. no_look (omega arith)) (omega (arith, early)))) is
+                (same_wants m ps (λ e. not_first (omega arith)) (λ e. no_look (omega arith)) (omega arith))) is
             | inr high ↦
                 plain t k s s1 m ps (none_over m (λ e. no_look (omega arith)) (λ i some few e. omega arith))
                 (λ h. is.command inside) refl refl
@@ -369,8 +369,8 @@ begins s t k at kept = record {
   kept = kept;
   drq = λ h. at.drq ∙ sym (wants_none 0 [] (omega arith));
   served = λ i inside over. elim (over_cases i) [
-    | inl first ↦ absurd (omega (arith, over, first.1))
-    | inr next ↦ absurd (omega (arith, over, next.1))
+    | inl first ↦ absurd (omega (arith, first.1))
+    | inr next ↦ absurd (omega (arith, next.1))
   ];
   ahead = λ p more. refl;
   early = λ low. refl;
