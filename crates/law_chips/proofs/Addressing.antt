@@ -165,7 +165,7 @@ served : (s : State) (target : Target) (k : ℕ) (events : List Event) → IsAtA
 unfolding has_place
 served s target k events at few all count in_time = elim (after_address s target k events at few all (omega arith)) [
   | inl fine ↦ record { kept = fine.kept; off = fine.last_taken (omega arith) (in_time 5 (omega arith)) }
-  | inr missed ↦ absurd (true≢false (sym (in_time missed.byte (let small = missed.inside in omega arith)) ∙ missed.missed))
+  | inr missed ↦ absurd (true≢false (sym (in_time missed.byte (omega arith)) ∙ missed.missed))
 ]
 
 whole : (s : State) (target : Target) (k : ℕ) (events : List Event) → IsAtAddress s target k → k < 10 → AllWait events → count_steps events ≡ address_steps →
@@ -227,7 +227,7 @@ looks_on s0 target k n inside has next s m early w =
           let number = angle / (64 * 312) in
           let big : 10 ≤ number = elim (cases_lt number 10) [
             | inl few ↦
-                let here : (next_angle s0.angle + m) % 200000 ≡ 64 * (312 * number) = omega (arith, w.angle) in
+                let here : (next_angle s0.angle + m) % 200000 ≡ 64 * (312 * number) = omega arith in
                 absurd (next.none_before m number early few here)
             | inr many ↦ many
           ] in
@@ -284,7 +284,7 @@ next s v k n waits low high inside is comes =
     ap (λ (x : State). x.command) written ∙ address_command v s low high ∙ ap (SeekingAddress target) all in
     let has : is_on_disc (disc_in target.drive s0) target 0 ≡ true =
     ap (λ o. is_on_disc o target 0) (same_disc target.drive s0 s (ap (λ (x : State). x.drive0) written) (ap (λ (x : State). x.drive1) written)) ∙ is.on_disc in
-    let w = waits_from (asked_for target) n s0 (looks_on s0 target k n inside has comes) waits is.wait (omega (arith, is.waited)) command in
+    let w = waits_from (asked_for target) n s0 (looks_on s0 target k n inside has comes) waits is.wait (omega arith) command in
     finds s0 (history waits s0) target k n inside (ap (λ (x : State). is_single_density x.latch) written ∙ is.density) has
     (ap (λ (x : State). x.drq) written) (ap (λ (x : State). x.lost_data) written) comes
     (subst (λ i. Waited s0 (asked_for target i) (history waits s0) i) is.waited w)

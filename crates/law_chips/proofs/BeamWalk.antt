@@ -152,12 +152,6 @@ other_one left p q x y colour frame here apart = by_test (is_in_frame left x y) 
   by_test false e = refl
   by_test true e =
       let i = inside left x y e in
-      let from = i.from in
-      let to = i.to in
-      let top = i.top in
-      let from2 = here.from in
-      let to2 = here.to in
-      let top2 = here.top in
       get_or-set_other frame (dot_index left x y) (dot_index left p q) colour 0 (λ same. elim apart [
         | inl line ↦ line (omega arith)
         | inr beside ↦ elim beside [
@@ -188,10 +182,6 @@ one : (left x y colour : ℕ) (frame : List ℕ) → is_in_frame left x y ≡ tr
     slice_index (dot_set left x y colour frame) (dot_index left x y) ≡ colour
 one left x y colour frame is long =
     let i = inside left x y is in
-    let from = i.from in
-    let to = i.to in
-    let top = i.top in
-    let bottom = i.bottom in
     ap (λ b. slice_index (if b then slice_set frame (dot_index left x y) colour else frame) (dot_index left x y)) is
     ∙ get_or-set_same frame (dot_index left x y) colour 0 (omega arith)
 
@@ -352,7 +342,6 @@ pub record Laws : Type 0 where
 sync_is_early : (c : crtc.State) → MakesFrames c → sync_line c.registers < frame_lines c.registers
 sync_is_early c makes =
     let r = c.registers in
-    let row : r.vertical_sync_position ≤ r.vertical_total = makes.vertical.row in
     let some : 0 < row_lines r = omega arith in
     let least : r.vertical_sync_position * row_lines r + 0 < row_lines r * (r.vertical_total + 1) =
     mul-add-lt r.vertical_sync_position (row_lines r) 0 (r.vertical_total + 1) (omega arith) some in
@@ -369,7 +358,6 @@ sync_in_frame c makes =
 pub column_sync : Laws → (c : crtc.State) → MakesFrames c → (t : ℕ) →
     (tells (c.registers.horizontal_sync_position + t) c).sync_start ≡ (t % line_characters c.registers == 0)
 column_sync laws c makes t =
-    let small : c.registers.horizontal_sync_position ≤ c.registers.horizontal_total = makes.horizontal in
     laws.columns c (c.registers.horizontal_sync_position + t) makes.bits makes.begins.character
     ∙ comes (line_characters c.registers) c.registers.horizontal_sync_position t (omega arith)
 
@@ -426,7 +414,6 @@ column_walk laws ram size font s makes (suc t) =
     let f : t + 1 ≡ suc t = add-one t in
     let b = tells (n + suc t) s.crtc in
     let sync : b.sync_start ≡ (suc t % w == 0) = column_sync laws s.crtc makes (suc t) in
-    let wide : s.crtc.registers.horizontal_total < 256 = makes.bits.horizontal_total in
     let place : (char_clocks ram size font (n + suc t) s).place ≡ place_past dots (place_in ram size font s (n + t)) =
     ap (λ k. (char_clocks ram size font k s).place) e ∙ (clock ram size font s (n + t)).place
     ∙ ap (λ (u : ula.State). place_past (dots_of u.control) (place_in ram size font s (n + t))) (same_ula ram size font s (n + t)) in

@@ -96,7 +96,7 @@ starts s v settles waits low high is =
     let written = begun v s is.idle is.live (λ e. omega arith) in
     let command : s1.command ≡ settling t (settle_time v) 0 =
     ap (λ (x : State). x.command) written ∙ sector_command v s low high ∙ settled_is (bit v 2) v s refl in
-    let w = waits_so (settling t (settle_time v)) (settle_time v) (settles_down t (settle_time v)) settles s1 is.settle (omega (arith, is.settled)) command in
+    let w = waits_so (settling t (settle_time v)) (settle_time v) (settles_down t (settle_time v)) settles s1 is.settle (omega arith) command in
     let s2 = history settles s1 in
     let searches : s2.command ≡ search_of t = w.command ∙ ap (settling t (settle_time v)) is.settled ∙ over_is t (settle_time v) in
     let off : s2.drq ≡ false = w.drq (ap (λ (x : State). x.drq) written) in

@@ -213,8 +213,8 @@ module _ (laws : Laws) (left : ℕ) (ram : ℕ → List ℕ) (size : ℕ → ℕ
       let b = tells m s.crtc in
       let x = char_clocks ram size font m s in
       let place = place_in ram size font s m in
-      let vertical : sync_clock s.crtc.registers + (t + suc j) ≡ m = let v = at.vertical in omega arith in
-      let horizontal : s.crtc.registers.horizontal_sync_position + (a + suc j) ≡ m = let h = at.horizontal in omega arith in
+      let vertical : sync_clock s.crtc.registers + (t + suc j) ≡ m = omega arith in
+      let horizontal : s.crtc.registers.horizontal_sync_position + (a + suc j) ≡ m = omega arith in
       let inner = no_sync laws s t j makes (omega arith) in
       let runs : b.frame_end ≡ false = ap (λ k. (tells k s.crtc).frame_end) (sym vertical) ∙ inner.0 in
       let column : place.x ≡ (a + suc j) % w * wide =
@@ -251,8 +251,6 @@ module _ (laws : Laws) (left : ℕ) (ram : ℕ → List ℕ) (size : ℕ → ℕ
       let q = u / w in
       let early : first < f = sync_in_frame s.crtc makes in
       let some : 0 < f = omega arith in
-      let v : first ≤ n = runs.vertical in
-      let h : r.horizontal_sync_position ≤ n = runs.horizontal in
       let at : IsClock r n t a = record { vertical = omega arith; horizontal = omega arith } in
       let below : u < f = mod_below t f some in
       let turns = (t / f + 1) * f in
@@ -350,10 +348,6 @@ frames_show_their_bytes laws count characters ram size font s n d m makes off ru
 black_dot : (left p q : ℕ) → Inside left p q → slice_index black (dot_index left p q) ≡ 0
 unfolding zeros
 black_dot left p q i =
-    let from = i.from in
-    let to = i.to in
-    let top = i.top in
-    let bottom = i.bottom in
     get_or-replicate {A = ℕ} 163840 (dot_index left p q) 0 0 (omega arith)
 
 and_second : (a b : Bool) → (a && b) ≡ false → a ≡ true → b ≡ false

@@ -166,7 +166,6 @@ codes_are one laws count characters ram size font s makes on (suc j) n column is
     elim (next_place w k (omega arith)) [
       | inl o ↦ let none : (k + 1) % w ≡ 0 = o.0 in absurd (omega arith)
       | inr o ↦
-          let up : (k + 1) % w ≡ k % w + 1 = o.0 in
           let line : (k + 1) / w ≡ k / w = o.1.0 in
           let column_k : k % w ≡ j = omega arith in
           let column_n : (k + 1) % w ≡ j + 1 = omega arith in

@@ -34,10 +34,6 @@ count_keeps c = grind arith
 
 written_has : (n v : ℕ) (r : Registers) → v < 256 → HaveTheirBits r → HaveTheirBits (write_leaves n v r)
 written_has n v r byte bits =
-    let a : r.horizontal_total < 256 = bits.horizontal_total in
-    let b : r.vertical_total < 128 = bits.vertical_total in
-    let d : r.vertical_adjust < 32 = bits.vertical_adjust in
-    let e : r.maximum_raster < 32 = bits.maximum_raster in
     record { horizontal_total = grind arith; vertical_total = grind arith; vertical_adjust = grind arith; maximum_raster = grind arith }
 
 clock_keeps : (c : State) → HaveTheirBits c.registers → HaveTheirBits (clock_leaves c).registers
@@ -147,14 +143,12 @@ characters lines c bits begins (suc n) =
     let same : (start_leaves x).character ≡ x.character = let k = kept x in ap (λ (d : State). d.character) k.1.1 in
     let g : n + 1 ≡ suc n = add-one n in
     let law : (y.character == 0) ≡ (suc n % w == 0) = lines c (suc n) bits begins in
-    let wide : c.registers.horizontal_total < 256 = bits.horizontal_total in
     elim (next_place w n (omega arith)) [
       | inl o ↦
           let none : suc n % w ≡ 0 = ap (λ k. k % w) (sym g) ∙ o.0 in
           eqb-true _ _ (law ∙ test_true (suc n % w) 0 none) ∙ sym none
       | inr o ↦
           let more : suc n % w ≡ n % w + 1 = ap (λ k. k % w) (sym g) ∙ o.0 in
-          let inner : n % w + 1 < w = o.1.1 in
           let some : (y.character == 0) ≡ false = law ∙ test_false (suc n % w) 0 (λ none. omega arith) in
           elim (character_after (start_leaves x)) [
             | inl first ↦ absurd (true≢false (sym (test_true y.character 0 (ap (λ (d : State). d.character) next ∙ first)) ∙ some))
@@ -199,8 +193,6 @@ pub not_last : (c : State) (n : ℕ) → AtClock c n → (n + 1) % line_characte
     (ends_line (start_leaves (clocks n c)) ≡ false) × (((n + 1) % (line_characters c.registers * frame_lines c.registers) == 0) ≡ false)
 not_last c n at up inner =
     let d = start_leaves (clocks n c) in
-    let column = at.column in
-    let total = at.total in
     let digits = at.digits in (
       test_false d.character d.registers.horizontal_total (λ same. omega arith),
       test_false ((n + 1) % (line_characters c.registers * frame_lines c.registers)) 0 (λ none. omega arith),
@@ -283,7 +275,6 @@ row_goes_on l c bits at other =
     let row_small : l / n < r.vertical_total + 1 = div_below l n (r.vertical_total + 1) (omega arith) rows in
     let row_is : c.row ≡ l / n = at.row_is in
     let up : (l / n + 1) * n ≡ l / n * n + n = grind arith in
-    let narrow : r.vertical_total < 128 = bits.vertical_total in
     let whole : (r.vertical_total + 1) * n ≡ r.vertical_total * n + n = grind arith in
     elim (next_place n l (omega arith)) [
       | inl o ↦
@@ -374,8 +365,6 @@ walk lines frames c bits begins (suc n) =
     let g : n + 1 ≡ suc n = add-one n in
     let clock = at_clock lines c bits begins.character n in
     let regs = clock.registers in
-    let column = clock.column in
-    let total = clock.total in
     let some = clock.some in
     let digits = clock.digits in
     let here : IsAt r (line_at r n) d = let k = kept x in subst (IsAt r (line_at r n)) (sym k.1.1) (walk lines frames c bits begins n) in
@@ -386,7 +375,6 @@ walk lines frames c bits begins (suc n) =
           let same : line_at r n ≡ line_at r (suc n) = ap (λ k. k % f) (sym o.1.0 ∙ ap (λ k. k / w) g) in
           at_line r (count_leaves d) (line_at r n) (line_at r (suc n)) same (subst (IsAt r (line_at r n)) (sym (inner_is d test)) here)
       | inl o ↦
-          let end : n % w + 1 ≡ w = o.1.1 in
           let test : ends_line d ≡ true = test_true d.character d.registers.horizontal_total (omega arith) in
           let lasts : is_last_line d ≡ ((n + 1) % (w * f) == 0) = sym (and_left (ends_line d) (is_last_line d) test) ∙ law in
           subst (IsAt r (line_at r (suc n))) (sym (last_is d test)) (elim (next_place f (n / w) some) [
@@ -394,7 +382,7 @@ walk lines frames c bits begins (suc n) =
                 let to : line_at r (suc n) ≡ 0 = ap (λ k. k / w % f) (sym g) ∙ ap (λ k. k % f) o.1.0 ∙ i.0 in
                 let none : (n + 1) / w % f ≡ 0 = ap (λ k. k % f) o.1.0 ∙ i.0 in
                 let zeroed : (n + 1) / w % f * w ≡ 0 = ap (λ k. k * w) none ∙ omega arith in
-                let whole : is_last_line d ≡ true = lasts ∙ test_true ((n + 1) % (w * f)) 0 (digits ∙ omega (arith, o.0)) in
+                let whole : is_last_line d ≡ true = lasts ∙ test_true ((n + 1) % (w * f)) 0 (digits ∙ omega arith) in
                 at_line r (line_ended d) 0 (line_at r (suc n)) (sym to) (subst (λ (q : Registers). IsAt q 0 (line_ended d)) regs (frame_again d whole))
             | inr i ↦
                 let to : line_at r (suc n) ≡ line_at r n + 1 = ap (λ k. k / w % f) (sym g) ∙ ap (λ k. k % f) o.1.0 ∙ i.0 in

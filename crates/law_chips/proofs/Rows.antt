@@ -100,8 +100,6 @@ goes facts c makes n =
     let clock = at_clock facts.lines c makes.bits makes.begins.character n in
     let some = clock.some in
     let regs = clock.registers in
-    let column = clock.column in
-    let total = clock.total in
     let digits = clock.digits in
     let at : IsAt r (line_at r n) d = subst (IsAt r (line_at r n)) (sym k.1.1) (walk facts.lines facts.frames c makes.bits makes.begins n) in
     let law : (tells n c).restart ≡ ((n + 1) % (w * f) == 0) = facts.frames c n makes.bits makes.begins in
@@ -116,7 +114,6 @@ goes facts c makes n =
             row_end = no_row_end d inner.0;
           }))
       | inl o ↦
-          let end : n % w + 1 ≡ w = o.1.1 in
           let line : (n + 1) / w ≡ n / w + 1 = o.1.0 in
           let test : ends_line d ≡ true = test_true d.character d.registers.horizontal_total (omega arith) in
           elim (next_place f (n / w) some) [
@@ -126,7 +123,7 @@ goes facts c makes n =
                 inr (inl (record {
                   frame = ap (λ i. i / f) line ∙ i.1.0;
                   row = ap (λ i. i / h) none ∙ zero-div h;
-                  restart = law ∙ test_true ((n + 1) % (w * f)) 0 (digits ∙ omega (arith, o.0));
+                  restart = law ∙ test_true ((n + 1) % (w * f)) 0 (digits ∙ omega arith);
                 }))
             | inr i ↦
                 let more : (n + 1) / w % f ≡ n / w % f + 1 = ap (λ k. k % f) line ∙ i.0 in
@@ -143,7 +140,6 @@ goes facts c makes n =
                         | inr over ↦ inl (inr (record { frame = frame; row = next ∙ over.0; restart = restart; row_end = over.1 }))
                       ]
                   | inr adjust ↦
-                      let past = adjust.past in
                       let large : r.vertical_total + 1 ≤ (line_at r n + 1) / h =
                       le-div (r.vertical_total + 1) (line_at r n + 1) h (omega arith) (omega arith) in
                       inr (inr (omega arith))
@@ -320,7 +316,6 @@ to_frame ram size font s on n begins =
     next_text ram size font s on n ∙ past_frame (tells n s.crtc) (behind ram size font s n) begins.restart in
     let none : (char_clocks ram size font (n + 1) s).text.doubled ≡ false = ap (λ (t : Text). t.doubled) text in
     let lower : is_lower ram size font s (n + 1) ≡ false = ap (λ (t : Text). t.bottom) text in
-    let frame = begins.frame in
     let row = begins.row in
     let earlier_none : (m : ℕ) → m ≤ n → frame_index r m ≡ frame_index r (n + 1) → ⊥ = λ m before same.
     let low = frame_grows r m n before in omega arith in
@@ -332,7 +327,7 @@ to_frame ram size font s on n begins =
         | inr other ↦ absurd (earlier_none m (omega arith) same)
       ];
       first = λ top. lower;
-      below = λ m is doubles. let up = is.row in absurd (omega arith);
+      below = λ m is doubles. absurd (omega arith);
       plain = λ nothing. lower;
     }
 
@@ -446,7 +441,6 @@ module _ (facts : Facts) (ram : ℕ → List ℕ) (size : ℕ → ℕ) (font : F
       ap (λ (t : Text). t.bottom) text ∙ ap (λ b. not b && t.doubled) (behind_bottom ram size font s n) in
       let row = goes.row in
       let in_it : (m : ℕ) → IsAbove r m (n + 1) → (m ≤ n) × (row_at r m ≡ row_at r n) = λ m is.
-      let up = is.row in
       let same : row_at r m ≡ row_at r n = omega arith in (
         elim (cases_lt n m) [
           | inl later ↦
@@ -472,7 +466,7 @@ module _ (facts : Facts) (ram : ℕ → List ℕ) (size : ℕ → ℕ) (font : F
               | inr other ↦
                   behind_had n holds (record {
                     clock = m;
-                    earlier = let low = where_it_is.0 in omega arith;
+                    earlier = omega arith;
                     frame = is.frame ∙ goes.frame;
                     row = where_it_is.1;
                     doubles = doubles;
@@ -513,8 +507,6 @@ module _ (facts : Facts) (ram : ℕ → List ℕ) (size : ℕ → ℕ) (font : F
                   let row = stays.row in
                   in_row n stays (at_each n (omega arith) (omega arith))
               | inr next ↦
-                  let frame = next.frame in
-                  let row = next.row in
                   to_row n next (at_each n (omega arith) (omega arith))
             ]
         | inr far ↦

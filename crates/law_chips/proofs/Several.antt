@@ -232,13 +232,13 @@ sectors_follow s t d (round ∷ rounds) is inside timely =
     let more : length (round ∷ rounds) ≡ length rounds + 1 = omega arith in
     let done = one s t d round is (omega arith) timely.0 in
     let s2 = round_end round s in
-    let rest = sectors_follow s2 t d rounds done.goes_on (omega (arith, done.sector)) timely.1 in
+    let rest = sectors_follow s2 t d rounds done.goes_on (omega arith) timely.1 in
     record {
       bytes =
           ap (λ xs. xs ++ bytes_of rounds s2) done.bytes
           ∙ ap (λ xs. sector_bytes d t.target.side t.target.head s.sector ++ xs) (rest.bytes ∙ ap (λ n. bytes_from d t.target n rounds) done.sector);
       goes_on = rest.goes_on;
-      sector = rest.sector ∙ omega (arith, done.sector);
+      sector = rest.sector ∙ omega arith;
     }
 
 -- ---- The registers.
@@ -345,7 +345,7 @@ one_written back others s t d round is few timely =
     let has = has_it d t k few is.on_disc in
     let lost = found.lost ∙ is.lost in
     let end : s2.lost_data ≡ false =
-    writes_kept s1 t k round.serves at few lost is.writes (lets_go writing s1 round.serves timely.written) (let c = timely.count in omega arith)
+    writes_kept s1 t k round.serves at few lost is.writes (lets_go writing s1 round.serves timely.written) (omega arith)
     (λ i over. timely.in_time i over.byte) in
     let both : Both s1 d t k s2 18432 (bytes_given round.serves) =
     gives_all back others s1 d t k round.serves few has is.writes is.multiple at disc1 timely.written timely.gives timely.count end in

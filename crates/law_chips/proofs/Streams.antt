@@ -458,7 +458,7 @@ module _ (f : Stream) where
       Either s m ps → Either (step s) (m + 1) ps
   stepped s m ps goes some inside (inl is) = stepped_fine s m ps goes some inside is
   stepped s m ps goes some inside (inr is) =
-      inr (record { lost = stays_lost s is.lost; byte = is.byte; inside = is.inside; over = omega (arith, is.over); missed = is.missed })
+      inr (record { lost = stays_lost s is.lost; byte = is.byte; inside = is.inside; over = omega arith; missed = is.missed })
 
   -- An access of the data register, or another.
   accessed_in : (b : Bool) (s x : State) (m : ℕ) (ps : List ℕ) → Accessed b s x → Either s m ps → Either x m (ps ++ place_if b m)
@@ -490,7 +490,7 @@ module _ (f : Stream) where
     byte = is.byte;
     inside = is.inside;
     over = is.over;
-    missed = any_other (λ p. p == f.first + is.byte) ps (m / 64) is.missed (ne_eqb (m / 64) (f.first + is.byte) (λ e. omega (arith, is.over)));
+    missed = any_other (λ p. p == f.first + is.byte) ps (m / 64) is.missed (ne_eqb (m / 64) (f.first + is.byte) (λ e. omega arith));
   })
   accessed_in false s x m ps acc (inr is) =
       subst (Either x m) (sym (append-nil ps))
@@ -575,8 +575,6 @@ module _ (f : Stream) (bytes : List ℕ) (s0 : State) where
       Taking s m got → x.lost_data ≡ false → got ++ waiting_byte x ≡ take (come f (m + 1)) bytes
   one_comes s x m got given place low high next is kept =
       let now = next.byte place low high in
-      let some = given.some in
-      let long = given.long in
       let i = (m + 1) / 64 - f.first in
       let parts = or_parts s.lost_data s.drq (sym now.1 ∙ kept) in
       let before : come f m ≡ i = omega arith in
@@ -590,7 +588,6 @@ module _ (f : Stream) (bytes : List ℕ) (s0 : State) where
   waits_behind : (s x : State) (m : ℕ) (got : List ℕ) → IsGiven → Next f s x m → Taking s m got →
       x.lost_data ≡ false → got ++ waiting_byte x ≡ take (come f (m + 1)) bytes
   waits_behind s x m got given next is =
-      let some = given.some in
       elim (cases_eq ((m + 1) % 64) 0) [
         | inr inner ↦ waits_on s x m got (λ place low high. inner place) (omega arith) next is
         | inl place ↦

@@ -125,12 +125,12 @@ unfolding NoneOver
 none_over m not_first not_next i inside over = elim (over_cases i) [
   | inl first ↦
       elim (cases_lt m (64 * time_over true i)) [
-        | inl new ↦ absurd (not_first (omega (arith, first.1)))
+        | inl new ↦ absurd (not_first (omega arith))
         | inr old ↦ old
       ]
   | inr next ↦
       elim (cases_lt m (64 * time_over true i)) [
-        | inl new ↦ absurd (not_next i next.0 inside (omega (arith, next.1)))
+        | inl new ↦ absurd (not_next i next.0 inside (omega arith))
         | inr old ↦ old
       ]
 ]
@@ -183,7 +183,7 @@ looks t k s m ps now off had is = record {
   drq = λ h. off ∙ sym (wants_no_more ((m + 1) / 64) ps (omega arith) (omega arith));
   served = λ i inside over. elim (over_cases i) [
     | inl first ↦ ap (λ n. given n ps) first.0 ∙ had
-    | inr next ↦ absurd (omega (arith, next.0, next.1))
+    | inr next ↦ absurd (omega arith)
   ];
   ahead = λ p more. is.ahead p (omega arith);
   early = λ low. absurd (omega arith);
@@ -218,8 +218,8 @@ byte_goes t k s m i ps inside now is =
         | inl same ↦ ap (λ n. given n ps) same ∙ had
         | inr other ↦
             is.served j few (elim (over_cases j) [
-              | inl first ↦ omega (arith, first.1)
-              | inr next ↦ omega (arith, next.1)
+              | inl first ↦ omega arith
+              | inr next ↦ omega arith
             ])
       ];
       ahead = λ q more. is.ahead q (omega arith);
@@ -306,7 +306,7 @@ stepped t k few writes s m ps inside (inl is) =
     (worked_is s t k m few inside (is.command inside) is.angle ∙ writes_is t k (64 * (312 * k) + m + 1) s1 writes)
     (λ place. at_place t k s m ps inside place is) (λ none. inl (at_none t k s m ps inside none is)))
 stepped t k few writes s m ps inside (inr is) =
-    inr (record { lost = stays_lost s is.lost; byte = is.byte; inside = is.inside; over = omega (arith, is.over); missed = is.missed })
+    inr (record { lost = stays_lost s is.lost; byte = is.byte; inside = is.inside; over = omega arith; missed = is.missed })
 
 in_place_now : (m : ℕ) → 12 ≤ m / 64 → m / 64 < 22 → is_in_time true 0 (m / 64) ≡ true
 in_place_now m low high = ap (λ b. b && nat_lt (m / 64) 22) (le-leb 12 (m / 64) low) ∙ lt-ltb (m / 64) 22 high
@@ -355,7 +355,7 @@ accessed t k true s x m ps acc (inr is) = inr (record {
   byte = is.byte;
   inside = is.inside;
   over = is.over;
-  missed = any_other (is_in_time true is.byte) ps (m / 64) is.missed (not_in_time is.byte (m / 64) (omega (arith, is.over)));
+  missed = any_other (is_in_time true is.byte) ps (m / 64) is.missed (not_in_time is.byte (m / 64) (omega arith));
 })
 accessed t k false s x m ps acc (inr is) =
     subst (λ qs. Either t k x m qs) (sym (append-nil ps))
@@ -369,8 +369,8 @@ begins s t k at kept = record {
   kept = kept;
   drq = λ h. at.drq ∙ sym (wants_none 0 [] (omega arith));
   served = λ i inside over. elim (over_cases i) [
-    | inl first ↦ absurd (omega (arith, first.1))
-    | inr next ↦ absurd (omega (arith, next.1))
+    | inl first ↦ absurd (omega arith)
+    | inr next ↦ absurd (omega arith)
   ];
   ahead = λ p more. refl;
   early = λ low. refl;
@@ -416,7 +416,7 @@ kept_so true s t k events is at few kept all most served = writes_kept s t k eve
 kept_so false s t k events is at few kept all most served = elim (after_reads s t k events at few kept is all most) [
   | inl fine ↦ fine.kept
   | inr missed ↦
-      absurd (true≢false (sym (served missed.byte (record { byte = missed.inside; over = omega (arith, missed.over) })) ∙ missed.missed))
+      absurd (true≢false (sym (served missed.byte (record { byte = missed.inside; over = omega arith })) ∙ missed.missed))
 ]
 
 told_so : (b : Bool) (s : State) (t : Transfer) (k : ℕ) (events : List Event) → t.writes ≡ b → IsAtSector s t k → k < 10 → s.lost_data ≡ false →
@@ -425,7 +425,7 @@ told_so : (b : Bool) (s : State) (t : Transfer) (k : ℕ) (events : List Event) 
 unfolding has_place
 told_so true s t k events is at few kept all most i over missed = writes_told s t k events at few kept is all most i over missed
 told_so false s t k events is at few kept all most i over missed = elim (after_reads s t k events at few kept is all most) [
-  | inl fine ↦ absurd (true≢false (sym (fine.served i over.byte (omega (arith, over.over))) ∙ missed))
+  | inl fine ↦ absurd (true≢false (sym (fine.served i over.byte (omega arith)) ∙ missed))
   | inr lost ↦ lost.lost
 ]
 
@@ -446,7 +446,7 @@ unfolding has_place
 served s t k events at few kept reads all count in_time =
     elim (after_reads s t k events at few kept reads (lets_go reading s events all) (omega arith)) [
       | inl fine ↦ record { kept = fine.kept; off = fine.last_taken (omega arith) (in_time 255 (omega arith)) }
-      | inr missed ↦ absurd (true≢false (sym (in_time missed.byte (let small = missed.inside in omega arith)) ∙ missed.missed))
+      | inr missed ↦ absurd (true≢false (sym (in_time missed.byte (omega arith)) ∙ missed.missed))
     ]
 
 pub whole : (s : State) (t : Transfer) (k : ℕ) (d : Image) (bytes : List ℕ) (events : List Event) →

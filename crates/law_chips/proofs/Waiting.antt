@@ -54,7 +54,7 @@ CountsFrom s0 c last =
 pub one_step : (c : ℕ → Command) (last : ℕ) (s0 : State) → CountsFrom s0 c last → (s : State) (m : ℕ) → m < last → Waited s0 (c m) s m →
     Waited s0 (c (m + 1)) (step s) (m + 1)
 one_step c last s0 counts s m inside is =
-    let later : (next_angle s.angle + 1) % 200000 ≡ (next_angle s0.angle + (m + 1)) % 200000 = omega (arith, is.angle) in
+    let later : (next_angle s.angle + 1) % 200000 ≡ (next_angle s0.angle + (m + 1)) % 200000 = omega arith in
     subst (λ y. Waited s0 (c (m + 1)) (count_leaves (is_asking s) y) (m + 1)) (sym (counts s m inside is)) (record {
       command = refl;
       track = is.track;

@@ -223,7 +223,7 @@ module _ (d : Image) (t : Transfer) (k : ℕ) where
       Inside (record (moved_on s k m) { drq = true }) (m + 1) bytes
   unfolding moved_on gone asked owed
   asks_first s m bytes now is =
-      let none : length bytes ≡ 0 = omega (arith, is.count) in
+      let none : length bytes ≡ 0 = omega arith in
       plain s (record (moved_on s k m) { drq = true }) m bytes is (λ h. is.going (omega arith)) (λ h. absurd (omega arith)) refl refl refl refl
       (omega arith) (omega arith) (λ off. absurd (true≢false off))
 
@@ -272,9 +272,9 @@ module _ (d : Image) (t : Transfer) (k : ℕ) where
         disc = same_disc t.target.drive (write_leaves 3 v s) s refl refl ∙ is.disc;
         kind = is.kind;
         count = ap (λ n. n + 0) more ∙ let e : length bytes + 1 + 0 ≡ length bytes + 1 = omega arith in e ∙ all;
-        enough = omega (arith, is.enough);
-        stored = λ i low. is.stored i low ∙ sym (get_or_append_left bytes (v ∷ []) 0 i (omega (arith, is.enough)));
-        pending = λ off fewer. get_or_push bytes v 0 (gone m) (omega (arith, is.enough));
+        enough = omega arith;
+        stored = λ i low. is.stored i low ∙ sym (get_or_append_left bytes (v ∷ []) 0 i (omega arith));
+        pending = λ off fewer. get_or_push bytes v 0 (gone m) (omega arith);
         others = is.others;
       }
 
@@ -324,7 +324,7 @@ module _ (d : Image) (t : Transfer) (k : ℕ) where
       let side = t.target.side in
       let head = t.target.head in
       let has_it : has_sector is.now.kind side head k ≡ true = ap (λ kind. has_sector kind side head k) is.kind ∙ has in
-      let long : length bytes ≡ 256 = omega (arith, is.count, is.enough) in
+      let long : length bytes ≡ 256 = omega arith in
       let is_bytes : bytes ≡ sector_bytes is.now side head k =
       fill_by_all (λ i. byte_at is.now (place is.now.kind side head k 0 + i)) bytes 256 0 long
       (λ i low.
@@ -343,7 +343,6 @@ module _ (d : Image) (t : Transfer) (k : ℕ) where
   off_at_end s bytes is =
       false_from_ne_true s.drq (λ on.
       let all : length bytes + 1 ≡ asked 18432 = ap (λ b. length bytes + owed b) (sym on) ∙ is.count in
-      let enough = is.enough in
       omega arith)
 
 -- Byte i is written.
