@@ -219,9 +219,9 @@ draws ram size font beam s =
     let byte = slice_index ram (byte_address beam.ma beam.ra size) in
     choice beam.shown s (draw_leaves ram size font beam s) s
     (choice (bit s.ula.control 1) s (draw_cell_leaves font beam (byte % 128) s) (draw_byte_leaves beam byte s)
-    (record { finished = refl; crtc = refl; ula = refl; place = refl; cursor = refl })
-    (record { finished = refl; crtc = refl; ula = refl; place = refl; cursor = refl }))
-    (record { finished = refl; crtc = refl; ula = refl; place = refl; cursor = refl })
+    (assumption)
+    (assumption))
+    (assumption)
 
 in_bits : (p q : Bool) (x y s : State) → q ≡ false →
     (if p then (if q then x else y) else s).working ≡ (if p then y.working else s.working)

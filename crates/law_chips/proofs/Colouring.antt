@@ -77,27 +77,27 @@ controls_keep = (
   (
     λ code s i. record { foreground = omega arith; background = i.background },
     (
-      λ code s i. record { foreground = i.foreground; background = i.background },
+      λ code s i. assumption,
       (
-        λ code s i. record { foreground = i.foreground; background = i.background },
+        λ code s i. assumption,
         (
-          λ code s i. record { foreground = i.foreground; background = i.background },
+          λ code s i. assumption,
           (
-            λ code s i. record { foreground = i.foreground; background = i.background },
+            λ code s i. assumption,
             (
-              λ code s i. record { foreground = i.foreground; background = i.background },
+              λ code s i. assumption,
               (
-                λ code s i. record { foreground = i.foreground; background = i.background },
+                λ code s i. assumption,
                 (
-                  λ code s i. record { foreground = i.foreground; background = i.background },
+                  λ code s i. assumption,
                   (
                     λ code s i. record { foreground = i.foreground; background = omega arith },
                     (
-                      λ code s i. record { foreground = i.foreground; background = i.foreground },
+                      λ code s i. assumption,
                       (
-                        λ code s i. record { foreground = i.foreground; background = i.background },
+                        λ code s i. assumption,
                         (
-                          λ code s i. record { foreground = i.foreground; background = i.background },
+                          λ code s i. assumption,
                           tt,
                         ),
                       ),
@@ -124,7 +124,7 @@ inks_at code s i = inks_if (holds_at_once controls code) (effect_of controls cod
 inks_after : (code : ℕ) (s : Style) → Inks s → Inks (style_after code s)
 inks_after code s i =
     inks_if (nat_lt code 0x20) (effect_of controls code s) _ (obeyed_inks controls controls_keep code s i)
-    (inks_if (s.graphics && is_sixel code) _ s (record { foreground = i.foreground; background = i.background }) i)
+    (inks_if (s.graphics && is_sixel code) _ s (assumption) i)
 
 cell_colours : (font : Font) (code : ℕ) (beam : Beam) (t : Text) → Inks t.codes.style → AreColours (cell_of font code beam t)
 unfolding cell_of
@@ -218,7 +218,7 @@ clock_coloured : (ram : List ℕ) (size : ℕ) (font : Font) (s : State) → IsC
 unfolding char_clock_leaves
 clock_coloured ram size font s h =
     told_coloured ram size font (beam_of s.crtc) (record s { crtc = clock_leaves s.crtc })
-    (record { text = h.text; working = h.working; finished = h.finished })
+    (assumption)
 
 moved : (m : Move) (s : State) → IsColoured s → IsColoured (after_move m s)
 moved (clock ram size font) s h = clock_coloured ram size font s h
@@ -226,8 +226,8 @@ moved (step ram size font) s h =
     let once : IsColoured (char_clock_leaves ram size font s) = clock_coloured ram size font s h in
     coloured_if (bit s.ula.control 4) (char_clock_leaves ram size font (char_clock_leaves ram size font s)) (char_clock_leaves ram size font s)
     (clock_coloured ram size font (char_clock_leaves ram size font s) once) once
-moved (new_crtc chip) s h = record { text = h.text; working = h.working; finished = h.finished }
-moved (new_ula chip) s h = record { text = h.text; working = h.working; finished = h.finished }
+moved (new_crtc chip) s h = assumption
+moved (new_ula chip) s h = assumption
 
 all_moved : (moves : List Move) (s : State) → IsColoured s → IsColoured (after_moves moves s)
 all_moved [] s h = h

@@ -302,7 +302,7 @@ told f reg v c =
     unless P 0 reg (at_orb v c f) (λ n0. unless P 1 reg (at_ora v c f) (λ n1. unless P 5 reg (at_t1_counter v c f) (λ n5.
     unless P 7 reg (at_t1_latch v c f) (λ n7. unless P 9 reg (at_t2_counter v c f) (λ n9. unless P 10 reg (at_sr v c f) (λ n10.
     unless P 13 reg (at_ifr v c f) (λ n13.
-    kept f reg v c (record { orb = n0; ora = n1; t1_counter = n5; t1_latch = n7; t2_counter = n9; sr = n10; ifr = n13 }))))))))
+    kept f reg v c (assumption))))))))
 
 by_write : (f : Flag) (reg v : ℕ) (c : State) → is_set f (write_leaves reg v c).flags ≡ (is_set f c.flags && not (is_cleared f (write reg v) c))
 unfolding IsAsTold

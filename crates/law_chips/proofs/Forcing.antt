@@ -28,7 +28,7 @@ stepped : (asks : Bool) (s : State) → Rests asks s → Rests asks (step s)
 stepped asks s is =
     let s1 : State = record s { angle = Some (next_angle s.angle) } in
     subst (λ y. Rests asks (count_leaves (is_asking s) y)) (sym (ap (λ c. command_step c (next_angle s.angle) s1) is.command))
-    (record { command = is.command; intrq = is.intrq })
+    (assumption)
 
 heard : (b asks intrq : Bool) → intrq ≡ asks → (if b then false else intrq) ≡ (asks && not b)
 heard true true intrq is = refl
@@ -43,13 +43,13 @@ was_read asks reg s is =
 
 was_written : (asks : Bool) (reg v : ℕ) (s : State) → 1 ≤ reg → reg ≤ 3 → Rests asks s → Rests asks (write_leaves reg v s)
 was_written asks reg v s low high is =
-    of_three (λ r. Rests asks (write_leaves r v s)) (record { command = is.command; intrq = is.intrq }) (record { command = is.command; intrq = is.intrq })
-    (record { command = is.command; intrq = is.intrq }) reg low high
+    of_three (λ r. Rests asks (write_leaves r v s)) (assumption) (assumption)
+    (assumption) reg low high
 
 was_latched : (asks : Bool) (v : ℕ) (s : State) → is_reset v ≡ false → Rests asks s → Rests asks (latch_leaves v s)
 was_latched asks v s off is =
     subst (λ b. Rests asks (if b then stop_leaves (record s { latch = v }) else record s { latch = v })) (sym off)
-    (record { command = is.command; intrq = is.intrq })
+    (assumption)
 
 both : (asks a b : Bool) → ((asks && not a) && not b) ≡ (asks && not (a || b))
 both true true b = refl
@@ -72,21 +72,11 @@ run asks (latch v ∷ es) s all is = run asks es (latch_leaves v s) all.1 (was_l
 from_forced : (s : State) (v : ℕ) (events : List Event) → is_reset s.latch ≡ false → v / 16 ≡ 0xD → AllLetGo events →
     Rests (bit v 3 && not (status_is_read events)) (history events (write_leaves 0 v s))
 from_forced s v events live is all =
-    run (bit v 3) events (write_leaves 0 v s) all (subst (Rests (bit v 3)) (sym (forced s v live is)) (record { command = refl; intrq = refl }))
+    run (bit v 3) events (write_leaves 0 v s) all (subst (Rests (bit v 3)) (sym (forced s v live is)) (assumption))
 
 pub interrupts_are_forced : InterruptsAreForced
 interrupts_are_forced = record {
   over = λ s v events live is all. (from_forced s v events live is all).command;
   asks = λ s v events live is all. (from_forced s v events live is all).intrq;
-  rest = λ s v live is. subst (LeavesRest s) (sym (forced s v live is)) (record {
-    track = refl;
-    sector = refl;
-    byte = refl;
-    drive0 = refl;
-    drive1 = refl;
-    drq = refl;
-    lost_data = refl;
-    not_found = refl;
-    status = refl;
-  });
+  rest = λ s v live is. subst (LeavesRest s) (sym (forced s v live is)) (assumption);
 }

@@ -111,7 +111,7 @@ loses s0 s t left m going none end =
     let is : work_leaves s ≡ not_found s1 =
     step_by false s0 s t left m going none
     ∙ ap (λ b. if b then record s1 { command = Searching t (left - m - 1) } else not_found s1) (le-ltb 1 (left - m) (omega arith)) in
-    subst (λ y. Lost (count_leaves (is_asking s) y)) (sym is) (record { command = refl; none = refl })
+    subst (λ y. Lost (count_leaves (is_asking s) y)) (sym is) (assumption)
 
 -- ---- Reads of registers.
 
@@ -131,7 +131,7 @@ found_read s0 t reg s found =
 
 lost_read : (reg : ℕ) (s : State) → Lost s → Lost (read_leaves reg s)
 lost_read reg s lost =
-    subst (λ y. Lost (count_leaves (is_asking s) y)) (sym (read_makes (reg == 0) (reg == 3) s)) (record { command = lost.command; none = lost.none })
+    subst (λ y. Lost (count_leaves (is_asking s) y)) (sym (read_makes (reg == 0) (reg == 3) s)) (assumption)
 
 -- ---- Runs.
 

@@ -98,7 +98,7 @@ unfolding moved_on
 kept_step t k at leaves few many s0 s m inside going angle by is =
     let s1 = moved_on s k m in
     let To : State → Type 0 = λ x. Kept s0 (count_leaves (is_asking s) x) (m + 1) in
-    let counted : (x : State) → Kept s0 x (m + 1) → To x = λ x h. record { latch = h.latch; track = h.track; sector = h.sector; next = h.next } in
+    let counted : (x : State) → Kept s0 x (m + 1) → To x = λ x h. assumption in
     at_each at To k m s1 (work_leaves s) (worked_is s t k m few inside going angle ∙ by)
     (λ passes_by.
     let place = (m + 1) / 64 in
@@ -107,17 +107,17 @@ kept_step t k at leaves few many s0 s m inside going angle by is =
       | inr other ↦
           let regs = leaves.others place s1 other in
           counted (at (Some place) s1) (plain s0 s (at (Some place) s1) m (before_end m inside (λ h e. other e))
-          (record { latch = regs.latch; track = regs.track; sector = regs.sector }) is)
+          (assumption) is)
     ])
     (λ none. subst To (sym (leaves.none s1))
-    (counted s1 (plain s0 s s1 m (before_end m inside (λ h e. none h)) (record { latch = refl; track = refl; sector = refl }) is)))
+    (counted s1 (plain s0 s s1 m (before_end m inside (λ h e. none h)) (assumption) is)))
 
 -- an access of a program that only reads registers, or gives bytes
 regs_kept : (e : Event) (s : State) → IsAccess e → Gives e → Regs s (happens e s)
 regs_kept microsecond s access may = absurd access
 regs_kept (read reg) s access may =
-    subst (λ y. Regs s (count_leaves (is_asking s) y)) (sym (read_makes (reg == 0) (reg == 3) s)) (record { latch = refl; track = refl; sector = refl })
-regs_kept (write reg v) s access may = subst (λ r. Regs s (write_leaves r v s)) (sym may) (record { latch = refl; track = refl; sector = refl })
+    subst (λ y. Regs s (count_leaves (is_asking s) y)) (sym (read_makes (reg == 0) (reg == 3) s)) (assumption)
+regs_kept (write reg v) s access may = subst (λ r. Regs s (write_leaves r v s)) (sym may) (assumption)
 regs_kept (latch v) s access may = absurd may
 
 pub kept_access : (s0 : State) (e : Event) (s : State) (m : ℕ) → IsAccess e → Gives e → Kept s0 s m → Kept s0 (happens e s) m
@@ -146,8 +146,8 @@ reading_leaves t k = record {
   others = λ place s other.
       either (is_byte_place 31 place) s (byte_came (byte_on_disc (disc_in t.target.drive s) t.target k (place - 31)) s)
       (if place == 288 then sector_ended t s else s)
-      (record { latch = refl; track = refl; sector = refl })
-      (subst (λ b. Regs s (if b then sector_ended t s else s)) (sym (ne_eqb place 288 other)) (record { latch = refl; track = refl; sector = refl }));
+      (assumption)
+      (subst (λ b. Regs s (if b then sector_ended t s else s)) (sym (ne_eqb place 288 other)) (assumption));
   ends = λ place s end. rw (behind_bytes place (omega arith), eq-eqb place 288 end) refl;
 }
 
@@ -244,21 +244,21 @@ sectors_follow s t d (round ∷ rounds) is inside timely =
 -- ---- The registers.
 
 put_keeps : (number : Option DriveNumber) (target : Target) (k i v : ℕ) (s : State) → Regs s (written_in number target k i v s)
-put_keeps None target k i v s = record { latch = refl; track = refl; sector = refl }
-put_keeps (Some Drive0) target k i v s = record { latch = refl; track = refl; sector = refl }
-put_keeps (Some Drive1) target k i v s = record { latch = refl; track = refl; sector = refl }
+put_keeps None target k i v s = assumption
+put_keeps (Some Drive0) target k i v s = assumption
+put_keeps (Some Drive1) target k i v s = assumption
 
 byte_keeps : (target : Target) (k i : ℕ) (s : State) → Regs s (byte_written target k i s)
 byte_keeps target k i s =
-    let p = put_keeps target.drive target k i (if s.drq then 0 else s.byte) s in record { latch = p.latch; track = p.track; sector = p.sector }
+    let p = put_keeps target.drive target k i (if s.drq then 0 else s.byte) s in assumption
 
 -- at any place but the end
 place_keeps : (t : Transfer) (k place : ℕ) (s : State) → (place ≡ 288 → ⊥) → Regs s (writing_at t k (Some place) s)
 place_keeps t k place s other =
     let last : (if place == 288 then sector_ended t s else s) ≡ s = ap (λ b. if b then sector_ended t s else s) (ne_eqb place 288 other) in
-    let same : Regs s s = record { latch = refl; track = refl; sector = refl } in
-    either (place == 12) s _ _ (record { latch = refl; track = refl; sector = refl })
-    (either ((place == 22) && s.drq) s _ _ (record { latch = refl; track = refl; sector = refl })
+    let same : Regs s s = assumption in
+    either (place == 12) s _ _ (assumption)
+    (either ((place == 22) && s.drq) s _ _ (assumption)
     (either (is_byte_place 30 place) s _ _ (byte_keeps t.target k (place - 30) s) (subst (Regs s) (sym last) same)))
 
 -- what a sector does that is written

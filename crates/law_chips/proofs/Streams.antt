@@ -71,15 +71,15 @@ of_three P one two three reg low high = elim (cases_eq reg 1) [
 write_leaves_it : (reg v : ℕ) (s : State) → 1 ≤ reg → reg ≤ 3 → Accessed (reg == 3) s (write_leaves reg v s)
 write_leaves_it reg v s =
     of_three (λ r. Accessed (r == 3) s (write_leaves r v s))
-    (record { command = refl; angle = refl; drive0 = refl; drive1 = refl; lost = refl; drq = refl; byte = λ h. refl })
-    (record { command = refl; angle = refl; drive0 = refl; drive1 = refl; lost = refl; drq = refl; byte = λ h. refl })
+    (assumption)
+    (assumption)
     (record { command = refl; angle = refl; drive0 = refl; drive1 = refl; lost = refl; drq = refl; byte = λ h. absurd (true≢false h) })
     reg
 
 latch_leaves_it : (v : ℕ) (s : State) → is_reset v ≡ false → Accessed false s (latch_leaves v s)
 latch_leaves_it v s off =
     subst (λ b. Accessed false s (if b then stop_leaves (record s { latch = v }) else record s { latch = v })) (sym off)
-    (record { command = refl; angle = refl; drive0 = refl; drive1 = refl; lost = refl; drq = refl; byte = λ h. refl })
+    (assumption)
 
 -- ---- Events.
 
@@ -393,15 +393,7 @@ module _ (f : Stream) where
 
   counted : (before : Bool) (s : State) (m : ℕ) (ps : List ℕ) → Fine s m ps → Fine (count_leaves before s) m ps
   unfolding has_place
-  counted before s m ps is = record {
-    command = is.command;
-    angle = is.angle;
-    kept = is.kept;
-    drq = is.drq;
-    served = is.served;
-    ahead = is.ahead;
-    last_taken = is.last_taken;
-  }
+  counted before s m ps is = assumption
 
   -- DRQ in the place before another
   drq_before : (s : State) (m : ℕ) (ps : List ℕ) (b : Bool) → m < 64 * (f.first + f.l + 1) → Fine s m ps →

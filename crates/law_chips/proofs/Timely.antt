@@ -99,15 +99,7 @@ abbrev Either : Transfer → ℕ → State → ℕ → List ℕ → Type 0
 Either t k s m ps = Fine t k s m ps ⊎ Missed s m ps
 
 counted : (t : Transfer) (k : ℕ) (before : Bool) (s : State) (m : ℕ) (ps : List ℕ) → Either t k s m ps → Either t k (count_leaves before s) m ps
-counted t k before s m ps (inl is) = inl (record {
-  command = is.command;
-  angle = is.angle;
-  kept = is.kept;
-  drq = is.drq;
-  served = is.served;
-  ahead = is.ahead;
-  early = is.early;
-})
+counted t k before s m ps (inl is) = inl (assumption)
 counted t k before s m ps (inr is) = inr (record { lost = is.lost; byte = is.byte; inside = is.inside; over = is.over; missed = is.missed })
 
 -- the time of no byte ends with this step
@@ -390,7 +382,7 @@ unfolding given
 writes_kept s t k events at few kept writes all most served = elim (after_writes s t k events at few kept writes all most) [
   | inl fine ↦ fine.kept
   | inr missed ↦
-      absurd (true≢false (sym (served missed.byte (record { byte = missed.inside; over = missed.over })) ∙ missed.missed))
+      absurd (true≢false (sym (served missed.byte (assumption)) ∙ missed.missed))
 ]
 
 pub writes_told : (s : State) (t : Transfer) (k : ℕ) (events : List Event) → IsAtSector s t k → k < 10 → s.lost_data ≡ false → t.writes ≡ true →

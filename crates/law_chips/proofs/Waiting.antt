@@ -55,21 +55,7 @@ pub one_step : (c : ℕ → Command) (last : ℕ) (s0 : State) → CountsFrom s0
     Waited s0 (c (m + 1)) (step s) (m + 1)
 one_step c last s0 counts s m inside is =
     let later : (next_angle s.angle + 1) % 200000 ≡ (next_angle s0.angle + (m + 1)) % 200000 = omega arith in
-    subst (λ y. Waited s0 (c (m + 1)) (count_leaves (is_asking s) y) (m + 1)) (sym (counts s m inside is)) (record {
-      command = refl;
-      track = is.track;
-      sector = is.sector;
-      byte = is.byte;
-      latch = is.latch;
-      drive0 = is.drive0;
-      drive1 = is.drive1;
-      last_inward = is.last_inward;
-      type_one = is.type_one;
-      not_found = is.not_found;
-      lost = is.lost;
-      drq = is.drq;
-      angle = later;
-    })
+    subst (λ y. Waited s0 (c (m + 1)) (count_leaves (is_asking s) y) (m + 1)) (sym (counts s m inside is)) (assumption)
 
 pub waited_read : (s0 : State) (c : Command) (reg : ℕ) (s : State) (m : ℕ) → Waited s0 c s m → Waited s0 c (read_leaves reg s) m
 waited_read s0 c reg s m is =
