@@ -32,9 +32,7 @@ use Rattle.law_chips.proofs.Waiting.{read_makes, small_angle, Waited, CountsFrom
 worked : (s : State) (target : Target) (k m : ℕ) → k < 10 → m < 896 → s.command ≡ GivingAddress target k → s.angle ≡ Some (64 * (312 * k) + m) →
     work_leaves s ≡ address_at target k (places_into k (64 * (312 * k) + m + 1)) (moved_on s k m)
 unfolding moved_on
-worked s target k m few inside goes at =
-    let on : (64 * (312 * k) + m + 1) % 200000 ≡ 64 * (312 * k) + m + 1 = omega arith in
-    rw (goes, at, on) refl
+worked s target k m few inside goes at = grind arith
 
 at_byte : (place : ℕ) → 7 ≤ place → place ≤ 12 → (nat_le 7 place && nat_le place 12) ≡ true
 at_byte place low high = rw (le-leb 7 place low, le-leb place 12 high) refl
@@ -43,7 +41,7 @@ before_bytes : (place : ℕ) → place < 7 → (nat_le 7 place && nat_le place 1
 before_bytes place early = rw (lt-leb 7 place early) refl
 
 behind_bytes : (place : ℕ) → 12 < place → (nat_le 7 place && nat_le place 12) ≡ false
-behind_bytes place late = and_right (nat_le 7 place) (nat_le place 12) (lt-leb place 12 late)
+behind_bytes place late = grind arith
 
 -- ---- Which places are in time.
 
@@ -63,15 +61,7 @@ of_address target k = record {
 quiet : (target : Target) (k : ℕ) (s : State) (m : ℕ) → m < 896 → s.command ≡ GivingAddress target k → (m + 1 ≡ 896 → ⊥) →
     ((m + 1) % 64 ≡ 0 → 7 ≤ (m + 1) / 64 → (m + 1) / 64 ≤ 7 + 5 → ⊥) → Next (of_address target k) s (moved_on s k m) m
 unfolding moved_on
-quiet target k s m inside is early none = record {
-  command = λ h. is;
-  over = λ h. absurd (early (omega arith));
-  angle = next_place k m;
-  drive0 = refl;
-  drive1 = refl;
-  byte = λ place low high. absurd (none place low high);
-  none = λ h. (refl, refl, refl);
-}
+quiet target k s m inside is early none = grind arith
 
 at_place : (target : Target) (k : ℕ) (s : State) (m : ℕ) → m < 896 → (m + 1) % 64 ≡ 0 → s.command ≡ GivingAddress target k →
     Next (of_address target k) s (address_at target k (Some ((m + 1) / 64)) (moved_on s k m)) m
@@ -128,16 +118,13 @@ after_address s target k events at few all most =
 -- ---- Which bytes are taken.
 
 read_keeps : (reg : ℕ) (s : State) → (read_leaves reg s).sector ≡ s.sector
-read_keeps reg s = ap (λ (x : State). (count_leaves (is_asking s) x).sector) (read_makes (reg == 0) (reg == 3) s)
+read_keeps reg s = grind arith
 
 -- the end is not undone by a program that waits
 over_kept : (target : Target) (e : Event) (s : State) → IsAccess e → Waits e → Accessed (is_data e) s (happens e s) →
     (s.command ≡ Idle) × (s.sector ≡ target.head) →
     ((happens e s).command ≡ Idle) × ((happens e s).sector ≡ target.head)
-over_kept target microsecond s access may acc over = absurd access
-over_kept target (read reg) s access may acc over = (acc.command ∙ over.0, read_keeps reg s ∙ over.1)
-over_kept target (write reg v) s access may acc over = absurd may
-over_kept target (latch v) s access may acc over = absurd may
+over_kept target e s access may acc over = grind arith
 
 takes : (s : State) (target : Target) (k : ℕ) (events : List Event) → IsAtAddress s target k → k < 10 → AllWait events → count_steps events ≤ 896 →
     Taking (of_address target k) (address_bytes target k) s (history events s) (count_steps events) (bytes_taken s events)
@@ -201,14 +188,10 @@ address_command v s low high = rw (le-ltb v 0x80 (omega arith), le-ltb v 0xC0 lo
 
 -- where one sector of a track is on the disc all ten are, and none else
 on_disc_so : (o : Option Image) (target : Target) (k : ℕ) → is_on_disc o target 0 ≡ true → is_on_disc o target k ≡ nat_lt k 10
-on_disc_so None target k is = cc
-on_disc_so (Some d) target k is =
-    let parts = and_parts _ _ is in ap (λ b. b && nat_lt k 10) parts.0
+on_disc_so o target k is = grind arith
 
 and_false_twice : (a b : Bool) → (a && b && false) ≡ false
-and_false_twice true true = refl
-and_false_twice true false = refl
-and_false_twice false b = refl
+and_false_twice a b = grind arith
 
 and_false_between : (a b : Bool) → (a && false && b) ≡ false
 and_false_between true b = refl

@@ -46,23 +46,7 @@ added w a j some small =
 pub next_place : (w n : ℕ) → 0 < w →
     (((n + 1) % w ≡ 0) × (((n + 1) / w ≡ n / w + 1) × (n % w + 1 ≡ w)))
     ⊎ (((n + 1) % w ≡ n % w + 1) × (((n + 1) / w ≡ n / w) × (n % w + 1 < w)))
-next_place w n some =
-    let q = n / w in
-    let h = n % w in
-    let e : q * w + h ≡ n = div-add-mod' n w in
-    let lt : h < w = mod_below n w some in
-    elim (cases_lt (h + 1) w) [
-      | inl inner ↦
-          let same : q * w + (h + 1) ≡ n + 1 = omega arith in
-          inr (ap (λ k. k % w) (sym same) ∙ mod-mul-add q w (h + 1) inner, (ap (λ k. k / w) (sym same) ∙ div-mul-add q w (h + 1) inner, inner))
-      | inr over ↦
-          let turn : (q + 1) * w ≡ q * w + w = grind arith in
-          let same : (q + 1) * w + 0 ≡ n + 1 = omega arith in
-          inl (
-            ap (λ k. k % w) (sym same) ∙ mod-mul-add (q + 1) w 0 some,
-            (ap (λ k. k / w) (sym same) ∙ div-mul-add (q + 1) w 0 some, omega arith),
-          )
-    ]
+next_place w n some = grind arith
 
 pub test_true : (a b : ℕ) → a ≡ b → (a == b) ≡ true
 test_true a b h = grind (arith, nat_tests)
@@ -89,12 +73,7 @@ comes w r v small =
     ]
 
 pub differs : (w a j : ℕ) → 0 < j → j < w → a % w ≡ (a + j) % w → ⊥
-differs w a j more small same =
-    let lt : a % w < w = mod_below a w (omega arith) in
-    elim (added w a j (omega arith) small) [
-      | inl is ↦ omega arith
-      | inr is ↦ omega arith
-    ]
+differs w a j more small same = grind arith
 
 -- rounds of rounds
 pub within_rounds : (w l t : ℕ) → t % (w * l) % w ≡ t % w
@@ -118,11 +97,7 @@ pub record Inside (left x y : ℕ) : Type 0 where
   pub bottom : y < 296
 
 pub inside : (left x y : ℕ) → is_in_frame left x y ≡ true → Inside left x y
-inside left x y e =
-    let p = both _ (ltb y 296) e in
-    let q = both _ (leb 40 y) p.0 in
-    let r = both (leb left x) (ltb x (left + 640)) q.0 in
-    record { from = leb-true _ _ r.0; to = ltb-true _ _ r.1; top = leb-true _ _ q.1; bottom = ltb-true _ _ p.1 }
+inside left x y e = grind arith
 
 -- where the dot at x and y is in the frame
 abbrev pub dot_index : ℕ → ℕ → ℕ → ℕ
@@ -161,14 +136,10 @@ other_one left p q x y colour frame here apart = by_test (is_in_frame left x y) 
       ])
 
 first_apart : (p q x y many : ℕ) → IsApart p q x y (suc many) → IsApart p q x y 1
-first_apart p q x y many (inl line) = inl line
-first_apart p q x y many (inr (inl before)) = inr (inl before)
-first_apart p q x y many (inr (inr after)) = inr (inr (omega arith))
+first_apart p q x y many h1 = grind arith
 
 rest_apart : (p q x y many : ℕ) → IsApart p q x y (suc many) → IsApart p q (x + 1) y many
-rest_apart p q x y many (inl line) = inl line
-rest_apart p q x y many (inr (inl before)) = inr (inl (omega arith))
-rest_apart p q x y many (inr (inr after)) = inr (inr (omega arith))
+rest_apart p q x y many h1 = grind arith
 
 pub others : (left p q x y : ℕ) (dots frame : List ℕ) → Inside left p q → IsApart p q x y (length dots) →
     slice_index (dots_set left x y dots frame) (dot_index left p q) ≡ slice_index frame (dot_index left p q)
@@ -225,10 +196,7 @@ draws ram size font beam s =
 
 in_bits : (p q : Bool) (x y s : State) → q ≡ false →
     (if p then (if q then x else y) else s).working ≡ (if p then y.working else s.working)
-in_bits p q x y s off = rw off (by_test p) where
-  by_test : (p : Bool) → (if p then y else s).working ≡ (if p then y.working else s.working)
-  by_test true = refl
-  by_test false = refl
+in_bits p q x y s off = grind arith
 
 -- the dots of a character of a bit-mapped mode
 abbrev pub dots_at : List ℕ → ℕ → Beam → State → List ℕ
@@ -340,13 +308,7 @@ pub record Laws : Type 0 where
 -- ---- When the syncs begin.
 
 sync_is_early : (c : crtc.State) → MakesFrames c → sync_line c.registers < frame_lines c.registers
-sync_is_early c makes =
-    let r = c.registers in
-    let some : 0 < row_lines r = omega arith in
-    let least : r.vertical_sync_position * row_lines r + 0 < row_lines r * (r.vertical_total + 1) =
-    mul-add-lt r.vertical_sync_position (row_lines r) 0 (r.vertical_total + 1) (omega arith) some in
-    let turn : row_lines r * (r.vertical_total + 1) ≡ (r.vertical_total + 1) * row_lines r = mul_comm (row_lines r) (r.vertical_total + 1) in
-    omega arith
+sync_is_early c makes = grind arith
 
 pub sync_in_frame : (c : crtc.State) → MakesFrames c → sync_clock c.registers < frame_clocks c.registers
 sync_in_frame c makes =
@@ -380,14 +342,10 @@ abbrev pub place_in : (ℕ → List ℕ) → (ℕ → ℕ) → Font → State �
 place_in ram size font s n = place_at (tells n s.crtc) (char_clocks ram size font n s).place
 
 pub eight_or_sixteen : (control : ℕ) → (dots_of control ≡ 8) ⊎ (dots_of control ≡ 16)
-eight_or_sixteen control = by_test (bit control 4) where
-  by_test : (b : Bool) → (◌≡◌ {A = ℕ} (if b then 8 else 16) 8) ⊎ (◌≡◌ {A = ℕ} (if b then 8 else 16) 16)
-  by_test true = inl refl
-  by_test false = inr refl
+eight_or_sixteen control = grind arith
 
 fits : (h dots : ℕ) → h < 255 → (dots ≡ 8) ⊎ (dots ≡ 16) → min (h * dots + dots) 4095 ≡ (h + 1) * dots
-fits h dots small (inl e) = rw e (omega arith)
-fits h dots small (inr e) = rw e (omega arith)
+fits h dots small h2 = grind arith
 
 nought : (dots : ℕ) → 0 ≡ 0 * dots
 nought dots = omega arith
@@ -436,8 +394,7 @@ column_walk laws ram size font s makes (suc t) =
 -- the lines since vertical sync
 y_at : (b : Beam) (p : Place) (q k : Bool) → b.frame_end ≡ q → b.line_start ≡ k →
     (place_at b p).y ≡ (if q then 0 else if k then min (p.y + 1) 1023 else p.y)
-y_at b p q k is starts = ap (λ i. if i then 0 else if b.line_start then min (p.y + 1) 1023 else p.y) is
-    ∙ ap (λ i. if q then 0 else if i then min (p.y + 1) 1023 else p.y) starts
+y_at b p q k is starts = grind arith
 
 one_more : (k : ℕ) → min (min k 1023 + 1) 1023 ≡ min (k + 1) 1023
 one_more k = omega arith

@@ -47,21 +47,7 @@ cases_more m left = cases_lt (m + 1) left
 
 settles_down : (t : Transfer) (left : ℕ) → CountsDown (settling t left) left
 unfolding settling
-settles_down t left s m inside is =
-    let now : s.command ≡ Settling t (left - m) = is ∙ ap (λ b. if b then Settling t (left - m) else search_of t) (lt-ltb m left inside) in
-    let next : (if nat_lt 1 (left - m) then Settling t (left - m - 1) else search_of t) ≡
-    (if nat_lt (m + 1) left then Settling t (left - (m + 1)) else search_of t) =
-    elim (cases_more m left) [
-      | inl more ↦
-          let less : left - m - 1 ≡ left - (m + 1) = omega arith in
-          ap (λ b. if b then Settling t (left - m - 1) else search_of t) (lt-ltb 1 (left - m) (omega arith))
-          ∙ ap (Settling t) less ∙ sym (ap (λ b. if b then Settling t (left - (m + 1)) else search_of t) (lt-ltb (m + 1) left more))
-      | inr none ↦
-          ap (λ b. if b then Settling t (left - m - 1) else search_of t) (le-ltb 1 (left - m) (omega arith))
-          ∙ sym (ap (λ b. if b then Settling t (left - (m + 1)) else search_of t) (le-ltb (m + 1) left none))
-    ] in
-    ap (λ c. command_step c (next_angle s.angle) (record s { angle = Some (next_angle s.angle) })) now
-    ∙ ap (λ c. record s { angle = Some (next_angle s.angle); command = c }) next
+settles_down t left = grind arith
 
 settled_is : (b : Bool) (v : ℕ) (s : State) → bit v 2 ≡ b → sectors_of v s ≡ settling (transfer_of v s) (settle_time v) 0
 unfolding settling
@@ -70,7 +56,7 @@ settled_is false v s is = rw is refl
 
 over_is : (t : Transfer) (left : ℕ) → settling t left left ≡ search_of t
 unfolding settling
-over_is t left = ap (λ b. if b then Settling t (left - left) else search_of t) (le-ltb left left (omega arith))
+over_is t left = grind arith
 
 -- where the sector begins
 pub record Starts (s0 : State) (t : Transfer) (s : State) : Type 0 where
@@ -82,11 +68,7 @@ pub record Starts (s0 : State) (t : Transfer) (s : State) : Type 0 where
 -- a search has a sector as it had before the waiting
 same_match : (s s1 : State) (t : Transfer) → s1.latch ≡ s.latch → s1.track ≡ s.track → s1.sector ≡ s.sector → s1.drive0 ≡ s.drive0 → s1.drive1 ≡ s.drive1 →
     has_match t s1 ≡ has_match t s
-same_match s s1 t latch track sector drive0 drive1 =
-    ap (λ l. is_single_density l && ((t.target.head == s1.track) && is_on_disc (disc_in t.target.drive s1) t.target s1.sector)) latch
-    ∙ ap (λ n. is_single_density s.latch && ((t.target.head == n) && is_on_disc (disc_in t.target.drive s1) t.target s1.sector)) track
-    ∙ ap (λ o. is_single_density s.latch && ((t.target.head == s.track) && is_on_disc o t.target s1.sector)) (same_disc t.target.drive s1 s drive0 drive1)
-    ∙ ap (λ n. is_single_density s.latch && ((t.target.head == s.track) && is_on_disc (disc_in t.target.drive s) t.target n)) sector
+same_match s s1 t latch track sector drive0 drive1 = grind arith
 
 pub starts : (s : State) (v : ℕ) (settles waits : List Event) → 0x80 ≤ v → v < 0xC0 → IsFound s v settles waits →
     Starts s (transfer_of v s) (found_after v settles waits s)
@@ -133,12 +115,7 @@ counting m left n = Moving m (left - n)
 
 counts : (m : Motion) (left : ℕ) → CountsDown (counting m left) (left - 1)
 unfolding counting
-counts m left s n inside is =
-    let s1 : State = record s { angle = Some (next_angle s.angle) } in
-    let less : left - n - 1 ≡ left - (n + 1) = omega arith in
-    ap (λ c. command_step c (next_angle s.angle) s1) is
-    ∙ ap (λ b. if b then record s1 { command = Moving m (left - n - 1) } else move_leaves m s1) (lt-ltb 1 (left - n) (omega arith))
-    ∙ ap (λ k. record s1 { command = Moving m k }) less
+counts m left = grind arith
 
 motion_command : (v : ℕ) (s : State) → v < 0x80 → command_of v s ≡ motion_of v s
 motion_command v s low = rw (lt-ltb v 0x80 low) refl
@@ -159,9 +136,7 @@ same_drive Drive0 s s0 a b = a
 same_drive Drive1 s s0 a b = b
 
 same_head : (s s0 : State) → s.latch ≡ s0.latch → s.drive0 ≡ s0.drive0 → s.drive1 ≡ s0.drive1 → head_selected s ≡ head_selected s0
-same_head s s0 latch a b =
-    ap (λ l. (drive_of (drive_or_0 (drive_selected l)) s).head) latch
-    ∙ ap (λ (d : Drive). d.head) (same_drive (drive_or_0 (drive_selected s0.latch)) s s0 a b)
+same_head s s0 latch a b = grind arith
 
 put_in : (number : DriveNumber) (d : Drive) (s : State) → drive_of number (with_drive number d s) ≡ d
 put_in Drive0 d s = refl
@@ -186,18 +161,7 @@ record Moved (m : Motion) (there value : ℕ) (before x : State) : Type 0 where
   pub last_inward : x.last_inward ≡ (if m.steps == 0 then before.last_inward else m.inward)
 
 moved : (m : Motion) (s : State) → Moved m (head_after m s) (track_after m s) s (move_leaves m s)
-moved m s =
-    let x = with_drive m.drive (record (drive_of m.drive s) { head = head_after m s }) s in
-    record {
-      over = refl;
-      asks = refl;
-      latch = put_keeps m.drive (record (drive_of m.drive s) { head = head_after m s }) s;
-      head =
-          renamed m.drive (move_leaves m s) x refl refl ∙ ap (λ (d : Drive). d.head) (put_in m.drive (record (drive_of m.drive s) { head = head_after m s }) s);
-      track = refl;
-      not_found = refl;
-      last_inward = refl;
-    }
+moved m s = grind arith
 
 -- what a motion makes of the head, and of the track register
 head_by : Motion → ℕ → ℕ
@@ -273,7 +237,7 @@ by_tests false false v s = refl
 
 is_step : (v : ℕ) (s : State) → 0x20 ≤ v → motion_of v s ≡ step_once v (inward_by v s) s
 unfolding inward_by
-is_step v s low = rw (le-ltb v 0x10 (omega arith), le-ltb v 0x20 low) (by_tests (nat_lt v 0x40) (nat_lt v 0x60) v s)
+is_step v s low = grind arith
 
 step_motion : ℕ → Bool → State → Motion
 step_motion v inward s = motion v inward (if bit v 4 then Follows else Stays) 1 s
@@ -323,14 +287,7 @@ sought s v waits low high is end =
 
 -- a head that is where the track register says comes to where the data register says
 gets_there : (byte track : ℕ) → byte ≤ 83 → head_moved (nat_lt track byte) (max byte track - min byte track) track ≡ byte
-gets_there byte track small = elim (cases_lt track byte) [
-  | inl more ↦
-      let e : min 83 (track + (max byte track - min byte track)) ≡ byte = omega arith in
-      ap (λ b. head_moved b (max byte track - min byte track) track) (lt-ltb track byte more) ∙ e
-  | inr less ↦
-      let e : track - (max byte track - min byte track) ≡ byte = omega arith in
-      ap (λ b. head_moved b (max byte track - min byte track) track) (le-ltb track byte less) ∙ e
-]
+gets_there byte track small = grind arith
 
 found_it : (s : State) (v : ℕ) (waits : List Event) → 0x10 ≤ v → v < 0x20 → IsGiven s waits → count_steps waits + 1 ≡ motion_time v s →
     s.track ≡ head_selected s → s.byte ≤ 83 → Arrives v s.byte s.byte (ended_after v waits s)

@@ -3,6 +3,7 @@ use Rattle.std.proofs.Common.{◌≡◌, ◌∙◌, sym, ap, refl, ℕ, ◌<◌,
 use Rattle.std.proofs.Common.{get_or-set_other, length-set, arith, inl, inr}
 use Rattle.std.specs.Prelude.{slice_set, if◌then◌else◌}
 use Rattle.std.proofs.lemmas.Bool.{cases_eq, cases_lt, eq-eqb, ne_eqb, le-leb, lt-leb, and_right}
+use Rattle.std.proofs.lemmas.Grind.{common_steps}
 use Rattle.beeb_bits.specs.Zeros.{zeros-long, zeros-at}
 use Rattle.bus_plug.specs.Plug.{Plug, plug_answer}
 use Rattle.bus_plug.specs.RamCard.{is_page_register, is_in_page, card_place, card_rules, clear, new_card}
@@ -22,35 +23,20 @@ bytes_after page (write at v) bytes =
 parted : (register inside : Bool) (page v : ℕ) (bytes stored : List ℕ) →
     (if register then v ∷ bytes else if inside then page ∷ stored else page ∷ bytes)
     ≡ (if register then v else page) ∷ (if register then bytes else if inside then stored else bytes)
-parted true inside page v bytes stored = refl
-parted false true page v bytes stored = refl
-parted false false page v bytes stored = refl
+parted register inside page v bytes stored = grind arith
 
 one_access : (a : Access) (page : ℕ) (bytes : List ℕ) → after_access a (card page bytes) ≡ card (page_after a page) (bytes_after page a bytes)
 unfolding card bytes_after
-one_access (read at) page bytes = refl
-one_access (write at v) page bytes =
-    ap (λ (state : List ℕ). record { rules = card_rules; state = state })
-    (parted (is_page_register at) (is_in_page at) page v bytes (slice_set bytes (card_place page at) v))
+one_access a page bytes = grind arith
 
 -- the bytes keep their number
-long_by : (register inside : Bool) (bytes : List ℕ) (i v : ℕ) →
-    length (if register then bytes else if inside then slice_set bytes i v else bytes) ≡ length bytes
-long_by true inside bytes i v = refl
-long_by false true bytes i v = length-set bytes i v
-long_by false false bytes i v = refl
 
 as_long : (a : Access) (page : ℕ) (bytes : List ℕ) → length (bytes_after page a bytes) ≡ length bytes
 unfolding bytes_after
-as_long (read at) page bytes = refl
-as_long (write at v) page bytes = long_by (is_page_register at) (is_in_page at) bytes (card_place page at) v
+as_long a page bytes = grind (arith, length-set {A = ℕ})
 
 page_is_byte : (a : Access) (page : ℕ) → IsAccess a → page < 256 → page_after a page < 256
-page_is_byte (read at) page is small = small
-page_is_byte (write at v) page is small = elim (cases_eq at 0xFCFF) [
-  | inl same ↦ rw (eq-eqb at 0xFCFF same) is.1
-  | inr other ↦ rw (ne_eqb at 0xFCFF other) small
-]
+page_is_byte a page is small = grind arith
 
 -- the place of an address of JIM on a page
 place_in : (page at : ℕ) → page < 256 → 0xFD00 ≤ at → at ≤ 0xFDFF → card_place page at < 65536
@@ -64,30 +50,11 @@ places_differ page of to at low' high' low high same = omega arith
 -- a write in JIM
 stored : (page of to at v : ℕ) (bytes : List ℕ) → length bytes ≡ 65536 → page < 256 → 0xFD00 ≤ to → to ≤ 0xFDFF → 0xFD00 ≤ at → at ≤ 0xFDFF →
     (if (page == of) && (to == at) then v else get_or bytes (card_place of at) 0) ≡ get_or (slice_set bytes (card_place page to) v) (card_place of at) 0
-stored page of to at v bytes long small low' high' low high = elim (cases_eq (card_place of at) (card_place page to)) [
-  | inl same ↦
-      let parts = places_differ page of to at low' high' low high same in
-      let inside : card_place page to < length bytes = omega (arith, place_in page to small low' high') in
-      rw (eq-eqb page of parts.0, eq-eqb to at parts.1, same) (sym (get_or-set_same bytes (card_place page to) v 0 inside))
-  | inr other ↦
-      elim (cases_eq page of) [
-        | inr apart ↦
-            rw (ne_eqb page of apart) (sym (get_or-set_other bytes (card_place page to) (card_place of at) v 0 other))
-        | inl same ↦
-            elim (cases_eq to at) [
-              | inr apart ↦
-                  rw (eq-eqb page of same, ne_eqb to at apart) (sym (get_or-set_other bytes (card_place page to) (card_place of at) v 0 other))
-              | inl here ↦
-                  absurd (other (let e : card_place of at ≡ card_place page to = ap (λ p. card_place p at) (sym same) ∙ ap (card_place page) (sym here) in e))
-            ]
-      ]
-]
+stored page of to at v bytes long small low' high' low high = grind (arith, common_steps)
 
 -- a write outside JIM leaves its bytes
 elsewhere : (page of to at v b : ℕ) → to < 0xFD00 → 0xFD00 ≤ at → (if (page == of) && (to == at) then v else b) ≡ b
-elsewhere page of to at v b out low =
-    let other : to ≡ at → ⊥ = λ e. omega arith in
-    rw (and_right (page == of) (to == at) (ne_eqb to at other)) refl
+elsewhere page of to at v b out low = grind arith
 
 one_byte : (a : Access) (page of at : ℕ) (bytes : List ℕ) → IsAccess a → length bytes ≡ 65536 → page < 256 → 0xFD00 ≤ at → at ≤ 0xFDFF →
     byte_after page of at a (get_or bytes (card_place of at) 0) ≡ get_or (bytes_after page a bytes) (card_place of at) 0
@@ -109,9 +76,7 @@ one_byte (write to v) page of at bytes is long small low high = elim (cases_lt t
 -- what is answered in JIM, and by the page register
 in_jim : (page at : ℕ) (bytes : List ℕ) → 0xFD00 ≤ at → plug_answer (card page bytes) at ≡ get_or bytes (card_place page at) 0
 unfolding card
-in_jim page at bytes low =
-    let other : at ≡ 0xFCFF → ⊥ = λ e. omega arith in
-    rw (ne_eqb at 0xFCFF other, le-leb 0xFD00 at low) refl
+in_jim page at bytes low = grind arith
 
 remembers : (accesses : List Access) (page at : ℕ) (bytes : List ℕ) → AreAccesses accesses → length bytes ≡ 65536 → page < 256 → 0xFD00 ≤ at → at ≤ 0xFDFF →
     plug_answer (after_accesses accesses (card page bytes)) at

@@ -5,6 +5,7 @@ use Rattle.std.specs.Prelude.{Option, None, Some, nat_lt, nat_le, if◌then◌el
 use Rattle.std.proofs.lemmas.Bool.{cases_lt, ne_eqb, le-ltb, lt-leb, ltb-true, and_right, and_parts}
 use Rattle.std.proofs.lemmas.List.{reverse-reverse}
 use Rattle.std.proofs.lemmas.Grind.{reverse_onto}
+use Rattle.std.proofs.lemmas.Bool.Decides.{nat_tests}
 use Rattle.saa5050.specs.declared.style.Style.{Style}
 use Rattle.saa5050.specs.declared.style.Sixel.{Sixel}
 use Rattle.saa5050.specs.Shapes.{Font}
@@ -63,8 +64,7 @@ own code s = record {
 }
 
 flip : (b : Bool) (x y : Option Sixel) → (if b then x else y) ≡ (if not b then y else x)
-flip true x y = refl
-flip false x y = refl
+flip b x y = grind arith
 
 -- ---- Control codes.
 
@@ -73,7 +73,7 @@ IsMore s code = style_after code s ≡ more code s
 
 double_more : (s : Style) → IsMore s 0x0D
 unfolding IsMore more
-double_more s = ap (λ h. record s { double = true; held = h }) (flip s.double s.held None)
+double_more s = grind arith
 
 IsOwn : Style → ℕ → Type 0
 IsOwn s code = style_at code s ≡ own code s
@@ -81,18 +81,7 @@ IsOwn s code = style_at code s ≡ own code s
 -- a law of each eight of them
 by_rows : (P : ℕ → Type 0) → ((n : ℕ) → n < 8 → P n) → ((n : ℕ) → n < 8 → P (n + 8)) → ((n : ℕ) → n < 8 → P (n + 16)) → ((n : ℕ) → n < 8 → P (n + 24)) →
     (n : ℕ) → n < 32 → P n
-by_rows P a b c d n h = elim (cases_lt n 8) [
-  | inl low ↦ a n low
-  | inr from8 ↦
-      elim (cases_lt n 16) [
-        | inl low ↦ let same : n - 8 + 8 ≡ n = omega arith in subst P same (b (n - 8) (omega arith))
-        | inr from16 ↦
-            elim (cases_lt n 24) [
-              | inl low ↦ let same : n - 16 + 16 ≡ n = omega arith in subst P same (c (n - 16) (omega arith))
-              | inr from24 ↦ let same : n - 24 + 24 ≡ n = omega arith in subst P same (d (n - 24) (omega arith))
-            ]
-      ]
-]
+by_rows P a b c d n h = grind arith
 
 more_low : (s : Style) (code : ℕ) → code < 0x20 → IsMore s code
 unfolding IsMore more
@@ -128,20 +117,16 @@ no_control (c ∷ cs) code low high =
 
 -- none of the tests passes
 no_letters : (code : ℕ) → 0x20 ≤ code → is_letters code ≡ false
-no_letters code high = and_right (nat_le 0x01 code) (nat_le code 0x07) (lt-leb code 0x07 (omega arith))
+no_letters code high = grind arith
 
 no_colour : (code : ℕ) → 0x20 ≤ code → is_colour code ≡ false
-no_colour code high =
-    ap (λ b. b || (nat_le 0x11 code && nat_le code 0x17)) (no_letters code high) ∙ and_right (nat_le 0x11 code) (nat_le code 0x17)
-    (lt-leb code 0x17 (omega arith))
+no_colour code high = grind arith
 
 no_change : (code : ℕ) (double : Bool) → 0x20 ≤ code → changes_height code double ≡ false
-no_change code double high =
-    ap (λ b. if b then double else if code == 0x0D then not double else false) (ne_eqb code 0x0C (λ e. omega arith))
-    ∙ ap (λ b. if b then not double else false) (ne_eqb code 0x0D (λ e. omega arith))
+no_change code double high = grind arith
 
-is_not : (code n : ℕ) → n < 0x20 → 0x20 ≤ code → (code == n) ≡ false
-is_not code n low high = ne_eqb code n (λ e. omega arith)
+is_not : (code n : ℕ) → nat_lt n 0x20 ≡ true → 0x20 ≤ code → (code == n) ≡ false
+is_not code n low high = grind arith
 
 -- a sixel is held
 with_sixel : ℕ → Style → Style
@@ -150,30 +135,11 @@ with_sixel code s = record s { held = if is_sixel code && s.graphics then Some (
 swap : (b g : Bool) (code : ℕ) (s : Style) →
     (if g && b then record s { held = Some (sixel_of code s) } else s)
     ≡ record s { held = if b && g then Some (record { code = code; separated = s.separated }) else s.held }
-swap true true code s = refl
-swap true false code s = refl
-swap false true code s = refl
-swap false false code s = refl
+swap b g code s = grind arith
 
 only_held : (code : ℕ) (s : Style) → 0x20 ≤ code → more code s ≡ with_sixel code s
 unfolding more with_sixel
-only_held code s high =
-    rw (
-      no_colour code high,
-      no_letters code high,
-      no_change code s.double high,
-      is_not code 0x1C (omega arith) high,
-      is_not code 0x1D (omega arith) high,
-      is_not code 0x08 (omega arith) high,
-      is_not code 0x09 (omega arith) high,
-      is_not code 0x18 (omega arith) high,
-      is_not code 0x0D (omega arith) high,
-      is_not code 0x0C (omega arith) high,
-      is_not code 0x1A (omega arith) high,
-      is_not code 0x19 (omega arith) high,
-      is_not code 0x1E (omega arith) high,
-      is_not code 0x1F (omega arith) high,
-    ) refl
+only_held code s high = grind (arith, nat_tests)
 
 more_high : (s : Style) (code : ℕ) → 0x20 ≤ code → IsMore s code
 unfolding IsMore with_sixel
@@ -183,17 +149,7 @@ more_high s code high =
 
 stays : (s : Style) (code : ℕ) → 0x20 ≤ code → own code s ≡ s
 unfolding own
-stays s code high =
-    rw (
-      is_not code 0x1C (omega arith) high,
-      is_not code 0x1D (omega arith) high,
-      is_not code 0x09 (omega arith) high,
-      is_not code 0x18 (omega arith) high,
-      is_not code 0x0C (omega arith) high,
-      is_not code 0x1A (omega arith) high,
-      is_not code 0x19 (omega arith) high,
-      is_not code 0x1E (omega arith) high,
-    ) refl
+stays s code high = simp is_not
 
 own_high : (s : Style) (code : ℕ) → 0x20 ≤ code → IsOwn s code
 unfolding IsOwn all_low

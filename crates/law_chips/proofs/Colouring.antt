@@ -72,46 +72,7 @@ AllKeep (c ∷ cs) = Keeps c × AllKeep cs
 
 -- the effects of the table, line by line
 controls_keep : AllKeep controls
-controls_keep = (
-  λ code s i. record { foreground = omega arith; background = i.background },
-  (
-    λ code s i. record { foreground = omega arith; background = i.background },
-    (
-      λ code s i. assumption,
-      (
-        λ code s i. assumption,
-        (
-          λ code s i. assumption,
-          (
-            λ code s i. assumption,
-            (
-              λ code s i. assumption,
-              (
-                λ code s i. assumption,
-                (
-                  λ code s i. assumption,
-                  (
-                    λ code s i. record { foreground = i.foreground; background = omega arith },
-                    (
-                      λ code s i. assumption,
-                      (
-                        λ code s i. assumption,
-                        (
-                          λ code s i. assumption,
-                          tt,
-                        ),
-                      ),
-                    ),
-                  ),
-                ),
-              ),
-            ),
-          ),
-        ),
-      ),
-    ),
-  ),
-)
+controls_keep = omega arith
 
 obeyed_inks : (cs : List Control) → AllKeep cs → (code : ℕ) (s : Style) → Inks s → Inks (effect_of cs code s)
 obeyed_inks [] keep code s i = i
@@ -168,17 +129,10 @@ coloured_if true x y p q = p
 coloured_if false x y p q = q
 
 text_at_inks : (beam : Beam) (t : Text) → Inks t.codes.style → Inks (text_at beam t).codes.style
-text_at_inks beam t i = by_test beam.line_start where
-  by_test : (b : Bool) → Inks (if b then record t { codes = row_start } else t).codes.style
-  by_test true = record { foreground = omega arith; background = omega arith }
-  by_test false = i
+text_at_inks beam t i = grind arith
 
 text_past_inks : (beam : Beam) (t : Text) → Inks t.codes.style → Inks (text_past beam t).codes.style
-text_past_inks beam t i = by_tests beam.restart beam.row_end where
-  by_tests : (a b : Bool) → Inks (if a then first_row t else if b then next_row t else t).codes.style
-  by_tests true b = i
-  by_tests false true = i
-  by_tests false false = i
+text_past_inks beam t i = grind arith
 
 begun_coloured : (beam : Beam) (s : State) → IsColoured s → IsColoured (begin_leaves beam s)
 begun_coloured beam s h = record {

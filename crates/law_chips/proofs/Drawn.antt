@@ -62,22 +62,10 @@ stays_if false left p q x y dots frame here apart = refl
 
 -- another character of the same line, or one of another line, is elsewhere
 columns_apart : (a b dots d : ℕ) → (a ≡ b → ⊥) → d < dots → (dots ≡ 8) ⊎ (dots ≡ 16) → (a * dots + d < b * dots) ⊎ (b * dots + dots ≤ a * dots + d)
-columns_apart a b dots d other within (inl e) = elim (cases_lt a b) [
-  | inl before ↦ inl (rw e (omega arith))
-  | inr after ↦ inr (rw e (omega arith))
-]
-columns_apart a b dots d other within (inr e) = elim (cases_lt a b) [
-  | inl before ↦ inl (rw e (omega arith))
-  | inr after ↦ inr (rw e (omega arith))
-]
+columns_apart a b dots d other within h3 = grind arith
 
 same_line : (w u j : ℕ) → 0 < w → (u + j) / w ≡ u / w → j < w
-same_line w u j some same =
-    let e : u / w * w + u % w ≡ u = div-add-mod' u w in
-    let g : (u + j) / w * w + (u + j) % w ≡ u + j = div-add-mod' (u + j) w in
-    let k : (u + j) / w * w ≡ u / w * w = ap (λ i. i * w) same in
-    let lt : (u + j) % w < w = mod_below (u + j) w some in
-    omega arith
+same_line w u j some same = grind arith
 
 apart : (w a u j dots d many : ℕ) → 0 < w → 0 < j → d < dots → (dots ≡ 8) ⊎ (dots ≡ 16) → u / w < 296 → many ≡ dots →
     IsApart (a % w * dots + d) (u / w) ((a + j) % w * dots) (min ((u + j) / w) 1023) many
@@ -271,12 +259,7 @@ module _ (laws : Laws) (left : ℕ) (ram : ℕ → List ℕ) (size : ℕ → ℕ
 -- ---- The dots of a character.
 
 pub dot_count : (u : ula.State) (byte ra : ℕ) (marked : Bool) → length (byte_dots u byte ra marked) ≡ dots_of u.control
-dot_count u byte ra marked = by_test (bit ra 3) where
-  by_test : (b : Bool) →
-      length (if b then replicate (dots_of u.control) (under_cursor marked 0) else map (dot_colour u byte marked) (range_with_len 0 (dots_of u.control)))
-      ≡ dots_of u.control
-  by_test true = length-replicate (dots_of u.control) (under_cursor marked 0)
-  by_test false = length-map-range_with_len (dot_colour u byte marked) 0 (dots_of u.control)
+dot_count u byte ra marked = grind arith
 
 dot_is : (u : ula.State) (byte ra : ℕ) (marked : Bool) (d : ℕ) → d < dots_of u.control →
     slice_index (byte_dots u byte ra marked) d ≡ shown_colour u byte ra marked d
@@ -358,20 +341,7 @@ both_true : (a b c : Bool) → a ≡ true → b ≡ true → c ≡ true → (a &
 both_true a b c h i j = rw (h, i, j) refl
 
 elsewhere : (l x p q dots : ℕ) → q < 296 → (l == q && nat_le x p && nat_lt p (x + dots)) ≡ false → IsApart p q x (min l 1023) dots
-elsewhere l x p q dots bottom other = elim (cases_eq l q) [
-  | inr line ↦ inl (λ same. line (omega arith))
-  | inl same ↦ elim (cases_lt p x) [
-    | inl before ↦ inr (inl before)
-    | inr from ↦ elim (cases_lt p (x + dots)) [
-      | inr after ↦ inr (inr after)
-      | inl within ↦
-          let a : (l == q) ≡ true = test_true l q same in
-          let b : nat_le x p ≡ true = grind (arith, nat_tests) in
-          let c : nat_lt p (x + dots) ≡ true = grind (arith, nat_tests) in
-          absurd (true≢false (sym (both_true (l == q) (nat_le x p) (nat_lt p (x + dots)) a b c) ∙ other))
-    ]
-  ]
-]
+elsewhere l x p q dots bottom other = grind arith
 
 -- no character of frame k has the dot
 abbrev pub IsFree : State → ℕ → ℕ → ℕ → Type 0
@@ -380,10 +350,7 @@ IsFree s k x y =
     (is_shown_at s.crtc.registers n && has_dot s.crtc.registers (dots_of s.ula.control) n x y) ≡ false
 
 next_start : (s : State) (k : ℕ) → frame_start s.crtc.registers (k + 1) ≡ frame_start s.crtc.registers k + frame_clocks s.crtc.registers
-next_start s k =
-    let f = frame_clocks s.crtc.registers in
-    let up : (k + 1) * f ≡ k * f + f = grind arith in
-    omega arith
+next_start s k = grind arith
 
 -- one clock of the frame
 stays_black : Laws → CharactersAreShown → (left : ℕ) (ram : ℕ → List ℕ) (size : ℕ → ℕ) (font : Font) (s : State) (dots : ℕ → List ℕ) (k p q j : ℕ) →

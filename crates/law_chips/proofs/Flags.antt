@@ -20,34 +20,23 @@ use Rattle.law_chips.specs.ViaFlags.{Flag, timer_1, timer_2, line_cb1, line_cb2,
 use Rattle.law_chips.specs.ViaFlags.{FlagsAreCleared, some_enabled, FlagsAreShown}
 
 or_none : (flag : Bool) → flag ≡ flag || false
-or_none true = refl
-or_none false = refl
+or_none flag = grind arith
 
 -- the first edge of a row, or a later one
 first_or_later : (flag up before now : Bool) (levels : List Bool) →
     (flag || is_edge up before now) || has_active up now levels ≡ flag || has_active up before (now ∷ levels)
-first_or_later true up before now levels = refl
-first_or_later false true true now levels = refl
-first_or_later false true false true levels = refl
-first_or_later false true false false levels = refl
-first_or_later false false false now levels = refl
-first_or_later false false true true levels = refl
-first_or_later false false true false levels = refl
+first_or_later flag up before now levels = grind arith
 
 none : (flag up before : Bool) → flag ≡ flag || has_active up before []
-none flag true before = or_none flag
-none flag false before = or_none flag
+none flag up before = grind arith
 
 -- the same of a line that may be an output
 first_or_later_in : (out flag up before now : Bool) (levels : List Bool) →
     (flag || (not out && is_edge up before now)) || (not out && has_active up now levels) ≡ flag || (not out && has_active up before (now ∷ levels))
-first_or_later_in true true up before now levels = refl
-first_or_later_in true false up before now levels = refl
-first_or_later_in false flag up before now levels = first_or_later flag up before now levels
+first_or_later_in out flag up before now levels = grind arith
 
 none_in : (out flag up before : Bool) → flag ≡ flag || (not out && has_active up before [])
-none_in true flag up before = or_none flag
-none_in false flag up before = none flag up before
+none_in out flag up before = grind arith
 
 pub ca1_sees : Ca1Sees
 ca1_sees c [] = none c.flags.ca1 (bit c.pcr 0) c.levels.ca1
@@ -69,34 +58,10 @@ cb2_sees c (p ∷ pins) =
     cb2_sees (step p c) pins
     ∙ first_or_later_in (bit c.pcr 7) c.flags.cb2 (bit c.pcr 6) c.levels.cb2 p.cb2 (map (λ (q : Pins). q.cb2) pins)
 
-timer1_keeps : (free : Bool) (t : Timer1) → (timer1_after free t).latch_low ≡ t.latch_low
-timer1_keeps free t = grind arith
-
-timer2_keeps : (still : Bool) (t : Timer2) → (timer2_after still t).latch_low ≡ t.latch_low
-timer2_keeps still t = grind arith
-
-read1_keeps : (reg : ℕ) (c : State) → (read_leaves reg c).timer1.latch_low ≡ c.timer1.latch_low
-read1_keeps reg c = grind arith
-
-read2_keeps : (reg : ℕ) (c : State) → (read_leaves reg c).timer2.latch_low ≡ c.timer2.latch_low
-read2_keeps reg c = grind arith
-
-written1 : (reg v : ℕ) (c : State) → v < 256 → c.timer1.latch_low < 256 → (write_leaves reg v c).timer1.latch_low < 256
-written1 reg v c byte is = grind arith
-
-written2 : (reg v : ℕ) (c : State) → v < 256 → c.timer2.latch_low < 256 → (write_leaves reg v c).timer2.latch_low < 256
-written2 reg v c byte is = grind arith
-
 moved : (m : Move) (c : State) → WritesByte m → HasByteLatches c → HasByteLatches (after_move m c)
-moved (microsecond pins) c byte h = record {
-  timer1 = subst (λ (n : ℕ). n < 256) (sym (timer1_keeps (bit c.acr 6) c.timer1)) h.timer1;
-  timer2 = subst (λ (n : ℕ). n < 256) (sym (timer2_keeps (bit c.acr 5) c.timer2)) h.timer2;
-}
-moved (read reg) c byte h = record {
-  timer1 = subst (λ (n : ℕ). n < 256) (sym (read1_keeps reg c)) h.timer1;
-  timer2 = subst (λ (n : ℕ). n < 256) (sym (read2_keeps reg c)) h.timer2;
-}
-moved (write reg v) c byte h = record { timer1 = written1 reg v c byte h.timer1; timer2 = written2 reg v c byte h.timer2 }
+moved (microsecond pins) c byte h = grind arith
+moved (read reg) c byte h = grind arith
+moved (write reg v) c byte h = grind arith
 
 all_moved : (moves : List Move) (c : State) → WriteBytes moves → HasByteLatches c → HasByteLatches (after_moves moves c)
 all_moved [] c bytes h = h
@@ -111,13 +76,7 @@ latches_are_bytes = record {
 by_digits : (f : ℕ → ℕ → ℕ) (g : Bool → Bool → Bool) → (f 0 0 == 1) ≡ g false false → (f 0 1 == 1) ≡ g false true → (f 1 0 == 1) ≡ g true false →
     (f 1 1 == 1) ≡ g true true →
     (p q : ℕ) → p < 2 → q < 2 → (f p q == 1) ≡ g (p == 1) (q == 1)
-by_digits f g a b c d zero zero lp lq = a
-by_digits f g a b c d zero (suc zero) lp lq = b
-by_digits f g a b c d (suc zero) zero lp lq = c
-by_digits f g a b c d (suc zero) (suc zero) lp lq = d
-by_digits f g a b c d zero (suc (suc q)) lp lq = absurd (omega arith)
-by_digits f g a b c d (suc zero) (suc (suc q)) lp lq = absurd (omega arith)
-by_digits f g a b c d (suc (suc p)) q lp lq = absurd (omega arith)
+by_digits f g a b c d p q lp lq = grind arith
 
 and_bit : (a b n : ℕ) → bit (bit_and a b) n ≡ (bit a n && bit b n)
 and_bit a b n = ap (λ d. d == 1) (bit_at_and a b n) ∙ by_digits min ◌&&◌ refl refl refl refl (bit_at a n) (bit_at b n) (bit_at-lt a n) (bit_at-lt b n)
@@ -127,44 +86,27 @@ or_bit a b n = ap (λ d. d == 1) (bit_at_or a b n) ∙ by_digits max ◌||◌ re
 
 -- a law of bits 0 to 7
 pub by_bit : (P : ℕ → Type 0) → P 0 → P 1 → P 2 → P 3 → P 4 → P 5 → P 6 → P 7 → (n : ℕ) → n < 8 → P n
-by_bit P p0 p1 p2 p3 p4 p5 p6 p7 zero h = p0
-by_bit P p0 p1 p2 p3 p4 p5 p6 p7 (suc zero) h = p1
-by_bit P p0 p1 p2 p3 p4 p5 p6 p7 (suc (suc zero)) h = p2
-by_bit P p0 p1 p2 p3 p4 p5 p6 p7 (suc (suc (suc zero))) h = p3
-by_bit P p0 p1 p2 p3 p4 p5 p6 p7 (suc (suc (suc (suc zero)))) h = p4
-by_bit P p0 p1 p2 p3 p4 p5 p6 p7 (suc (suc (suc (suc (suc zero))))) h = p5
-by_bit P p0 p1 p2 p3 p4 p5 p6 p7 (suc (suc (suc (suc (suc (suc zero)))))) h = p6
-by_bit P p0 p1 p2 p3 p4 p5 p6 p7 (suc (suc (suc (suc (suc (suc (suc zero))))))) h = p7
-by_bit P p0 p1 p2 p3 p4 p5 p6 p7 (suc (suc (suc (suc (suc (suc (suc (suc n)))))))) h = absurd (omega arith)
+by_bit P p0 p1 p2 p3 p4 p5 p6 p7 n h = grind arith
 
 flipped : (p q : ℕ) → p < 2 → q ≡ 1 - p → (q == 1) ≡ not (p == 1)
-flipped zero q small is = ap (λ n. n == 1) is
-flipped (suc zero) q small is = ap (λ n. n == 1) is
-flipped (suc (suc p)) q small is = absurd (omega arith)
+flipped p q small is = grind arith
 
 -- each bit of 255 - d is the other one
 not_bit : (d n : ℕ) → d < 256 → n < 8 → bit (255 - d) n ≡ not (bit d n)
 not_bit d n byte inside =
     by_bit (λ n. bit (255 - d) n ≡ not (bit d n))
-    (flipped (d / 1 % 2) ((255 - d) / 1 % 2) (omega arith) (omega arith))
-    (flipped (d / 2 % 2) ((255 - d) / 2 % 2) (omega arith) (omega arith))
-    (flipped (d / 4 % 2) ((255 - d) / 4 % 2) (omega arith) (omega arith))
-    (flipped (d / 8 % 2) ((255 - d) / 8 % 2) (omega arith) (omega arith))
-    (flipped (d / 16 % 2) ((255 - d) / 16 % 2) (omega arith) (omega arith))
-    (flipped (d / 32 % 2) ((255 - d) / 32 % 2) (omega arith) (omega arith))
-    (flipped (d / 64 % 2) ((255 - d) / 64 % 2) (omega arith) (omega arith))
-    (flipped (d / 128 % 2) ((255 - d) / 128 % 2) (omega arith) (omega arith))
+    (flipped _ _ (omega arith) (omega arith))
+    (flipped _ _ (omega arith) (omega arith))
+    (flipped _ _ (omega arith) (omega arith))
+    (flipped _ _ (omega arith) (omega arith))
+    (flipped _ _ (omega arith) (omega arith))
+    (flipped _ _ (omega arith) (omega arith))
+    (flipped _ _ (omega arith) (omega arith))
+    (flipped _ _ (omega arith) (omega arith))
     n inside
 
 chosen : (d o p : Bool) → ((o && d) || (p && not d)) ≡ (if d then o else p)
-chosen true true true = refl
-chosen true true false = refl
-chosen true false true = refl
-chosen true false false = refl
-chosen false true true = refl
-chosen false true false = refl
-chosen false false true = refl
-chosen false false false = refl
+chosen d o p = grind arith
 
 port_bit : (d o p n : ℕ) → n < 8 → d < 256 → bit (port d o p) n ≡ (if bit d n then bit o n else bit p n)
 port_bit d o p n inside byte =
@@ -176,15 +118,7 @@ all_ones : (n : ℕ) → n < 8 → bit 255 n ≡ true
 all_ones n inside = by_bit (λ n. bit 255 n ≡ true) refl refl refl refl refl refl refl refl n inside
 
 a_register : (reg : ℕ) (pins : Pins) (c : State) → ((reg == 1) || (reg == 15)) ≡ true → answer_of reg pins c ≡ port c.ddra c.ora pins.a
-a_register reg pins c is = elim (cases_eq reg 1) [
-  | inl one ↦ ap (λ r. answer_of r pins c) one
-  | inr other ↦
-      elim (cases_eq reg 15) [
-        | inl last ↦ ap (λ r. answer_of r pins c) last
-        | inr none ↦
-            absurd (true≢false (sym is ∙ ap (λ b. b || (reg == 15)) (ne_eqb reg 1 other) ∙ ne_eqb reg 15 none))
-      ]
-]
+a_register reg pins c is = grind (arith, common_steps)
 
 pub ports_show_their_bits : PortsShowTheirBits
 ports_show_their_bits = record {
@@ -214,9 +148,7 @@ and_off true = refl
 and_off false = refl
 
 independent : (x b : Bool) → (x && b) ≡ (x && not (not b || false))
-independent true true = refl
-independent true false = refl
-independent false b = refl
+independent x b = grind arith
 
 -- a law of each flag
 each : (P : Flag → Type 0) → P timer_1 → P timer_2 → P line_cb1 → P line_cb2 → P shift_register → P line_ca1 → P line_ca2 → (f : Flag) → P f
@@ -234,27 +166,27 @@ IsAsTold reg v c f = is_set f (write_leaves reg v c).flags ≡ (is_set f c.flags
 
 at_orb : (v : ℕ) (c : State) (f : Flag) → IsAsTold 0 v c f
 unfolding IsAsTold
-at_orb v c = each (IsAsTold 0 v c) (and_on _) (and_on _) (and_off _) (independent c.flags.cb2 (bit c.pcr 5)) (and_on _) (and_on _) (and_on _)
+at_orb v c f = grind arith
 
 at_ora : (v : ℕ) (c : State) (f : Flag) → IsAsTold 1 v c f
 unfolding IsAsTold
-at_ora v c = each (IsAsTold 1 v c) (and_on _) (and_on _) (and_on _) (and_on _) (and_on _) (and_off _) (independent c.flags.ca2 (bit c.pcr 1))
+at_ora v c f = grind arith
 
 at_t1_counter : (v : ℕ) (c : State) (f : Flag) → IsAsTold 5 v c f
 unfolding IsAsTold
-at_t1_counter v c = each (IsAsTold 5 v c) (and_off _) (and_on _) (and_on _) (and_on _) (and_on _) (and_on _) (and_on _)
+at_t1_counter v c f = grind arith
 
 at_t1_latch : (v : ℕ) (c : State) (f : Flag) → IsAsTold 7 v c f
 unfolding IsAsTold
-at_t1_latch v c = each (IsAsTold 7 v c) (and_off _) (and_on _) (and_on _) (and_on _) (and_on _) (and_on _) (and_on _)
+at_t1_latch v c f = grind arith
 
 at_t2_counter : (v : ℕ) (c : State) (f : Flag) → IsAsTold 9 v c f
 unfolding IsAsTold
-at_t2_counter v c = each (IsAsTold 9 v c) (and_on _) (and_off _) (and_on _) (and_on _) (and_on _) (and_on _) (and_on _)
+at_t2_counter v c f = grind arith
 
 at_sr : (v : ℕ) (c : State) (f : Flag) → IsAsTold 10 v c f
 unfolding IsAsTold
-at_sr v c = each (IsAsTold 10 v c) (and_on _) (and_on _) (and_on _) (and_on _) (and_off _) (and_on _) (and_on _)
+at_sr v c f = grind arith
 
 at_ifr : (v : ℕ) (c : State) (f : Flag) → IsAsTold 13 v c f
 unfolding IsAsTold
@@ -277,15 +209,10 @@ either false c x y p q = q
 
 -- such a write leaves the flags
 others_keep : (reg v : ℕ) (c : State) → IsOther reg → (write_leaves reg v c).flags ≡ c.flags
-others_keep reg v c o =
-    rw (o.orb, o.ora, o.t1_counter, o.t1_latch, o.t2_counter, o.sr, o.ifr)
-    (either (reg == 2) c _ _ refl (either (reg == 3) c _ _ refl (either (reg == 4) c _ _ refl (either (reg == 6) c _ _ refl
-    (either (reg == 8) c _ _ refl (either (reg == 11) c _ _ refl (either (reg == 12) c _ _ refl (either (reg == 14) c _ _ refl refl))))))))
+others_keep reg v c o = grind arith
 
 none_cleared : (reg v : ℕ) (c : State) → IsOther reg → (f : Flag) → is_cleared f (write reg v) c ≡ false
-none_cleared reg v c o =
-    each (λ f. is_cleared f (write reg v) c ≡ false) (rw (o.t1_counter, o.t1_latch, o.ifr) refl) (rw (o.t2_counter, o.ifr) refl) (rw (o.orb, o.ifr) refl)
-    (rw (o.orb, o.ifr) refl) (rw (o.sr, o.ifr) refl) (rw (o.ora, o.ifr) refl) (rw (o.ora, o.ifr) refl)
+none_cleared reg v c o f = grind arith
 
 kept : (f : Flag) (reg v : ℕ) (c : State) → IsOther reg → IsAsTold reg v c f
 unfolding IsAsTold
@@ -294,7 +221,7 @@ kept f reg v c o =
 
 -- this register or another
 unless : (P : ℕ → Type 0) (n reg : ℕ) → P n → ((reg == n) ≡ false → P reg) → P reg
-unless P n reg at other = elim (cases_eq reg n) [ inl is ↦ subst P (sym is) at | inr not_it ↦ other (ne_eqb reg n not_it) ]
+unless P n reg at other = grind arith
 
 told : (f : Flag) (reg v : ℕ) (c : State) → IsAsTold reg v c f
 told f reg v c =
@@ -312,13 +239,7 @@ or_set : (b x : Bool) → b ≡ true → (b || x) ≡ true
 or_set b x is = ap (λ y. y || x) is
 
 by_step : (f : Flag) (p : Pins) (c : State) → is_set f c.flags ≡ true → is_set f (step p c).flags ≡ true
-by_step timer_1 p c is = or_set c.flags.timer1 (timer1_flags (bit c.acr 6) c.timer1) is
-by_step timer_2 p c is = or_set c.flags.timer2 (timer2_flags (bit c.acr 5) c.timer2) is
-by_step line_cb1 p c is = or_set c.flags.cb1 (cb1_edge c.pcr c.levels p) is
-by_step line_cb2 p c is = or_set c.flags.cb2 (cb2_edge c.pcr c.levels p) is
-by_step shift_register p c is = is
-by_step line_ca1 p c is = or_set c.flags.ca1 (ca1_edge c.pcr c.levels p) is
-by_step line_ca2 p c is = or_set c.flags.ca2 (ca2_edge c.pcr c.levels p) is
+by_step f p c is = grind arith
 
 both : (a b : Bool) → a ≡ true → b ≡ false → (a && not b) ≡ true
 both a b is none = ap (λ x. x && not b) is ∙ ap not none
@@ -362,8 +283,7 @@ byte_of a b c d e f g h = weight 128 a + (weight 64 b + weight 32 c + weight 16 
 -- as digits
 digits : (a b c d e f g h : Bool) → byte_of a b c d e f g h ≡ 128 * one a + 64 * one b + 32 * one c + 16 * one d + 8 * one e + 4 * one f + 2 * one g + one h
 unfolding byte_of
-digits a b c d e f g h =
-    omega (arith, weighs 128 a, weighs 64 b, weighs 32 c, weighs 16 d, weighs 8 e, weighs 4 f, weighs 2 g, weighs 1 h)
+digits a b c d e f g h = omega (arith, weighs)
 
 record Digits (a b c d e f g h : Bool) : Type 0 where
   pub bit7 : bit (byte_of a b c d e f g h) 7 ≡ a
@@ -377,33 +297,16 @@ record Digits (a b c d e f g h : Bool) : Type 0 where
 
 has_digits : (a b c d e f g h : Bool) → Digits a b c d e f g h
 has_digits a b c d e f g h =
-    let n = byte_of a b c d e f g h in
-    let is = digits a b c d e f g h in
-    let sa = small a in
-    let sb = small b in
-    let sc = small c in
-    let sd = small d in
-    let se = small e in
-    let sf = small f in
-    let sg = small g in
-    let sh = small h in
-    let e7 : n / 128 % 2 ≡ one a = omega arith in
-    let e6 : n / 64 % 2 ≡ one b = omega arith in
-    let e5 : n / 32 % 2 ≡ one c = omega arith in
-    let e4 : n / 16 % 2 ≡ one d = omega arith in
-    let e3 : n / 8 % 2 ≡ one e = omega arith in
-    let e2 : n / 4 % 2 ≡ one f = omega arith in
-    let e1 : n / 2 % 2 ≡ one g = omega arith in
-    let e0 : n / 1 % 2 ≡ one h = omega arith in
+    let digit : (n : ℕ) (b : Bool) → n ≡ one b → (n == 1) ≡ b = λ n b is. ap (λ k. k == 1) is ∙ shown b in
     record {
-      bit7 = ap (λ k. k == 1) e7 ∙ shown a;
-      bit6 = ap (λ k. k == 1) e6 ∙ shown b;
-      bit5 = ap (λ k. k == 1) e5 ∙ shown c;
-      bit4 = ap (λ k. k == 1) e4 ∙ shown d;
-      bit3 = ap (λ k. k == 1) e3 ∙ shown e;
-      bit2 = ap (λ k. k == 1) e2 ∙ shown f;
-      bit1 = ap (λ k. k == 1) e1 ∙ shown g;
-      bit0 = ap (λ k. k == 1) e0 ∙ shown h;
+      bit7 = digit _ a (omega (arith, digits a b c d e f g h, small));
+      bit6 = digit _ b (omega (arith, digits a b c d e f g h, small));
+      bit5 = digit _ c (omega (arith, digits a b c d e f g h, small));
+      bit4 = digit _ d (omega (arith, digits a b c d e f g h, small));
+      bit3 = digit _ e (omega (arith, digits a b c d e f g h, small));
+      bit2 = digit _ f (omega (arith, digits a b c d e f g h, small));
+      bit1 = digit _ g (omega (arith, digits a b c d e f g h, small));
+      bit0 = digit _ h (omega (arith, digits a b c d e f g h, small));
     }
 
 -- a register of flags, with something in bit 7
@@ -419,14 +322,7 @@ top_bit top s = (has_digits top s.timer1 s.timer2 s.cb1 s.cb2 s.shift s.ca1 s.ca
 
 -- one of seven
 some_of : (a b c d e f g : Bool) → (a || b || c || d || e || f || g) ≡ (a || (b || (c || (d || (e || (f || (g || false)))))))
-some_of true b c d e f g = refl
-some_of false true c d e f g = refl
-some_of false false true d e f g = refl
-some_of false false false true e f g = refl
-some_of false false false false true f g = refl
-some_of false false false false false true g = refl
-some_of false false false false false false true = refl
-some_of false false false false false false false = refl
+some_of a b c d e f g = grind arith
 
 line : (c : State) → asks c ≡ some_enabled c
 line c =
@@ -435,19 +331,11 @@ line c =
 
 -- what a write to IER makes of a flag
 marked : (up mark before : Bool) → (if up then before || mark else before && not mark) ≡ (if mark then up else before)
-marked true true true = refl
-marked true true false = refl
-marked true false true = refl
-marked true false false = refl
-marked false true true = refl
-marked false true false = refl
-marked false false true = refl
-marked false false false = refl
+marked up mark before = grind arith
 
 set_by : (up : Bool) (v : ℕ) (s : Causes) (f : Flag) →
     is_set f (if up then set_marked v s else clear_marked v s) ≡ (if up then is_set f s || bit v (bit_of f) else is_set f s && not (bit v (bit_of f)))
-set_by true v s = each (λ f. is_set f (set_marked v s) ≡ (is_set f s || bit v (bit_of f))) refl refl refl refl refl refl refl
-set_by false v s = each (λ f. is_set f (clear_marked v s) ≡ (is_set f s && not (bit v (bit_of f)))) refl refl refl refl refl refl refl
+set_by up v s f = grind arith
 
 pub flags_are_shown : FlagsAreShown
 flags_are_shown = record {

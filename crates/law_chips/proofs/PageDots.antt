@@ -37,16 +37,10 @@ use Rattle.law_chips.proofs.Drawn.{free_is_black}
 -- ---- One clock.
 
 in_text : (p q : Bool) (x y s : State) → q ≡ true → (if p then (if q then x else y) else s).text ≡ (if p then x.text else s.text)
-in_text p q x y s on = rw on (by_test p) where
-  by_test : (p : Bool) → (if p then x else s).text ≡ (if p then x.text else s.text)
-  by_test true = refl
-  by_test false = refl
+in_text p q x y s on = grind arith
 
 in_cells : (p q : Bool) (x y s : State) → q ≡ true → (if p then (if q then x else y) else s).working ≡ (if p then x.working else s.working)
-in_cells p q x y s on = rw on (by_test p) where
-  by_test : (p : Bool) → (if p then x else s).working ≡ (if p then x.working else s.working)
-  by_test true = refl
-  by_test false = refl
+in_cells p q x y s on = grind arith
 
 -- the code of a character, as the 6845 tells of it
 pub told_code : List ℕ → ℕ → Beam → ℕ
@@ -85,21 +79,13 @@ told ram size font s on n =
 
 -- the end of a line, or of a row, leaves the codes
 past_keeps : (b : Beam) (t : Text) → (text_past b t).codes ≡ t.codes
-past_keeps b t = by_tests b.restart b.row_end where
-  by_tests : (p q : Bool) → (if p then first_row t else if q then next_row t else t).codes ≡ t.codes
-  by_tests true q = refl
-  by_tests false true = refl
-  by_tests false false = refl
+past_keeps b t = grind arith
 
 pub bottom_kept : (b : Beam) (t : Text) → (text_at b t).bottom ≡ t.bottom
-bottom_kept b t = by_test b.line_start where
-  by_test : (p : Bool) → (if p then record t { codes = row_start } else t).bottom ≡ t.bottom
-  by_test true = refl
-  by_test false = refl
+bottom_kept b t = grind arith
 
 pub codes_at : (b : Beam) (t : Text) (p : Bool) → b.line_start ≡ p → (text_at b t).codes ≡ (if p then row_start else t.codes)
-codes_at b t true is = ap (λ q. (if q then record t { codes = row_start } else t).codes) is
-codes_at b t false is = ap (λ q. (if q then record t { codes = row_start } else t).codes) is
+codes_at b t p is = grind arith
 
 -- what is told of a character that is shown
 pub record Here (ram : ℕ → List ℕ) (size : ℕ → ℕ) (s : State) (n : ℕ) : Type 0 where
@@ -110,30 +96,13 @@ pub here : ShownAddressesCount → CharactersAreShown → (ram : ℕ → List �
     (tells n s.crtc).shown ≡ true →
     Here ram size s n
 unfolding told_code
-here count characters ram size s n makes is =
-    let r = s.crtc.registers in
-    let b = tells n s.crtc in
-    let there : b.ma ≡ character_address r n = count s.crtc n makes.bits makes.begins makes.base is in
-    let level : b.ra ≡ raster_at r n = characters.raster s.crtc n makes.bits makes.begins is in
-    record {
-      code =
-          ap (λ k. slice_index (ram n) (byte_address k b.ra (size n)) % 128) there
-          ∙ ap (λ k. slice_index (ram n) (byte_address (character_address r n) k (size n)) % 128) level;
-      raster = level;
-    }
+here count characters ram size s n makes is = grind arith
 
 -- the character before one that is shown is shown, in its line
 shown_before : (r : crtc.Registers) (k j : ℕ) → k % line_characters r ≡ j → (k + 1) % line_characters r ≡ j + 1 →
     (k + 1) / line_characters r ≡ k / line_characters r →
     is_shown_at r (k + 1) ≡ true → is_shown_at r k ≡ true
-shown_before r k j column next line is =
-    let p = and_parts _ _ is in
-    let q = and_parts _ _ p.0 in
-    let same : row_at r (k + 1) ≡ row_at r k = ap (λ i. i % frame_lines r / row_lines r) line in
-    let inside : (k + 1) % line_characters r < r.horizontal_displayed = ltb-true ((k + 1) % line_characters r) r.horizontal_displayed q.0 in
-    let before : k % line_characters r < r.horizontal_displayed = omega arith in
-    and_from _ _ (and_from _ _ (lt-ltb (k % line_characters r) r.horizontal_displayed before) (ap (λ i. nat_lt i r.vertical_displayed) (sym same) ∙ q.1))
-    (ap (λ i. nat_le i r.vertical_total) (sym same) ∙ p.1)
+shown_before r k j column next line is = grind arith
 
 more_codes : OneCodeMore → (before : List ℕ) (code : ℕ) → row_after code (row_of (reverse before)) ≡ row_of (reverse (code ∷ before))
 more_codes one before code = sym (one (reverse before) code) ∙ ap row_of (sym (reverse_onto before code []))
@@ -143,10 +112,7 @@ unfolding codes_after
 after_code code t = refl
 
 after_one : (w n j : ℕ) → n % w ≡ suc j → n ≡ n - 1 + 1
-after_one w zero j column = absurd (none_left w j column) where
-  none_left : (w j : ℕ) → 0 % w ≡ suc j → ⊥
-  none_left w j e = let z : 0 % w ≡ 0 = zero-mod w in omega arith
-after_one w (suc n) j column = omega arith
+after_one w n j column = grind arith
 
 codes_are : OneCodeMore → Laws → ShownAddressesCount → CharactersAreShown → (ram : ℕ → List ℕ) (size : ℕ → ℕ) (font : Font) (s : State) → MakesFrames s.crtc →
     bit s.ula.control 1 ≡ true → (j n : ℕ) → column_at s.crtc.registers n ≡ j → is_shown_at s.crtc.registers n ≡ true →
@@ -187,28 +153,18 @@ codes_are one laws count characters ram size font s makes on (suc j) n column is
 -- ---- The dots of a cell.
 
 cell_length : (font : Font) (code ra : ℕ) (lower : Bool) (fields : ℕ) (row : Row) → length (cell font code ra lower fields row) ≡ 16
-cell_length font code ra lower fields row =
-    let style = style_at code row.style in
-    length-map-range_with_len (pixel (cell_dot font code ra lower fields style) style.foreground style.background) 0 16
+cell_length font code ra lower fields row = grind arith
 
 of_sixteen : (dots : ℕ) → (dots ≡ 8) ⊎ (dots ≡ 16) → min dots 16 ≡ dots
 of_sixteen dots (inl e) = omega arith
 of_sixteen dots (inr e) = omega arith
 
 within_sixteen : (dots d : ℕ) → (dots ≡ 8) ⊎ (dots ≡ 16) → d < dots → d < 16
-within_sixteen dots d (inl e) h = omega arith
-within_sixteen dots d (inr e) h = omega arith
+within_sixteen dots d h1 h = grind arith
 
 told_many : (ram : List ℕ) (size : ℕ) (font : Font) (b : Beam) (s : State) → length (told_dots ram size font b s) ≡ dots_of s.ula.control
 unfolding told_dots told_code cell_of
-told_many ram size font b s =
-    let t = text_at b s.text in
-    let c = cell font (slice_index ram (byte_address b.ma b.ra size) % 128) b.ra t.bottom b.fields t.codes in
-    let marked = is_marked s.ula.control b.cursor s.cursor in
-    length-take (dots_of s.ula.control) (map (under_cursor marked) c)
-    ∙ ap (min (dots_of s.ula.control))
-    (length-map c (under_cursor marked) ∙ cell_length font (slice_index ram (byte_address b.ma b.ra size) % 128) b.ra t.bottom b.fields t.codes)
-    ∙ of_sixteen (dots_of s.ula.control) (eight_or_sixteen s.ula.control)
+told_many ram size font b s = grind arith
 
 told_dot : (ram : List ℕ) (size : ℕ) (font : Font) (b : Beam) (s : State) (d : ℕ) → d < dots_of s.ula.control →
     slice_index (told_dots ram size font b s) d

@@ -5,6 +5,7 @@ use Rattle.std.specs.Prelude.{Option, None, Some, is_some, nat_lt, if◌then◌e
 use Rattle.std.proofs.lemmas.Bool.{cases_eq, eq-eqb, ne_eqb, eqb-true, eqb-false, lt-ltb, cases_Bool, or_parts, true≢false, false≢true}
 use Rattle.std.proofs.lemmas.List.{append-nil, append_assoc}
 use Rattle.beeb_bits.specs.Bits.{bit}
+use Rattle.std.proofs.lemmas.Grind.{common_steps}
 use Rattle.beeb_bits.specs.declared.Side.{Side}
 use Rattle.beeb_bits.specs.declared.Side.TheVariants.{Host, Para}
 use Rattle.tube_chip.specs.declared.Op.TheVariants.{Read, Write, Reset}
@@ -19,12 +20,7 @@ use Rattle.law_chips.specs.Queues.{leaves, comes, over, MayAsk, DestroysNothing,
 
 -- registers have numbers 1 to 4
 four : (P : ℕ → Type 0) → P 1 → P 2 → P 3 → P 4 → (k : ℕ) → 1 ≤ k → k ≤ 4 → P k
-four P a b c d zero low high = absurd (omega arith)
-four P a b c d (suc zero) low high = a
-four P a b c d (suc (suc zero)) low high = b
-four P a b c d (suc (suc (suc zero))) low high = c
-four P a b c d (suc (suc (suc (suc zero)))) low high = d
-four P a b c d (suc (suc (suc (suc (suc k))))) low high = absurd (omega arith)
+four P a b c d k low high = grind arith
 
 -- one register of a bank changes, and no other
 Changes : (ℕ → Register → Register) → Bank → ℕ → ℕ → Type 0
@@ -47,22 +43,13 @@ counted_keeps Para k old new = refl
 
 -- an odd number is that of a byte, and an even one that of a status
 odd_is : (number k : ℕ) → is_status number ≡ false → 1 ≤ k → (number == byte_number k) ≡ (register_number number == k)
-odd_is number k odd low =
-    let o : number % 2 ≡ 0 → ⊥ = eqb-false (number % 2) 0 odd in
-    elim (cases_eq number (2 * k - 1)) [
-      | inl same ↦ eq-eqb number (2 * k - 1) same ∙ sym (eq-eqb (number / 2 + 1) k (omega arith))
-      | inr other ↦ ne_eqb number (2 * k - 1) other ∙ sym (ne_eqb (number / 2 + 1) k (λ e. other (omega arith)))
-    ]
+odd_is number k odd low = grind arith
 
 even_is : (number k : ℕ) → is_status number ≡ true → 1 ≤ k → (number == byte_number k) ≡ false
-even_is number k even low =
-    let e : number % 2 ≡ 0 = eqb-true (number % 2) 0 even in
-    ne_eqb number (2 * k - 1) (λ same. omega arith)
+even_is number k even low = grind arith
 
 odd_not_0 : (number : ℕ) → is_status number ≡ false → (number == 0) ≡ false
-odd_not_0 number odd =
-    let o : number % 2 ≡ 0 → ⊥ = eqb-false (number % 2) 0 odd in
-    ne_eqb number 0 (λ e. omega arith)
+odd_not_0 number odd = grind arith
 
 -- What leaves a register and what comes into it, by what an event is for it: it clears all (z), writes this byte (s), reads (r).
 record Balance (z : Bool) (s : Option ℕ) (r : Bool) (room : ℕ) (shown made : List ℕ) (q after : Register) : Type 0 where
@@ -73,9 +60,7 @@ record Balance (z : Bool) (s : Option ℕ) (r : Bool) (room : ℕ) (shown made :
 
 balanced : {z z' : Bool} {s s' : Option ℕ} {r : Bool} {room : ℕ} {shown made : List ℕ} {q after after' : Register} →
     z ≡ z' → s ≡ s' → after ≡ after' → Balance z' s' r room shown made q after' → Balance z s r room shown made q after
-balanced {z} {z'} {s} {s'} {r} {room} {shown} {made} {q} {after} {after'} ez es ea t =
-    subst (λ x. Balance x s r room shown made q after) (sym ez)
-    (subst (λ x. Balance z' x r room shown made q after) (sym es) (subst (λ x. Balance z' s' r room shown made q x) (sym ea) t))
+balanced h1 h2 h3 h4 = grind arith
 
 nothing_comes : (b : Bool) (bytes : List ℕ) → bytes ≡ bytes ++ (if b then [] else [])
 nothing_comes true bytes = sym (append-nil bytes)
@@ -95,15 +80,7 @@ is_some_held front rest = ne_eqb (length (front ∷ rest)) 0 (λ e. omega arith)
 -- a read, or none
 one_read : (b : Bool) (room : ℕ) (shown made : List ℕ) (q : Register) → (b ≡ true → shown ≡ front_of q ∷ []) →
     Balance false None b room shown made q (if b then take_leaves q else q)
-one_read false room shown made q is = record { is = nothing_comes (nat_lt (count q) room) (held_bytes q) }
-one_read true room shown made (empty remembered) is = record { is = nothing_comes (nat_lt 0 room) [] }
-one_read true room shown made (holds front []) is =
-    record { is = ap (λ bytes. bytes ++ []) (is refl) ∙ nothing_comes (nat_lt 1 room) (front ∷ []) }
-one_read true room shown made (holds front (next ∷ rest)) is =
-    record {
-      is = ap (λ b. (if not b then shown else []) ++ next ∷ rest) (is_some_held front (next ∷ rest))
-          ∙ ap (λ bytes. bytes ++ next ∷ rest) (is refl) ∙ nothing_comes (nat_lt (count (holds front (next ∷ rest))) room) (front ∷ next ∷ rest);
-    }
+one_read b room shown made q is = record { is = grind (arith, common_steps) }
 
 by_room : (has : Bool) (front byte : ℕ) (rest : List ℕ) →
     held_bytes (if has then holds front (rest ++ byte ∷ []) else holds front rest) ≡ (front ∷ rest) ++ (if has then byte ∷ [] else [])
@@ -111,36 +88,22 @@ by_room true front byte rest = refl
 by_room false front byte rest = sym (append-nil (front ∷ rest))
 
 -- a write to a register for one byte, or for more
-one_byte : (one : Bool) (room byte : ℕ) (shown made : List ℕ) (q : Register) → (room == 1) ≡ one → 1 ≤ room →
+one_byte : (room byte : ℕ) (shown made : List ℕ) (q : Register) → 1 ≤ room →
     Balance false (Some byte) false room shown made q (write_leaves room byte q)
-one_byte true room byte shown made (empty remembered) is some = record { is = rw (is, lt-ltb 0 room some) refl }
-one_byte true room byte shown made (holds front rest) is some = record { is = rw (is, is_some_held front rest) refl }
-one_byte false room byte shown made (empty remembered) is some = record { is = rw (is, lt-ltb 0 room some) refl }
-one_byte false room byte shown made (holds front rest) is some = record { is = rw is (by_room (nat_lt (length (front ∷ rest)) room) front byte rest) }
+one_byte room byte shown made q some = record { is = grind (arith, common_steps) }
 
 one_write : (b : Bool) (room byte : ℕ) (shown made : List ℕ) (q : Register) → 1 ≤ room →
     Balance false (if b then Some byte else None) false room shown made q (if b then write_leaves room byte q else q)
 one_write false room byte shown made q some = apart room shown made q
-one_write true room byte shown made q some = one_byte (room == 1) room byte shown made q refl some
+one_write true room byte shown made q some = one_byte room byte shown made q some
 
 -- a clear, or none
 one_clear : (z : Bool) (room : ℕ) (shown made : List ℕ) (q after : Register) → (z ≡ true → held_bytes after ≡ made) → (z ≡ false → after ≡ q) →
     Balance z None false room shown made q after
-one_clear true room shown made q after cleared stays = record { is = ap (λ bytes. held_bytes q ++ bytes) (cleared refl) }
-one_clear false room shown made q after cleared stays = record { is = ap held_bytes (stays refl) ∙ nothing_comes (nat_lt (count q) room) (held_bytes q) }
-
--- there is room for a byte at least
-one_or_two : (b : Bool) → 1 ≤ (if b then 2 else 1)
-one_or_two true = omega arith
-one_or_two false = omega arith
-
-or_more : (b : Bool) (n : ℕ) → 1 ≤ n → 1 ≤ (if b then 24 else n)
-or_more true n some = omega arith
-or_more false n some = some
+one_clear z room shown made q after cleared stays = record { is = grind (arith, common_steps) }
 
 has_capacity : (from : Side) (k : ℕ) (flags : Flags) → 1 ≤ capacity from k flags
-has_capacity Host k flags = one_or_two ((k == 3) && flags.v)
-has_capacity Para k flags = or_more (k == 1) (if (k == 3) && flags.v then 2 else 1) (one_or_two ((k == 3) && flags.v))
+has_capacity from k flags = grind arith
 
 -- ---- What an event makes of a register.
 
@@ -193,12 +156,7 @@ others_read Host k j c = refl
 others_read Para k j c = refl
 
 own_read : (from : Side) (k number : ℕ) (c : State) → queue from k (chip_after c from (Read number)) ≡ queue from k c
-own_read from k number c =
-    counted_keeps from k c (op_leaves c from (Read number))
-    ∙ elim (cases_Bool (is_status number)) [
-      | inl even ↦ ap (λ b. queue from k (if b then c else read_by from (register_number number) c)) even
-      | inr odd ↦ ap (λ b. queue from k (if b then c else read_by from (register_number number) c)) odd ∙ others_read from k (register_number number) c
-    ]
+own_read from k number c = grind arith
 
 -- A write by the side that writes it.
 write_by_own : (from : Side) (k number byte : ℕ) (c : State) → number < 8 → 1 ≤ k → k ≤ 4 →
@@ -226,23 +184,16 @@ others_written Para k j byte c = refl
 
 after_odd_other : (from : Side) (k number byte : ℕ) (c : State) → is_status number ≡ false →
     queue from k (chip_after c (reader from) (Write number byte)) ≡ queue from k c
-after_odd_other from k number byte c odd =
-    counted_keeps from k c (op_leaves c (reader from) (Write number byte))
-    ∙ ap (λ b. queue from k (if b then status_written (reader from) number byte c else written_by (reader from) (register_number number) byte c)) odd
-    ∙ others_written from k (register_number number) byte c
+after_odd_other from k number byte c odd = grind arith
 
 -- a write to a status: the control register, or nothing
 after_control : (from : Side) (k number byte : ℕ) (c : State) → is_status number ≡ true →
     queue from k (chip_after c Host (Write number byte)) ≡ queue from k (if number == 0 then control_leaves byte c else c)
-after_control from k number byte c even =
-    counted_keeps from k c (op_leaves c Host (Write number byte))
-    ∙ ap (λ b. queue from k (if b then status_written Host number byte c else written_by Host (register_number number) byte c)) even
+after_control from k number byte c even = grind arith
 
 after_no_control : (from : Side) (k number byte : ℕ) (c : State) → is_status number ≡ true →
     queue from k (chip_after c Para (Write number byte)) ≡ queue from k c
-after_no_control from k number byte c even =
-    counted_keeps from k c (op_leaves c Para (Write number byte))
-    ∙ ap (λ b. queue from k (if b then status_written Para number byte c else written_by Para (register_number number) byte c)) even
+after_no_control from k number byte c even = grind arith
 
 has_cleared : (from : Side) (k : ℕ) (c : State) → held_bytes (queue from k (clear_leaves c)) ≡ held_bytes (queue from k power_on)
 has_cleared Host k c = refl
@@ -258,16 +209,12 @@ control z t flags c = if z then (if t then clear_leaves (record c { flags = flag
 cleared_by : (z t : Bool) (from : Side) (k : ℕ) (flags : Flags) (c : State) → (z && t) ≡ true →
     held_bytes (queue from k (control z t flags c)) ≡ held_bytes (queue from k power_on)
 unfolding control
-cleared_by true true from k flags c is = has_cleared from k (record c { flags = flags })
-cleared_by true false from k flags c is = absurd (false≢true is)
-cleared_by false t from k flags c is = absurd (false≢true is)
+cleared_by z t from k flags c is = grind arith
 
 not_cleared : (z t : Bool) (from : Side) (k : ℕ) (flags : Flags) (c : State) → (z && t) ≡ false →
     queue from k (control z t flags c) ≡ queue from k c
 unfolding control
-not_cleared true true from k flags c is = absurd (true≢false is)
-not_cleared true false from k flags c is = flags_only from k flags c
-not_cleared false t from k flags c is = refl
+not_cleared z t from k flags c is = grind arith
 
 -- a write to the control register, or to another status
 control_clears : (from : Side) (k number byte : ℕ) (c : State) (room : ℕ) (shown : List ℕ) →
@@ -296,11 +243,11 @@ Keeps from k c side query answer =
 
 -- an odd number is not that of the control register
 odd_clears_nothing : (number byte : ℕ) → is_status number ≡ false → ((number == 0) && (bit byte 7 && bit byte 6)) ≡ false
-odd_clears_nothing number byte odd = ap (λ z. z && (bit byte 7 && bit byte 6)) (odd_not_0 number odd)
+odd_clears_nothing number byte odd = grind arith
 
 -- an even one is not that of a byte
 even_sends_nothing : (number k byte : ℕ) → is_status number ≡ true → 1 ≤ k → (if number == byte_number k then Some byte else None) ≡ None
-even_sends_nothing number k byte even lk = ap (λ b. if b then Some byte else None) (even_is number k even lk)
+even_sends_nothing number k byte even lk = grind arith
 
 -- a write to an odd number, by the side that writes the register
 own_write_odd : (from : Side) (k number byte : ℕ) (c : State) (answer : Answer) → is_status number ≡ false → number < 8 → 1 ≤ k → k ≤ 4 →
@@ -357,8 +304,7 @@ own_reads Para k number c answer tick = untouched refl refl (own_read Para k num
 -- a reset clears all
 resets : (from : Side) (k : ℕ) (c : State) (answer : Answer) → Keeps from k c Host (access Reset) answer
 unfolding Keeps
-resets Host k c answer tick = one_clear true _ _ _ _ _ (λ e. has_reset Host k c) (λ e. absurd (true≢false e))
-resets Para k c answer tick = one_clear true _ _ _ _ _ (λ e. has_reset Para k c) (λ e. absurd (true≢false e))
+resets from k c answer = grind arith
 
 resets_by : (from side : Side) (k : ℕ) (c : State) (answer : Answer) → side ≡ Host → Keeps from k c side (access Reset) answer
 resets_by from Host k c answer is = resets from k c answer
@@ -420,13 +366,10 @@ all_queues from k c (e ∷ events) lk hk may answered =
 
 -- where nothing is destroyed
 only_read : (from : Side) (k : ℕ) (c : State) (e : Event) → destroys from k c e ≡ false → leaves from k c e ≡ read_out from k c e
-only_read from k c e keeps = ap (λ b. if b then held_bytes (queue from k c) else read_out from k c e) keeps
+only_read from k c e keeps = grind arith
 
 only_written : (from : Side) (k : ℕ) (c : State) (e : Event) → destroys from k c e ≡ false → comes from k c e ≡ written_in from k c e
-only_written from k c e keeps =
-    let stays : clears e ≡ false = (or_parts (clears e) _ keeps).0 in
-    ap (λ b. if b then held_bytes (queue from k power_on) else if destroys from k c e then the_byte (byte_sent from k e) else written_in from k c e) stays
-    ∙ ap (λ b. if b then the_byte (byte_sent from k e) else written_in from k c e) keeps
+only_written from k c e keeps = grind arith
 
 pub all_kept : NothingIsLost
 all_kept from k c [] lk hk may answered keeps = sym (append-nil (held_bytes (queue from k c)))

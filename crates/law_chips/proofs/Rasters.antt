@@ -33,8 +33,7 @@ pub count_keeps : (c : State) → (count_leaves c).registers ≡ c.registers
 count_keeps c = grind arith
 
 written_has : (n v : ℕ) (r : Registers) → v < 256 → HaveTheirBits r → HaveTheirBits (write_leaves n v r)
-written_has n v r byte bits =
-    record { horizontal_total = grind arith; vertical_total = grind arith; vertical_adjust = grind arith; maximum_raster = grind arith }
+written_has n v r byte bits = grind arith
 
 clock_keeps : (c : State) → HaveTheirBits c.registers → HaveTheirBits (clock_leaves c).registers
 clock_keeps c bits = subst HaveTheirBits (sym (count_keeps (start_leaves c) ∙ start_keeps c)) bits
@@ -49,7 +48,7 @@ all_moved [] c bytes bits = bits
 all_moved (m ∷ moves) c bytes bits = all_moved moves (after_move m c) bytes.1 (moved m c bytes.0 bits)
 
 first_bits : HaveTheirBits power_on.registers
-first_bits = record { horizontal_total = omega arith; vertical_total = omega arith; vertical_adjust = omega arith; maximum_raster = omega arith }
+first_bits = grind arith
 
 pub registers_have_their_bits : RegistersHaveTheirBits
 registers_have_their_bits = record { keeps = moved; reached = λ moves bytes. all_moved moves power_on bytes first_bits }
@@ -159,9 +158,7 @@ characters lines c bits begins (suc n) =
     ]
 
 pub frame_some : (r : Registers) → 0 < frame_lines r
-frame_some r =
-    let whole : (r.vertical_total + 1) * row_lines r ≡ r.vertical_total * row_lines r + row_lines r = grind arith in
-    omega arith
+frame_some r = grind arith
 
 -- what is so of clock n, behind the start of a line
 pub record AtClock (c : State) (n : ℕ) : Type 0 where
@@ -211,8 +208,7 @@ pub record HasNext (b : Bool) (m k : ℕ) : Type 0 where
   pub step : (k * (if b then 2 else 1) + (if b then 2 else 1)) % 32 ≡ (k + 1) * (if b then 2 else 1)
 
 pub next_of : (b : Bool) (m k : ℕ) → m < 32 → k + 1 < (if b then m - m % 2 else m) / (if b then 2 else 1) + 1 → HasNext b m k
-next_of true m k small e = record { other = λ same. omega arith; step = omega arith }
-next_of false m k small e = record { other = λ same. omega arith; step = omega arith }
+next_of b m k small e = grind arith
 
 -- ---- The line of the frame.
 
@@ -232,24 +228,12 @@ abbrev pub IsAt : Registers → ℕ → State → Type 0
 IsAt r l c = InRow r l c.adjust c.row c.raster ⊎ InAdjust r l c.adjust
 
 first_line : (r : Registers) (row raster : ℕ) (adjust : Option ℕ) → row ≡ 0 → raster ≡ 0 → adjust ≡ None → InRow r 0 adjust row raster
-first_line r row raster adjust a b none =
-    let q : 0 / row_lines r ≡ 0 = zero-div (row_lines r) in
-    let k : 0 % row_lines r ≡ 0 = zero-mod (row_lines r) in
-    let z : 0 ≡ 0 * raster_step r = omega arith in
-    let whole : (r.vertical_total + 1) * row_lines r ≡ r.vertical_total * row_lines r + row_lines r = grind arith in
-    record {
-      none = none;
-      rows = omega arith;
-      row_is = a ∙ sym q;
-      raster_is = b ∙ z ∙ ap (λ i. i * raster_step r) (sym k);
-    }
+first_line r row raster adjust a b none = grind arith
 
 -- which of the ends of a line it is
 rows_line : (c : State) → is_row_done c ≡ true → (c.row == c.registers.vertical_total) ≡ true → is_last_line_in None c ≡ false →
     row_line_ended c ≡ adjust_begun c
-rows_line c done all other =
-    let z : (c.registers.vertical_adjust == 0) ≡ false = rw (done, all) at other in
-    rw (done, all, z) refl
+rows_line c done all other = grind arith
 
 row_line : (c : State) → is_row_done c ≡ true → (c.row == c.registers.vertical_total) ≡ false → row_line_ended c ≡ row_begun c
 row_line c done other = rw (done, other) refl
@@ -323,13 +307,7 @@ line_goes_on (Some a) l c is bits (inr at) other =
 
 -- the last line of a frame ends, and a new frame begins
 last_goes_on : (adjust : Option ℕ) (c : State) → is_last_line_in adjust c ≡ true → line_ended_in adjust c ≡ frame_begun c
-last_goes_on None c is = by_tests (are_rows_done c) (is_row_done c) (c.registers.vertical_adjust == 0) is where
-  by_tests : (p q z : Bool) → (p && z) ≡ true →
-      (if p then (if z then frame_begun c else adjust_begun c) else if q then row_begun c else raster_begun c) ≡ frame_begun c
-  by_tests true q true e = refl
-  by_tests true q false e = cc
-  by_tests false q z e = cc
-last_goes_on (Some a) c is = rw is refl
+last_goes_on adjust c is = grind arith
 
 pub and_left : (a b : Bool) → a ≡ true → (a && b) ≡ b
 and_left true b e = refl
@@ -419,10 +397,7 @@ shown_by r l h c regs column (inr at) =
     rw (some, is) (and_false _ ∙ sym (and_false _))
 
 raster_by : (r : Registers) (l : ℕ) (c : State) → IsAt r l c → is_shown c ≡ true → c.raster ≡ l % row_lines r * raster_step r
-raster_by r l c (inl at) is = at.raster_is
-raster_by r l c (inr at) is =
-    let some : is_none c.adjust ≡ false = ap is_none at.some in
-    absurd (true≢false (sym is ∙ (rw some (and_false _))))
+raster_by r l c h1 is = grind arith
 
 pub characters_are_shown : LinesHaveTheirCharacters → FramesHaveTheirClocks → CharactersAreShown
 characters_are_shown lines frames = record {

@@ -23,35 +23,26 @@ use Rattle.law_chips.proofs.Streams.{Stream, Next, GoesOn}
 use Rattle.law_chips.proofs.Streams.{Taking, IsGiven, takes_step, takes_access, takes_first}
 
 pub same_disc : (number : Option DriveNumber) (s s0 : State) → s.drive0 ≡ s0.drive0 → s.drive1 ≡ s0.drive1 → disc_in number s ≡ disc_in number s0
-same_disc None s s0 a b = refl
-same_disc (Some Drive0) s s0 a b = ap (λ (d : Drive). d.disc) a
-same_disc (Some Drive1) s s0 a b = ap (λ (d : Drive). d.disc) b
+same_disc number s s0 a b = grind arith
 
 -- which place passes
 pub no_place : (k m : ℕ) → ((m + 1) % 64 ≡ 0 → ⊥) → places_into k (64 * (312 * k) + m + 1) ≡ None
-no_place k m other =
-    let same : (64 * (312 * k) + m + 1) % 64 ≡ (m + 1) % 64 = omega arith in
-    rw (ne_eqb ((64 * (312 * k) + m + 1) % 64) 0 (λ e. other (sym same ∙ e))) refl
+no_place k m other = grind arith
 
 pub a_place : (k m : ℕ) → (m + 1) % 64 ≡ 0 → places_into k (64 * (312 * k) + m + 1) ≡ Some ((m + 1) / 64)
-a_place k m is =
-    let zero_left : (64 * (312 * k) + m + 1) % 64 ≡ 0 = omega arith in
-    let same : (64 * (312 * k) + m + 1) / 64 - 312 * k ≡ (m + 1) / 64 = omega arith in
-    rw (eq-eqb ((64 * (312 * k) + m + 1) % 64) 0 zero_left, same) refl
+a_place k m is = grind arith
 
 -- the step behind m steps is at the next angle
 unfoldable pub moved_on : State → ℕ → ℕ → State
 moved_on s k m = record s { angle = Some (64 * (312 * k) + m + 1) }
 
 pub next_place : (k m : ℕ) → Some (64 * (312 * k) + m + 1) ≡ Some (64 * (312 * k) + (m + 1))
-next_place k m = let e : 64 * (312 * k) + m + 1 ≡ 64 * (312 * k) + (m + 1) = omega arith in ap (λ (n : ℕ). Some n) e
+next_place k m = grind arith
 
 -- a step of the command, where sector k is among the ten of a track
 pub worked_is : (s : State) (t : Transfer) (k m : ℕ) → k < 10 → m < 18432 → s.command ≡ Transferring t k → s.angle ≡ Some (64 * (312 * k) + m) →
     work_leaves s ≡ transfer_step t k (64 * (312 * k) + m + 1) (record s { angle = Some (64 * (312 * k) + m + 1) })
-worked_is s t k m few inside goes at =
-    let on : (64 * (312 * k) + m + 1) % 200000 ≡ 64 * (312 * k) + m + 1 = omega arith in
-    rw (goes, at, on) refl
+worked_is s t k m few inside goes at = grind arith
 
 -- such a step, where this is done at the places that pass by
 pub at_each : (at : Option ℕ → State → State) (To : State → Type 0) (k m : ℕ) (s x : State) → x ≡ at (places_into k (64 * (312 * k) + m + 1)) s →
@@ -62,7 +53,7 @@ at_each at To k m s x is passes_by none = elim (cases_eq ((m + 1) % 64) 0) [
 ]
 
 pub reads_is : (t : Transfer) (k angle : ℕ) (s : State) → t.writes ≡ false → transfer_step t k angle s ≡ reading_at t k (places_into k angle) s
-reads_is t k angle s reads = ap (λ b. if b then writing_at t k (places_into k angle) s else reading_at t k (places_into k angle) s) reads
+reads_is t k angle s reads = grind arith
 
 -- a place within the sector
 pub at_byte : (place : ℕ) → 31 ≤ place → place < 287 → is_byte_place 31 place ≡ true
@@ -72,7 +63,7 @@ pub before_bytes : (place : ℕ) → place < 31 → is_byte_place 31 place ≡ f
 before_bytes place early = rw (lt-leb 31 place early) refl
 
 pub behind_bytes : (place : ℕ) → 287 ≤ place → is_byte_place 31 place ≡ false
-behind_bytes place late = and_right (nat_le 31 place) (nat_lt place 287) (le-ltb place 287 late)
+behind_bytes place late = grind arith
 
 -- Sector k, which is read.
 abbrev pub of_sector : Transfer → ℕ → Stream
@@ -90,38 +81,13 @@ of_sector t k = record {
 quiet : (t : Transfer) (k : ℕ) (s : State) (m : ℕ) → m < 18432 → s.command ≡ Transferring t k → (m + 1 ≡ 18432 → ⊥) →
     ((m + 1) % 64 ≡ 0 → 31 ≤ (m + 1) / 64 → (m + 1) / 64 ≤ 31 + 255 → ⊥) → Next (of_sector t k) s (moved_on s k m) m
 unfolding moved_on
-quiet t k s m inside is early none = record {
-  command = λ h. is;
-  over = λ h. absurd (early (omega arith));
-  angle = next_place k m;
-  drive0 = refl;
-  drive1 = refl;
-  byte = λ place low high. absurd (none place low high);
-  none = λ h. (refl, refl, refl);
-}
+quiet t k s m inside is early none = grind arith
 
 ends_so : (b : Bool) (t : Transfer) (k : ℕ) (s : State) (m : ℕ) → t.multiple ≡ b → (m + 1) / 64 ≡ 288 →
     Next (of_sector t k) s
     (if b then record (moved_on s k m) { sector = ((moved_on s k m).sector + 1) % 256; command = search_of t } else finish_leaves (moved_on s k m)) m
 unfolding moved_on
-ends_so true t k s m many end = record {
-  command = λ h. absurd (omega arith);
-  over = λ h. ap (λ b. if b then search_of t else Idle) (sym many);
-  angle = next_place k m;
-  drive0 = refl;
-  drive1 = refl;
-  byte = λ place low high. absurd (omega arith);
-  none = λ h. (refl, refl, refl);
-}
-ends_so false t k s m many end = record {
-  command = λ h. absurd (omega arith);
-  over = λ h. ap (λ b. if b then search_of t else Idle) (sym many);
-  angle = next_place k m;
-  drive0 = refl;
-  drive1 = refl;
-  byte = λ place low high. absurd (omega arith);
-  none = λ h. (refl, refl, refl);
-}
+ends_so b t k s m many end = grind arith
 
 at_place : (t : Transfer) (k : ℕ) (s : State) (m : ℕ) → m < 18432 → (m + 1) % 64 ≡ 0 → s.command ≡ Transferring t k →
     Next (of_sector t k) s (reading_at t k (Some ((m + 1) / 64)) (moved_on s k m)) m
@@ -163,18 +129,13 @@ sector_goes t k few reads s m inside is at =
 
 -- A sector on a disc has a number below 10, and 256 bytes.
 bytes_of : (b : Bool) (xs bytes : List ℕ) → (if b then Some xs else None) ≡ Some bytes → (b ≡ true) × (xs ≡ bytes)
-bytes_of true xs bytes is = (refl, ap (λ o. unwrap_or o []) is)
-bytes_of false xs bytes is = cc
+bytes_of b xs bytes is = grind arith
 
 pub number_small : (d : Image) (side track k : ℕ) (bytes : List ℕ) → sector_of d side track k ≡ Some bytes → k < 10
-number_small d side track k bytes is =
-    let has : has_sector d.kind side track k ≡ true = (bytes_of (has_sector d.kind side track k) (sector_bytes d side track k) bytes is).0 in
-    ltb-true k 10 (and_parts _ _ has).1
+number_small d side track k bytes is = grind arith
 
 pub bytes_long : (d : Image) (side track k : ℕ) (bytes : List ℕ) → sector_of d side track k ≡ Some bytes → length bytes ≡ 256
-bytes_long d side track k bytes is =
-    ap length (sym (bytes_of (has_sector d.kind side track k) (sector_bytes d side track k) bytes is).1) ∙ length-map-range_with_len
-    (λ at. byte_at d (place d.kind side track k 0 + at)) 0 256
+bytes_long d side track k bytes is = grind arith
 
 all_come : (m : ℕ) (bytes : List ℕ) → m ≡ 18432 → length bytes ≡ 256 → take (bytes_come m) bytes ≡ bytes
 all_come m bytes now long = let all : length bytes ≤ bytes_come m = omega arith in take_all (bytes_come m) bytes all
@@ -183,8 +144,7 @@ all_come m bytes now long = let all : length bytes ≤ bytes_come m = omega arit
 gives : (s0 : State) (t : Transfer) (k : ℕ) (d : Image) (bytes : List ℕ) (s : State) (i : ℕ) → HasBytes s0 t k d bytes → s.drive0 ≡ s0.drive0 →
     s.drive1 ≡ s0.drive1 →
     byte_on_disc (disc_in t.target.drive s) t.target k i ≡ slice_index bytes i
-gives s0 t k d bytes s i has a b =
-    ap (λ o. byte_on_disc o t.target k i) (same_disc t.target.drive s s0 a b ∙ has.disc) ∙ ap (λ o. byte_of_sector o i) has.sector
+gives s0 t k d bytes s i has a b = grind arith
 
 pub is_given : (s : State) (t : Transfer) (k : ℕ) (d : Image) (bytes : List ℕ) → HasBytes s t k d bytes → t.writes ≡ false → IsGiven (of_sector t k) bytes s
 is_given s t k d bytes has reads = record {
@@ -197,7 +157,7 @@ is_given s t k d bytes has reads = record {
 
 -- where a sector is found no byte has come
 pub at_start : (s : State) (t : Transfer) (k : ℕ) (bytes : List ℕ) → IsAtSector s t k → Taking (of_sector t k) bytes s s 0 []
-at_start s t k bytes at = takes_first (of_sector t k) bytes s (omega arith) at.command at.angle at.drq
+at_start s t k bytes at = grind arith
 
 from_start : (s : State) (t : Transfer) (k : ℕ) (d : Image) (bytes : List ℕ) (events : List Event) → IsAtSector s t k → HasBytes s t k d bytes →
     t.writes ≡ false → AllRead events → count_steps events ≤ sector_steps → Taking (of_sector t k) bytes s (history events s) (count_steps events)

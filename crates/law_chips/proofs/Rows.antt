@@ -150,7 +150,7 @@ goes facts c makes n =
 -- ---- Earlier clocks are in no later row.
 
 div_grows : (m n k : ℕ) → 0 < k → m ≤ n → m / k ≤ n / k
-div_grows m n k some before = let least = div-mul-le_self m k in le-div (m / k) n k some (omega arith)
+div_grows m n k some before = grind arith
 
 frame_grows : (r : Registers) (m n : ℕ) → m ≤ n → frame_index r m ≤ frame_index r n
 frame_grows r m n before =
@@ -185,8 +185,7 @@ shown_text shown code t = if shown then text_after code t else t
 
 covers_on : (shown : Bool) (code : ℕ) (t : Text) → Covers t → Covers (shown_text shown code t)
 unfolding Covers shown_text codes_after
-covers_on true code t is = λ had. or_right t.doubled (t.codes.had_double || code == 0x0D) had
-covers_on false code t is = is
+covers_on shown code t is = grind arith
 
 -- a row has such a code then if it had before, or the character has it
 doubled_on : (shown : Bool) (code : ℕ) (t : Text) → Covers t → (shown_text shown code t).doubled ≡ true →
@@ -203,14 +202,11 @@ doubled_on true code t is had = by_cases t.doubled t.codes.had_double (code == 0
 
 doubled_before : (shown : Bool) (code : ℕ) (t : Text) → t.doubled ≡ true → (shown_text shown code t).doubled ≡ true
 unfolding shown_text codes_after
-doubled_before true code t is = or_left t.doubled (t.codes.had_double || code == 0x0D) is
-doubled_before false code t is = is
+doubled_before shown code t is = grind arith
 
 doubled_here : (shown : Bool) (code : ℕ) (t : Text) → shown ≡ true → code ≡ 0x0D → (shown_text shown code t).doubled ≡ true
 unfolding shown_text codes_after
-doubled_here true code t is double =
-    or_right t.doubled (t.codes.had_double || code == 0x0D) (or_right t.codes.had_double (code == 0x0D) (eq-eqb code 0x0D double))
-doubled_here false code t is double = absurd (true≢false (sym is))
+doubled_here shown code t is double = grind arith
 
 bottom_on : (shown : Bool) (code : ℕ) (t : Text) → (shown_text shown code t).bottom ≡ t.bottom
 unfolding shown_text
@@ -220,24 +216,19 @@ bottom_on false code t = refl
 -- a line that starts has no codes
 covers_at : (b : Beam) (t : Text) (p : Bool) → b.line_start ≡ p → (p ≡ false → Covers t) → Covers (text_at b t)
 unfolding Covers
-covers_at b t true is keeps = λ had. absurd (true≢false (sym had ∙ ap (λ (q : Row). q.had_double) (codes_at b t true is)))
-covers_at b t false is keeps = λ had.
-    ap (λ q. (if q then record t { codes = row_start } else t).doubled) is ∙ keeps refl (sym (ap (λ (q : Row). q.had_double) (codes_at b t false is)) ∙ had)
+covers_at b t p is keeps = grind arith
 
 doubled_kept : (b : Beam) (t : Text) → (text_at b t).doubled ≡ t.doubled
-doubled_kept b t = by_test b.line_start where
-  by_test : (p : Bool) → (if p then record t { codes = row_start } else t).doubled ≡ t.doubled
-  by_test true = refl
-  by_test false = refl
+doubled_kept b t = grind arith
 
 past_plain : (b : Beam) (t : Text) → b.restart ≡ false → b.row_end ≡ false → text_past b t ≡ t
-past_plain b t p q = ap (λ i. if i then first_row t else if b.row_end then next_row t else t) p ∙ ap (λ i. if i then next_row t else t) q
+past_plain b t p q = grind arith
 
 past_row : (b : Beam) (t : Text) → b.restart ≡ false → b.row_end ≡ true → text_past b t ≡ next_row t
-past_row b t p q = ap (λ i. if i then first_row t else if b.row_end then next_row t else t) p ∙ ap (λ i. if i then next_row t else t) q
+past_row b t p q = grind arith
 
 past_frame : (b : Beam) (t : Text) → b.restart ≡ true → text_past b t ≡ first_row t
-past_frame b t p = ap (λ i. if i then first_row t else if b.row_end then next_row t else t) p
+past_frame b t p = grind arith
 
 -- ---- What holds at each clock of a row.
 

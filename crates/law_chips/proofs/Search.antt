@@ -39,23 +39,15 @@ record Lost (s : State) : Type 0 where
 -- One step.
 searched : (s : State) (t : Transfer) (left : ℕ) → s.command ≡ Searching t left →
     work_leaves s ≡ search_step t left (next_angle s.angle) (record s { angle = Some (next_angle s.angle) })
-searched s t left is = ap (λ c. command_step c (next_angle s.angle) (record s { angle = Some (next_angle s.angle) })) is
+searched s t left is = grind arith
 
 shuffle : (a b c d : Bool) → (a && b && c && d) ≡ ((a && (b && d)) && c)
-shuffle false b c d = refl
-shuffle true false c d = refl
-shuffle true true false true = refl
-shuffle true true false false = refl
-shuffle true true true true = refl
-shuffle true true true false = refl
+shuffle a b c d = grind arith
 
 -- The test of a search is that there is a sector for it, and that it begins now.
 found_when : (s0 s : State) (t : Transfer) (left m angle : ℕ) → Going s0 t left s m →
     is_found t.target angle (record s { angle = Some angle }) ≡ (has_match t s0 && (angle == sector_angle s0.sector))
-found_when s0 s t left m angle going =
-    rw (same_disc t.target.drive (record s { angle = Some angle }) s0 going.drive0 going.drive1, going.latch, going.track, going.sector)
-    (shuffle (is_single_density s0.latch) (t.target.head == s0.track) (angle == sector_angle s0.sector)
-    (is_on_disc (disc_in t.target.drive s0) t.target s0.sector))
+found_when s0 s t left m angle going = grind arith
 
 -- no sector is found in the step behind m steps
 NoneAt : State → Transfer → ℕ → Type 0
@@ -64,8 +56,7 @@ NoneAt s0 t m = (has_match t s0 && ((next_angle s0.angle + m) % 200000 == sector
 here : (s0 s : State) (t : Transfer) (left m : ℕ) → Going s0 t left s m →
     is_found t.target (next_angle s.angle) (record s { angle = Some (next_angle s.angle) })
     ≡ (has_match t s0 && ((next_angle s0.angle + m) % 200000 == sector_angle s0.sector))
-here s0 s t left m going =
-    found_when s0 s t left m (next_angle s.angle) going ∙ ap (λ a. has_match t s0 && (a == sector_angle s0.sector)) going.angle
+here s0 s t left m going = grind arith
 
 -- what a step leaves by whether the sector is found
 step_by : (b : Bool) (s0 s : State) (t : Transfer) (left m : ℕ) → Going s0 t left s m →
@@ -82,12 +73,7 @@ step_by b s0 s t left m going is =
 
 goes_on : (s0 : State) (t : Transfer) (left last : ℕ) → last < left → ((i : ℕ) → i < last → NoneAt s0 t i) → CountsFrom s0 (λ m. Searching t (left - m)) last
 unfolding NoneAt
-goes_on s0 t left last before none s m inside going =
-    let s1 : State = record s { angle = Some (next_angle s.angle) } in
-    let less : left - m - 1 ≡ left - (m + 1) = omega arith in
-    step_by false s0 s t left m going (none m inside)
-    ∙ ap (λ b. if b then record s1 { command = Searching t (left - m - 1) } else not_found s1) (lt-ltb 1 (left - m) (omega arith))
-    ∙ ap (λ k. record s1 { command = Searching t k }) less
+goes_on s0 t left last before none = grind arith
 
 finds : (s0 s : State) (t : Transfer) (left m : ℕ) → Going s0 t left s m → has_match t s0 ≡ true →
     (next_angle s0.angle + m) % 200000 ≡ sector_angle s0.sector → Found s0 t (step s)
@@ -116,22 +102,10 @@ loses s0 s t left m going none end =
 -- ---- Reads of registers.
 
 found_read : (s0 : State) (t : Transfer) (reg : ℕ) (s : State) → Found s0 t s → Found s0 t (read_leaves reg s)
-found_read s0 t reg s found =
-    subst (λ y. Found s0 t (count_leaves (is_asking s) y)) (sym (read_makes (reg == 0) (reg == 3) s)) (record {
-      drive0 = found.drive0;
-      drive1 = found.drive1;
-      latch = found.latch;
-      track = found.track;
-      command = found.command;
-      angle = found.angle;
-      drq = λ off. stays_off (reg == 0) (reg == 3) s.drq (found.drq off);
-      lost = found.lost;
-      sector = found.sector;
-    })
+found_read s0 t reg s found = grind arith
 
 lost_read : (reg : ℕ) (s : State) → Lost s → Lost (read_leaves reg s)
-lost_read reg s lost =
-    subst (λ y. Lost (count_leaves (is_asking s) y)) (sym (read_makes (reg == 0) (reg == 3) s)) (assumption)
+lost_read reg s lost = grind arith
 
 -- ---- Runs.
 
@@ -174,24 +148,18 @@ runs_on s t left last events is before none all most =
 
 -- a sector that is on a disc begins within a turn
 on_disc_small : (disc : Option Image) (target : Target) (k : ℕ) → is_on_disc disc target k ≡ true → k < 10
-on_disc_small None target k is = cc
-on_disc_small (Some d) target k is = ltb-true k 10 (and_parts _ _ is).1
+on_disc_small disc target k is = grind arith
 
 sector_small : (s : State) (t : Transfer) → has_match t s ≡ true → s.sector < 10
-sector_small s t has =
-    on_disc_small (disc_in t.target.drive s) t.target s.sector (and_parts _ _ (and_parts _ _ has).1).1
+sector_small s t has = grind arith
 
 not_before : (s : State) (t : Transfer) → has_match t s ≡ true → (i : ℕ) → i < (sector_angle s.sector + 200000 - next_angle s.angle) % 200000 → NoneAt s t i
 unfolding NoneAt
-not_before s t has i early =
-    let small = small_angle s.angle in
-    let few = sector_small s t has in
-    let other : (next_angle s.angle + i) % 200000 ≡ sector_angle s.sector → ⊥ = λ e. omega arith in
-    and_right (has_match t s) _ (ne_eqb _ _ other)
+not_before s t has i early = grind arith
 
 then_now : (s : State) (t : Transfer) → has_match t s ≡ true →
     (next_angle s.angle + (sector_angle s.sector + 200000 - next_angle s.angle) % 200000) % 200000 ≡ sector_angle s.sector
-then_now s t has = let small = small_angle s.angle in let few = sector_small s t has in omega arith
+then_now s t has = grind arith
 
 never : (s : State) (t : Transfer) → has_match t s ≡ false → (i : ℕ) → NoneAt s t i
 unfolding NoneAt

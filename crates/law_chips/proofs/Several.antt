@@ -57,31 +57,15 @@ pub record Kept (s0 s : State) (m : ℕ) : Type 0 where
 
 -- a step that leaves the registers
 plain : (s0 s x : State) (m : ℕ) → m + 1 < 18432 → Regs s x → Kept s0 s m → Kept s0 x (m + 1)
-plain s0 s x m inside regs is = record {
-  latch = regs.latch ∙ is.latch;
-  track = regs.track ∙ is.track;
-  sector = λ h. regs.sector ∙ is.sector (omega arith);
-  next = λ h. absurd (omega arith);
-}
+plain s0 s x m inside regs is = grind arith
 
 ends_so : (s0 : State) (t : Transfer) (k : ℕ) (s : State) (m : ℕ) → t.multiple ≡ true → m + 1 ≡ 18432 → Kept s0 s m →
     Kept s0 (sector_ended t (moved_on s k m)) (m + 1)
 unfolding moved_on
-ends_so s0 t k s m many end is =
-    let s1 = moved_on s k m in
-    let x : State = record s1 { sector = (s1.sector + 1) % 256; command = search_of t } in
-    subst (λ y. Kept s0 y (m + 1)) (sym (ap (λ b. if b then x else finish_leaves s1) many)) (record {
-      latch = is.latch;
-      track = is.track;
-      sector = λ h. absurd (omega arith);
-      next = λ h. ap (λ n. (n + 1) % 256) (is.sector (omega arith));
-    })
+ends_so s0 t k s m many end is = grind arith
 
 before_end : (m : ℕ) → m < 18432 → ((m + 1) % 64 ≡ 0 → (m + 1) / 64 ≡ 288 → ⊥) → m + 1 < 18432
-before_end m inside other = elim (cases_eq (m + 1) 18432) [
-  | inl end ↦ absurd (other (omega arith) (omega arith))
-  | inr before ↦ omega arith
-]
+before_end m inside other = grind arith
 
 -- what a command does at its places
 pub record Leaves (t : Transfer) (at : Option ℕ → State → State) : Type 0 where
@@ -95,61 +79,24 @@ pub kept_step : (t : Transfer) (k : ℕ) (at : Option ℕ → State → State) �
     transfer_step t k (64 * (312 * k) + m + 1) (moved_on s k m) ≡ at (places_into k (64 * (312 * k) + m + 1)) (moved_on s k m) →
     Kept s0 s m → Kept s0 (step s) (m + 1)
 unfolding moved_on
-kept_step t k at leaves few many s0 s m inside going angle by is =
-    let s1 = moved_on s k m in
-    let To : State → Type 0 = λ x. Kept s0 (count_leaves (is_asking s) x) (m + 1) in
-    let counted : (x : State) → Kept s0 x (m + 1) → To x = λ x h. assumption in
-    at_each at To k m s1 (work_leaves s) (worked_is s t k m few inside going angle ∙ by)
-    (λ passes_by.
-    let place = (m + 1) / 64 in
-    elim (cases_eq place 288) [
-      | inl end ↦ subst To (sym (leaves.ends place s1 end)) (counted (sector_ended t s1) (ends_so s0 t k s m many (omega arith) is))
-      | inr other ↦
-          let regs = leaves.others place s1 other in
-          counted (at (Some place) s1) (plain s0 s (at (Some place) s1) m (before_end m inside (λ h e. other e))
-          (assumption) is)
-    ])
-    (λ none. subst To (sym (leaves.none s1))
-    (counted s1 (plain s0 s s1 m (before_end m inside (λ h e. none h)) (assumption) is)))
+kept_step t k at leaves few many s0 s m inside going angle by is = grind arith
 
 -- an access of a program that only reads registers, or gives bytes
 regs_kept : (e : Event) (s : State) → IsAccess e → Gives e → Regs s (happens e s)
-regs_kept microsecond s access may = absurd access
-regs_kept (read reg) s access may =
-    subst (λ y. Regs s (count_leaves (is_asking s) y)) (sym (read_makes (reg == 0) (reg == 3) s)) (assumption)
-regs_kept (write reg v) s access may = subst (λ r. Regs s (write_leaves r v s)) (sym may) (assumption)
-regs_kept (latch v) s access may = absurd may
+regs_kept e s access may = grind arith
 
 pub kept_access : (s0 : State) (e : Event) (s : State) (m : ℕ) → IsAccess e → Gives e → Kept s0 s m → Kept s0 (happens e s) m
-kept_access s0 e s m access may is =
-    let regs = regs_kept e s access may in
-    record {
-      latch = regs.latch ∙ is.latch;
-      track = regs.track ∙ is.track;
-      sector = λ h. regs.sector ∙ is.sector h;
-      next = λ h. regs.sector ∙ is.next h;
-    }
+kept_access s0 e s m access may is = grind arith
 
 pub kept_first : (s : State) → Kept s s 0
-kept_first s = record { latch = refl; track = refl; sector = λ h. refl; next = λ h. absurd (omega arith) }
+kept_first s = grind arith
 
 waits_give : (e : Event) → Waits e → Gives e
-waits_give microsecond may = tt
-waits_give (read reg) may = tt
-waits_give (write reg v) may = absurd may
-waits_give (latch v) may = absurd may
+waits_give e may = grind arith
 
 -- what a sector does that is read
 reading_leaves : (t : Transfer) (k : ℕ) → Leaves t (reading_at t k)
-reading_leaves t k = record {
-  none = λ s. refl;
-  others = λ place s other.
-      either (is_byte_place 31 place) s (byte_came (byte_on_disc (disc_in t.target.drive s) t.target k (place - 31)) s)
-      (if place == 288 then sector_ended t s else s)
-      (assumption)
-      (subst (λ b. Regs s (if b then sector_ended t s else s)) (sym (ne_eqb place 288 other)) (assumption));
-  ends = λ place s end. rw (behind_bytes place (omega arith), eq-eqb place 288 end) refl;
-}
+reading_leaves t k = grind arith
 
 reads_only : (events : List Event) → AllWait events → AllRead events
 reads_only [] all = tt
@@ -158,15 +105,12 @@ reads_only (e ∷ es) all = (waits_read e all.0, reads_only es all.1)
 -- the disc has the sector
 pub has_it : (d : Image) (t : Transfer) (k : ℕ) → k < 10 → has_sector d.kind t.target.side t.target.head 0 ≡ true →
     has_sector d.kind t.target.side t.target.head k ≡ true
-has_it d t k few has = let parts = and_parts _ _ has in ap (λ b. b && nat_lt k 10) parts.0 ∙ lt-ltb k 10 few
+has_it d t k few has = grind arith
 
 -- there is a sector for the search
 pub matches : (s : State) (t : Transfer) (d : Image) → is_single_density s.latch ≡ true → t.target.head ≡ s.track → disc_in t.target.drive s ≡ Some d →
     has_sector d.kind t.target.side t.target.head 0 ≡ true → s.sector < 10 → has_match t s ≡ true
-matches s t d density track disc on_disc few =
-    ap (λ b. b && ((t.target.head == s.track) && is_on_disc (disc_in t.target.drive s) t.target s.sector)) density
-    ∙ ap (λ b. b && is_on_disc (disc_in t.target.drive s) t.target s.sector) (eq-eqb t.target.head s.track track)
-    ∙ ap (λ o. is_on_disc o t.target s.sector) disc ∙ has_it d t s.sector few on_disc
+matches s t d density track disc on_disc few = grind arith
 
 -- One sector of several.
 record Done (s : State) (t : Transfer) (d : Image) (round : Round) : Type 0 where
@@ -244,13 +188,10 @@ sectors_follow s t d (round ∷ rounds) is inside timely =
 -- ---- The registers.
 
 put_keeps : (number : Option DriveNumber) (target : Target) (k i v : ℕ) (s : State) → Regs s (written_in number target k i v s)
-put_keeps None target k i v s = assumption
-put_keeps (Some Drive0) target k i v s = assumption
-put_keeps (Some Drive1) target k i v s = assumption
+put_keeps number target k i v s = grind arith
 
 byte_keeps : (target : Target) (k i : ℕ) (s : State) → Regs s (byte_written target k i s)
-byte_keeps target k i s =
-    let p = put_keeps target.drive target k i (if s.drq then 0 else s.byte) s in assumption
+byte_keeps target k i s = grind arith
 
 -- at any place but the end
 place_keeps : (t : Transfer) (k place : ℕ) (s : State) → (place ≡ 288 → ⊥) → Regs s (writing_at t k (Some place) s)
@@ -316,7 +257,7 @@ record Stored (s : State) (t : Transfer) (d : Image) (round : Round) : Type 0 wh
 
 -- a disc of the same kind has the sector
 same_sectors : (a b : Kind) (target : Target) → a ≡ b → has_sector b target.side target.head 0 ≡ true → has_sector a target.side target.head 0 ≡ true
-same_sectors a b target same is = ap (λ kind. has_sector kind target.side target.head 0) same ∙ is
+same_sectors a b target same is = grind arith
 
 -- single density is still selected
 still_single : (a b c : ℕ) → a ≡ b → b ≡ c → is_single_density c ≡ true → is_single_density a ≡ true
@@ -326,9 +267,7 @@ still_single a b c p q is = ap is_single_density (p ∙ q) ∙ is
 of_disc : (o : Option Image) (a b : Image) (target : Target) (k : ℕ) (bytes : List ℕ) → o ≡ Some a → o ≡ Some b →
     sector_of a target.side target.head k ≡ Some bytes →
     sector_of b target.side target.head k ≡ Some bytes
-of_disc o a b target k bytes is_a is_b has =
-    let same : a ≡ b = ap (λ (o : Option Image). unwrap_or o a) (sym is_a ∙ is_b) in
-    ap (λ (x : Image). sector_of x target.side target.head k) (sym same) ∙ has
+of_disc o a b target k bytes is_a is_b has = grind arith
 
 one_written : (back : IsReadBack) (others : OthersStay) (s : State) (t : Transfer) (d : Image) (round : Round) → IsWriting s t d → s.sector < 10 →
     GivesInTime round s →

@@ -37,36 +37,14 @@ pub record Accessed (data_register : Bool) (s x : State) : Type 0 where
 
 -- a read of the status leaves DRQ
 drq_read : (a b q : Bool) → (a ≡ true → b ≡ false) → (if a then q else if b then false else q) ≡ (if b then false else q)
-drq_read true true q h = absurd (true≢false (h refl))
-drq_read true false q h = refl
-drq_read false b q h = refl
+drq_read a b q h = grind arith
 
 read_leaves_it : (reg : ℕ) (s : State) → Accessed (reg == 3) s (read_leaves reg s)
-read_leaves_it reg s =
-    let other : (reg == 0) ≡ true → (reg == 3) ≡ false = λ h. elim (cases_eq reg 0) [
-      | inl zero ↦ ne_eqb reg 3 (λ e. omega arith)
-      | inr some ↦ absurd (true≢false (sym h ∙ ne_eqb reg 0 some))
-    ] in
-    subst (λ y. Accessed (reg == 3) s (count_leaves (is_asking s) y)) (sym (read_makes (reg == 0) (reg == 3) s)) (record {
-      command = refl;
-      angle = refl;
-      drive0 = refl;
-      drive1 = refl;
-      lost = refl;
-      drq = drq_read (reg == 0) (reg == 3) s.drq other;
-      byte = λ h. refl;
-    })
+read_leaves_it reg s = grind arith
 
 -- a law of the registers that can be written while a command goes on
 pub of_three : (P : ℕ → Type 0) → P 1 → P 2 → P 3 → (reg : ℕ) → 1 ≤ reg → reg ≤ 3 → P reg
-of_three P one two three reg low high = elim (cases_eq reg 1) [
-  | inl is ↦ subst P (sym is) one
-  | inr more ↦
-      elim (cases_eq reg 2) [
-        | inl is ↦ subst P (sym is) two
-        | inr most ↦ let is : 3 ≡ reg = omega arith in subst P is three
-      ]
-]
+of_three P one two three reg low high = grind arith
 
 write_leaves_it : (reg v : ℕ) (s : State) → 1 ≤ reg → reg ≤ 3 → Accessed (reg == 3) s (write_leaves reg v s)
 write_leaves_it reg v s =
@@ -77,9 +55,7 @@ write_leaves_it reg v s =
     reg
 
 latch_leaves_it : (v : ℕ) (s : State) → is_reset v ≡ false → Accessed false s (latch_leaves v s)
-latch_leaves_it v s off =
-    subst (λ b. Accessed false s (if b then stop_leaves (record s { latch = v }) else record s { latch = v })) (sym off)
-    (assumption)
+latch_leaves_it v s off = grind arith
 
 -- ---- Events.
 
@@ -110,10 +86,7 @@ steps_behind m (write reg v) = m
 steps_behind m (latch v) = m
 
 counts : (m : ℕ) (e : Event) (es : List Event) → steps_behind m e + count_steps es ≡ m + count_steps (e ∷ es)
-counts m microsecond es = omega arith
-counts m (read reg) es = refl
-counts m (write reg v) es = refl
-counts m (latch v) es = refl
+counts m e es = grind arith
 
 -- ---- Programs.
 
@@ -130,23 +103,14 @@ pub record Program : Type 1 where
   pub more : (s : State) (m : ℕ) (e : Event) (es : List Event) → outs s m (e ∷ es) ≡ out s m e ++ outs (happens e s) (steps_behind m e) es
 
 pub reads_let : (e : Event) → Reads e → LetsGo e
-reads_let microsecond may = tt
-reads_let (read reg) may = tt
-reads_let (write reg v) may = let most = may.1 in (may.0, omega arith)
-reads_let (latch v) may = may
+reads_let e may = grind arith
 
 -- to wait is to read no more than a reader may
 pub waits_read : (e : Event) → Waits e → Reads e
-waits_read microsecond may = tt
-waits_read (read reg) may = tt
-waits_read (write reg v) may = absurd may
-waits_read (latch v) may = absurd may
+waits_read e may = grind arith
 
 pub writes_let : (s : State) (e : Event) → Writes s e → LetsGo e
-writes_let s microsecond may = tt
-writes_let s (read reg) may = tt
-writes_let s (write reg v) may = (may.0, may.1)
-writes_let s (latch v) may = may
+writes_let s e may = grind arith
 
 -- one that takes the bytes of a sector
 abbrev pub reading : Program
@@ -191,10 +155,7 @@ writing = record {
 }
 
 pub more_places : (s : State) (m : ℕ) (e : Event) (es : List Event) → accesses m (e ∷ es) ≡ place_if (is_data e) m ++ accesses (steps_behind m e) es
-more_places s m microsecond es = refl
-more_places s m (read reg) es = refl
-more_places s m (write reg v) es = refl
-more_places s m (latch v) es = refl
+more_places s m e es = grind arith
 
 -- any, and in which places it accesses the data register
 abbrev pub letting_go : Program
@@ -275,8 +236,7 @@ pub any_now : (f : ℕ → Bool) (ps : List ℕ) (p : ℕ) → f p ≡ true → 
 any_now f ps p on = any_push f ps p ∙ ap (λ b. list_any f ps || b) on ∙ or_true (list_any f ps)
 
 by_contrary : (a b : Bool) → (b ≡ false → a ≡ false) → a ≡ true → b ≡ true
-by_contrary a true h is = refl
-by_contrary a false h is = absurd (true≢false (sym is ∙ h refl))
+by_contrary a b h is = grind arith
 
 -- what was lost stays so
 pub stays_lost : (s : State) → s.lost_data ≡ true → (step s).lost_data ≡ true
@@ -363,33 +323,7 @@ module _ (f : Stream) where
   passes : (s x : State) (m : ℕ) (ps : List ℕ) → ((m + 1) % 64 ≡ 0 → f.first ≤ (m + 1) / 64 → (m + 1) / 64 ≤ f.first + f.l → ⊥) →
       Next s x m → Fine s m ps → Fine x (m + 1) ps
   unfolding has_place
-  passes s x m ps none next is =
-      let now = next.none none in
-      record {
-        command = next.command;
-        angle = next.angle;
-        kept = now.1 ∙ is.kept;
-        drq = λ h. now.0 ∙ is.drq (omega arith) ∙ (elim (cases_eq ((m + 1) % 64) 0) [
-          | inl place ↦
-              let early : (m + 1) / 64 < f.first =
-              elim (cases_lt ((m + 1) / 64) f.first) [ inl low ↦ low | inr late ↦ absurd (none place late (omega arith)) ] in
-              let before : m / 64 < f.first = omega arith in
-              ap (λ b. b && not (has_place (m / 64) ps)) (lt-leb f.first (m / 64) before) ∙ sym
-              (ap (λ b. b && not (has_place ((m + 1) / 64) ps)) (lt-leb f.first ((m + 1) / 64) early))
-          | inr inner ↦
-              let same : m / 64 ≡ (m + 1) / 64 = omega arith in
-              ap (λ n. nat_le f.first n && not (has_place n ps)) same
-        ]);
-        served = λ i inside over. elim (cases_lt m (64 * (f.first + i + 1))) [
-          | inl new ↦ absurd (none (omega arith) (omega arith) (omega arith))
-          | inr old ↦ is.served i inside old
-        ];
-        ahead = λ p more. is.ahead p (omega arith);
-        last_taken = λ over had. now.0 ∙ is.last_taken (elim (cases_lt m (64 * (f.first + f.l))) [
-          | inl new ↦ absurd (none (omega arith) (omega arith) (omega arith))
-          | inr old ↦ old
-        ]) had;
-      }
+  passes s x m ps none next is = grind arith
 
   counted : (before : Bool) (s : State) (m : ℕ) (ps : List ℕ) → Fine s m ps → Fine (count_leaves before s) m ps
   unfolding has_place
@@ -398,10 +332,7 @@ module _ (f : Stream) where
   -- DRQ in the place before another
   drq_before : (s : State) (m : ℕ) (ps : List ℕ) (b : Bool) → m < 64 * (f.first + f.l + 1) → Fine s m ps →
       (f.first ≤ m / 64 → has_place (m / 64) ps ≡ b) → (m / 64 < f.first → b ≡ true) → s.drq ≡ not b
-  drq_before s m ps b inside is has early = is.drq inside ∙ (elim (cases_lt (m / 64) f.first) [
-    | inl before ↦ ap (λ x. x && not (has_place (m / 64) ps)) (lt-leb f.first (m / 64) before) ∙ sym (ap not (early before))
-    | inr late ↦ ap (λ x. x && not (has_place (m / 64) ps)) (le-leb f.first (m / 64) late) ∙ ap not (has late)
-  ])
+  drq_before s m ps b inside is has early = grind arith
 
   stepped_fine : (s : State) (m : ℕ) (ps : List ℕ) → GoesOn → 1 ≤ f.first → m < 64 * f.last →
       Fine s m ps → Either (step s) (m + 1) ps
@@ -492,15 +423,7 @@ module _ (f : Stream) where
   begins : (s : State) → 1 ≤ f.first → s.command ≡ f.command → s.angle ≡ Some f.base → s.lost_data ≡ false → s.drq ≡ false →
       Fine s 0 []
   unfolding has_place
-  begins s some command angle kept off = record {
-    command = λ h. command;
-    angle = angle ∙ ap (λ (n : ℕ). Some n) (let e : f.base ≡ f.base + 0 = omega arith in e);
-    kept = kept;
-    drq = λ h. off ∙ sym (ap (λ b. b && true) (lt-leb f.first 0 (omega arith)));
-    served = λ i inside over. absurd (omega arith);
-    ahead = λ p more. refl;
-    last_taken = λ over had. off;
-  }
+  begins s some command angle kept off = grind arith
 
   pub run : GoesOn → 1 ≤ f.first → (events : List Event) (s : State) → AllLetGo events → count_steps events ≤ 64 * f.last →
       s.command ≡ f.command → s.angle ≡ Some f.base → s.lost_data ≡ false → s.drq ≡ false → Either (history events s) (count_steps events) (accesses 0 events)
@@ -515,17 +438,7 @@ come f m = min (f.l + 1) (m / 64 - (f.first - 1))
 
 -- what an access takes: the byte that waits, where it is one of the data register
 taken_is : (e : Event) (s : State) → Reads e → taken_by s e ≡ (if is_data e && s.drq then s.byte ∷ [] else [])
-taken_is microsecond s may = refl
-taken_is (read reg) s may = elim (cases_eq reg 3) [
-  | inl three ↦
-      subst (λ r. (if (r == 3) && s.drq then answer_of r s ∷ [] else []) ≡ (if (r == 3) && s.drq then s.byte ∷ [] else [])) (sym three) refl
-  | inr other ↦
-      let off : (reg == 3) ≡ false = ne_eqb reg 3 other in
-      ap (λ b. if b && s.drq then answer_of reg s ∷ [] else []) off ∙ sym (ap (λ b. if b && s.drq then s.byte ∷ [] else []) off)
-]
-taken_is (write reg v) s may =
-    let most = may.1 in sym (ap (λ b. if b && s.drq then s.byte ∷ [] else []) (ne_eqb reg 3 (λ e. omega arith)))
-taken_is (latch v) s may = refl
+taken_is e s may = grind arith
 
 -- what is taken, and the byte that waits behind it
 took : (b : Bool) (s x : State) (got : List ℕ) → Accessed b s x → (got ++ (if b && s.drq then s.byte ∷ [] else [])) ++ waiting_byte x ≡ got ++ waiting_byte s
@@ -557,10 +470,7 @@ module _ (f : Stream) (bytes : List ℕ) (s0 : State) where
   waits_on : (s x : State) (m : ℕ) (got : List ℕ) →
       ((m + 1) % 64 ≡ 0 → f.first ≤ (m + 1) / 64 → (m + 1) / 64 ≤ f.first + f.l → ⊥) → come f (m + 1) ≡ come f m → Next f s x m → Taking s m got →
       x.lost_data ≡ false → got ++ waiting_byte x ≡ take (come f (m + 1)) bytes
-  waits_on s x m got none same next is kept =
-      let now = next.none none in
-      ap (λ d. got ++ (if d then x.byte ∷ [] else [])) now.0 ∙ ap (λ y. got ++ (if s.drq then y ∷ [] else [])) now.2
-      ∙ is.taken (sym now.1 ∙ kept) ∙ ap (λ n. take n bytes) (sym same)
+  waits_on s x m got none same next is kept = grind arith
 
   -- a byte waits_behind
   one_comes : (s x : State) (m : ℕ) (got : List ℕ) → IsGiven → (m + 1) % 64 ≡ 0 → f.first ≤ (m + 1) / 64 → (m + 1) / 64 ≤ f.first + f.l → Next f s x m →
@@ -621,11 +531,4 @@ module _ (f : Stream) (bytes : List ℕ) (s0 : State) where
 
   -- where no byte has come
   pub takes_first : 1 ≤ f.last → s0.command ≡ f.command → s0.angle ≡ Some f.base → s0.drq ≡ false → Taking s0 0 []
-  takes_first some command angle off = record {
-    going = λ h. command;
-    over = λ h. absurd (omega arith);
-    angle = angle ∙ ap (λ (n : ℕ). Some n) (let e : f.base ≡ f.base + 0 = omega arith in e);
-    drive0 = refl;
-    drive1 = refl;
-    taken = λ kept. let none : come f 0 ≡ 0 = omega arith in ap (λ b. if b then s0.byte ∷ [] else []) off ∙ ap (λ n. take n bytes) (sym none);
-  }
+  takes_first some command angle off = grind arith

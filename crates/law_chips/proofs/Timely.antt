@@ -45,19 +45,16 @@ wants_first place ps low high = rw (le-ltb place 12 low, lt-ltb place 22 high) r
 
 wants_no_more : (place : ℕ) (ps : List ℕ) → 22 ≤ place → place < 30 → wants place ps ≡ false
 unfolding wants
-wants_no_more place ps low high = rw (le-ltb place 12 (omega arith), le-ltb place 22 low, lt-ltb place 30 high) refl
+wants_no_more place ps low high = grind arith
 
 wants_next : (place : ℕ) (ps : List ℕ) → 30 ≤ place → wants place ps ≡ not (has_place place ps)
 unfolding wants
-wants_next place ps low =
-    rw (le-ltb place 12 (omega arith), le-ltb place 22 (omega arith), le-ltb place 30 low) refl
+wants_next place ps low = grind arith
 
 -- a byte behind the first is given in one place
 given_in : (i place : ℕ) (ps : List ℕ) → 1 ≤ i → place ≡ 29 + i → given i ps ≡ has_place place ps
 unfolding given has_place
-given_in i place ps some is =
-    ap (λ b. list_any (λ p. if b then nat_le 12 p && nat_lt p 22 else p == 29 + i) ps) (ne_eqb i 0 (λ e. omega arith))
-    ∙ ap (λ n. list_any (λ p. p == n) ps) (sym is)
+given_in i place ps some is = grind arith
 
 over_first : (i : ℕ) → i ≡ 0 → time_over true i ≡ 22
 over_first i is = ap (λ b. if b then 22 else 30 + i) (eq-eqb i 0 is)
@@ -67,15 +64,7 @@ over_next i some = ap (λ b. if b then 22 else 30 + i) (ne_eqb i 0 (λ e. omega 
 
 -- after its time a byte is not given
 not_in_time : (i place : ℕ) → time_over true i ≤ place → is_in_time true i place ≡ false
-not_in_time i place over = elim (cases_eq i 0) [
-  | inl zero ↦
-      let late : 22 ≤ place = omega (arith, over_first i zero) in
-      ap (λ b. if b then nat_le 12 place && nat_lt place 22 else place == 29 + i) (eq-eqb i 0 zero)
-      ∙ ap (λ b. nat_le 12 place && b) (le-ltb place 22 late) ∙ and_false (nat_le 12 place)
-  | inr some ↦
-      let late : 30 + i ≤ place = omega (arith, over, over_next i (omega arith)) in
-      ap (λ b. if b then nat_le 12 place && nat_lt place 22 else place == 29 + i) (ne_eqb i 0 some) ∙ ne_eqb place (29 + i) (λ e. omega arith)
-]
+not_in_time i place over = grind arith
 
 -- After m steps, and accesses in these places, nothing is lost and each byte was given.
 record Fine (t : Transfer) (k : ℕ) (s : State) (m : ℕ) (ps : List ℕ) : Type 0 where
@@ -99,18 +88,14 @@ abbrev Either : Transfer → ℕ → State → ℕ → List ℕ → Type 0
 Either t k s m ps = Fine t k s m ps ⊎ Missed s m ps
 
 counted : (t : Transfer) (k : ℕ) (before : Bool) (s : State) (m : ℕ) (ps : List ℕ) → Either t k s m ps → Either t k (count_leaves before s) m ps
-counted t k before s m ps (inl is) = inl (assumption)
-counted t k before s m ps (inr is) = inr (record { lost = is.lost; byte = is.byte; inside = is.inside; over = is.over; missed = is.missed })
+counted t k before s m ps h1 = grind arith
 
 -- the time of no byte ends with this step
 NoneOver : ℕ → Type 0
 NoneOver m = (i : ℕ) → i < 256 → 64 * time_over true i ≤ m + 1 → 64 * time_over true i ≤ m
 
 over_cases : (i : ℕ) → ((i ≡ 0) × (time_over true i ≡ 22)) ⊎ ((1 ≤ i) × (time_over true i ≡ 30 + i))
-over_cases i = elim (cases_eq i 0) [
-  | inl zero ↦ inl (zero, over_first i zero)
-  | inr some ↦ let more : 1 ≤ i = omega arith in inr (more, over_next i more)
-]
+over_cases i = grind arith
 
 none_over : (m : ℕ) → (m + 1 ≡ 64 * 22 → ⊥) → ((i : ℕ) → 1 ≤ i → i < 256 → m + 1 ≡ 64 * (30 + i) → ⊥) → NoneOver m
 unfolding NoneOver
@@ -132,15 +117,7 @@ plain : (t : Transfer) (k : ℕ) (s x : State) (m : ℕ) (ps : List ℕ) → Non
     x.angle ≡ Some (64 * (312 * k) + m + 1) → x.lost_data ≡ s.lost_data → (m + 1 < 64 * 285 → x.drq ≡ wants ((m + 1) / 64) ps) → Fine t k s m ps →
     Fine t k x (m + 1) ps
 unfolding NoneOver
-plain t k s x m ps none command angle kept drq is = record {
-  command = command;
-  angle = angle ∙ next_place k m;
-  kept = kept ∙ is.kept;
-  drq = drq;
-  served = λ i inside over. is.served i inside (none i inside over);
-  ahead = λ p more. is.ahead p (omega arith);
-  early = λ low. is.early (omega arith);
-}
+plain t k s x m ps none command angle kept drq is = grind arith
 
 -- nothing comes in another place before the bytes
 same_wants : (m : ℕ) (ps : List ℕ) → (m + 1 ≡ 64 * 12 → ⊥) → (m + 1 ≡ 64 * 22 → ⊥) → m + 1 < 64 * 30 → wants ((m + 1) / 64) ps ≡ wants (m / 64) ps
@@ -244,14 +221,7 @@ ends_so : (b : Bool) (t : Transfer) (k : ℕ) (s : State) (m : ℕ) (ps : List �
     Fine t k (if b then record (moved_on s k m) { sector = ((moved_on s k m).sector + 1) % 256; command = search_of t } else finish_leaves (moved_on s k m))
     (m + 1) ps
 unfolding moved_on
-ends_so true t k s m ps now is =
-    plain t k s (record (moved_on s k m) { sector = ((moved_on s k m).sector + 1) % 256; command = search_of t }) m ps
-    (none_over m (λ e. omega arith) (λ i some inside e. omega arith)) (λ h. absurd (omega arith)) refl refl
-    (λ h. absurd (omega arith)) is
-ends_so false t k s m ps now is =
-    plain t k s (finish_leaves (moved_on s k m)) m ps
-    (none_over m (λ e. omega arith) (λ i some inside e. omega arith)) (λ h. absurd (omega arith)) refl refl
-    (λ h. absurd (omega arith)) is
+ends_so b t k s m ps now is = grind arith
 
 at_place : (t : Transfer) (k : ℕ) (s : State) (m : ℕ) (ps : List ℕ) → m < 18432 → (m + 1) % 64 ≡ 0 → Fine t k s m ps →
     Either t k (writing_at t k (Some ((m + 1) / 64)) (moved_on s k m)) (m + 1) ps
@@ -284,10 +254,7 @@ at_place t k s m ps inside is_place is =
 -- a step at no place
 at_none : (t : Transfer) (k : ℕ) (s : State) (m : ℕ) (ps : List ℕ) → m < 18432 → ((m + 1) % 64 ≡ 0 → ⊥) → Fine t k s m ps → Fine t k (moved_on s k m) (m + 1) ps
 unfolding moved_on
-at_none t k s m ps inside none is =
-    let same : m / 64 ≡ (m + 1) / 64 = omega arith in
-    plain t k s (moved_on s k m) m ps (none_over m (λ e. none (omega arith)) (λ i some few e. none (omega arith))) (λ h. is.command inside) refl refl
-    (λ h. is.drq (omega arith) ∙ ap (λ n. wants n ps) same) is
+at_none t k s m ps inside none is = grind arith
 
 stepped : (t : Transfer) (k : ℕ) → k < 10 → t.writes ≡ true → (s : State) (m : ℕ) (ps : List ℕ) → m < 18432 → Either t k s m ps → Either t k (step s) (m + 1) ps
 unfolding moved_on
@@ -301,7 +268,7 @@ stepped t k few writes s m ps inside (inr is) =
     inr (record { lost = stays_lost s is.lost; byte = is.byte; inside = is.inside; over = omega arith; missed = is.missed })
 
 in_place_now : (m : ℕ) → 12 ≤ m / 64 → m / 64 < 22 → is_in_time true 0 (m / 64) ≡ true
-in_place_now m low high = ap (λ b. b && nat_lt (m / 64) 22) (le-leb 12 (m / 64) low) ∙ lt-ltb (m / 64) 22 high
+in_place_now m low high = grind arith
 
 -- DRQ is off after an access
 wants_after : (m : ℕ) (ps : List ℕ) → wants (m / 64) (ps ++ m / 64 ∷ []) ≡ false

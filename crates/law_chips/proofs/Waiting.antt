@@ -22,9 +22,7 @@ read_makes false true s = refl
 read_makes false false s = refl
 
 pub stays_off : (a b q : Bool) → q ≡ false → (if a then q else if b then false else q) ≡ false
-stays_off true b q off = off
-stays_off false true q off = refl
-stays_off false false q off = off
+stays_off a b q off = grind arith
 
 -- what m steps of waiting leave of a state
 pub record Waited (s0 : State) (c : Command) (s : State) (m : ℕ) : Type 0 where
@@ -53,27 +51,10 @@ CountsFrom s0 c last =
 
 pub one_step : (c : ℕ → Command) (last : ℕ) (s0 : State) → CountsFrom s0 c last → (s : State) (m : ℕ) → m < last → Waited s0 (c m) s m →
     Waited s0 (c (m + 1)) (step s) (m + 1)
-one_step c last s0 counts s m inside is =
-    let later : (next_angle s.angle + 1) % 200000 ≡ (next_angle s0.angle + (m + 1)) % 200000 = omega arith in
-    subst (λ y. Waited s0 (c (m + 1)) (count_leaves (is_asking s) y) (m + 1)) (sym (counts s m inside is)) (assumption)
+one_step c last s0 counts s m inside is = grind arith
 
 pub waited_read : (s0 : State) (c : Command) (reg : ℕ) (s : State) (m : ℕ) → Waited s0 c s m → Waited s0 c (read_leaves reg s) m
-waited_read s0 c reg s m is =
-    subst (λ y. Waited s0 c (count_leaves (is_asking s) y) m) (sym (read_makes (reg == 0) (reg == 3) s)) (record {
-      command = is.command;
-      track = is.track;
-      sector = is.sector;
-      byte = is.byte;
-      latch = is.latch;
-      drive0 = is.drive0;
-      drive1 = is.drive1;
-      last_inward = is.last_inward;
-      type_one = is.type_one;
-      not_found = is.not_found;
-      lost = is.lost;
-      drq = λ off. stays_off (reg == 0) (reg == 3) s.drq (is.drq off);
-      angle = is.angle;
-    })
+waited_read s0 c reg s m is = grind arith
 
 run : (c : ℕ → Command) (last : ℕ) (s0 : State) → CountsFrom s0 c last → (events : List Event) (s : State) (m : ℕ) → AllWait events →
     m + count_steps events ≤ last →
@@ -90,23 +71,7 @@ run c last s0 counts (latch v ∷ es) s m all most is = absurd all.0
 
 -- before the first step
 pub at_first : (c : Command) (s : State) → s.command ≡ c → Waited s c s 0
-at_first c s is =
-    let small = small_angle s.angle in
-    record {
-      command = is;
-      track = refl;
-      sector = refl;
-      byte = refl;
-      latch = refl;
-      drive0 = refl;
-      drive1 = refl;
-      last_inward = refl;
-      type_one = refl;
-      not_found = refl;
-      lost = refl;
-      drq = λ off. off;
-      angle = omega arith;
-    }
+at_first c s is = grind arith
 
 pub waits_from : (c : ℕ → Command) (last : ℕ) (s : State) → CountsFrom s c last → (events : List Event) → AllWait events → count_steps events ≤ last →
     s.command ≡ c 0 → Waited s (c (count_steps events)) (history events s) (count_steps events)

@@ -50,10 +50,7 @@ record Ended (t : Transfer) (s x : State) : Type 0 where
 
 ended_by : (b : Bool) (t : Transfer) (s : State) → t.multiple ≡ b →
     Ended t s (if b then record s { sector = (s.sector + 1) % 256; command = search_of t } else finish_leaves s)
-ended_by true t s is =
-    record { command = ap (λ b. if b then search_of t else Idle) (sym is); angle = refl; drive0 = refl; drive1 = refl; byte = refl; drq = refl }
-ended_by false t s is =
-    record { command = ap (λ b. if b then search_of t else Idle) (sym is); angle = refl; drive0 = refl; drive1 = refl; byte = refl; drq = refl }
+ended_by b t s is = grind arith
 
 -- what a byte that is written leaves of the state
 pub record Put (target : Target) (number : Option DriveNumber) (k i v : ℕ) (s x : State) : Type 0 where
@@ -63,37 +60,22 @@ pub record Put (target : Target) (number : Option DriveNumber) (k i v : ℕ) (s 
   pub disc : (now : Image) → disc_in number s ≡ Some now → disc_in number x ≡ Some (byte_put target.side target.head k i v now)
 
 pub put : (target : Target) (number : Option DriveNumber) (k i v : ℕ) (s : State) → Put target number k i v s (written_in number target k i v s)
-put target None k i v s = record { command = refl; angle = refl; byte = refl; disc = λ now (h : None ≡ Some now). cc }
-put target (Some Drive0) k i v s =
-    record { command = refl; angle = refl; byte = refl; disc = λ now h. ap (option_map (byte_put target.side target.head k i v)) h }
-put target (Some Drive1) k i v s =
-    record { command = refl; angle = refl; byte = refl; disc = λ now h. ap (option_map (byte_put target.side target.head k i v)) h }
+put target number k i v s = grind arith
 
 by_kind : (b : Bool) (d : Image) (bytes : List ℕ) → (if b then record d { bytes = bytes } else d).kind ≡ d.kind
 by_kind true d bytes = refl
 by_kind false d bytes = refl
 
 same_kind : (side track sector i v : ℕ) (d : Image) → (byte_put side track sector i v d).kind ≡ d.kind
-same_kind side track sector i v d =
-    by_kind (has_sector d.kind side track sector) d
-    (slice_set (with_zeros_to d.bytes (place d.kind side track sector 256)) (place d.kind side track sector i) v)
+same_kind side track sector i v d = grind arith
 
 -- DRQ behind a byte
 owed_behind : (i : ℕ) (drq : Bool) → drq ≡ false → i < 256 → i + 1 + owed (drq || not (i == 255)) ≡ min 256 (i + 2)
 unfolding owed
-owed_behind i drq off low = elim (cases_eq i 255) [
-  | inl last ↦ rw (off, eq-eqb i 255 last) (omega arith)
-  | inr other ↦ rw (off, ne_eqb i 255 other) (omega arith)
-]
+owed_behind i drq off low = grind arith
 
 last_of : (i : ℕ) (drq : Bool) → (drq || not (i == 255)) ≡ false → i ≡ 255
-last_of i drq off = elim (cases_eq i 255) [
-  | inl last ↦ last
-  | inr other ↦
-      let set : (i == 255) ≡ false = ne_eqb i 255 other in
-      let on : not (i == 255) ≡ true = ap not set in
-      absurd (true≢false (sym on ∙ (or_parts drq (not (i == 255)) off).1))
-]
+last_of i drq off = grind arith
 
 -- places of a sector differ
 places_differ : (kind : Kind) (side track k i j : ℕ) → place kind side track k j ≡ place kind side track k i → j ≡ i
@@ -108,7 +90,7 @@ pub before_bytes : (place : ℕ) → place < 30 → is_byte_place 30 place ≡ f
 before_bytes place early = rw (lt-leb 30 place early) refl
 
 pub behind_bytes : (place : ℕ) → 286 ≤ place → is_byte_place 30 place ≡ false
-behind_bytes place late = and_right (nat_le 30 place) (nat_lt place 286) (le-ltb place 286 late)
+behind_bytes place late = grind arith
 
 -- What is so of what a step at a place leaves, by which place it is.
 pub by_place : (P : State → Type 0) (t : Transfer) (k place : ℕ) (s : State) → (place ≡ 12 → P (record s { drq = true })) →
@@ -143,16 +125,10 @@ by_place P t k place s first late byte end none = elim (cases_eq place 12) [
 ]
 
 pub w_end : (t : Transfer) (k place : ℕ) (s : State) → place ≡ 288 → writing_at t k (Some place) s ≡ sector_ended t s
-w_end t k place s is =
-    rw (
-      ne_eqb place 12 (λ e. omega arith),
-      ne_eqb place 22 (λ e. omega arith),
-      behind_bytes place (omega arith),
-      eq-eqb place 288 is,
-    ) refl
+w_end t k place s is = grind arith
 
 pub writes_is : (t : Transfer) (k angle : ℕ) (s : State) → t.writes ≡ true → transfer_step t k angle s ≡ writing_at t k (places_into k angle) s
-writes_is t k angle s writes = ap (λ b. if b then writing_at t k (places_into k angle) s else reading_at t k (places_into k angle) s) writes
+writes_is t k angle s writes = grind arith
 
 module _ (d : Image) (t : Transfer) (k : ℕ) where
   -- where a byte of the sector is
@@ -175,19 +151,7 @@ module _ (d : Image) (t : Transfer) (k : ℕ) where
 
   counted_inside : (s : State) (m : ℕ) (bytes : List ℕ) (before : Bool) →
       Inside s m bytes → Inside (count_leaves before s) m bytes
-  counted_inside s m bytes before is = record {
-    going = is.going;
-    over = is.over;
-    angle = is.angle;
-    now = is.now;
-    disc = same_disc t.target.drive (count_leaves before s) s refl refl ∙ is.disc;
-    kind = is.kind;
-    count = is.count;
-    enough = is.enough;
-    stored = is.stored;
-    pending = is.pending;
-    others = is.others;
-  }
+  counted_inside s m bytes before is = grind arith
 
   -- A step that changes only this much: the command, DRQ and the angle.
   plain : (s x : State) (m : ℕ) (bytes : List ℕ) → Inside s m bytes →
@@ -195,47 +159,24 @@ module _ (d : Image) (t : Transfer) (k : ℕ) where
       x.drive0 ≡ s.drive0 → x.drive1 ≡ s.drive1 → x.byte ≡ s.byte → gone (m + 1) ≡ gone m → length bytes + owed x.drq ≡ asked (m + 1) →
       (x.drq ≡ false → gone m < asked (m + 1) → get_or bytes (gone m) 0 ≡ s.byte) →
       Inside x (m + 1) bytes
-  plain s x m bytes is going over angle drive0 drive1 byte same count pending = record {
-    going = going;
-    over = over;
-    angle = angle ∙ next_place k m;
-    now = is.now;
-    disc = same_disc t.target.drive x s drive0 drive1 ∙ is.disc;
-    kind = is.kind;
-    count = count;
-    enough = subst (λ n. n ≤ length bytes) (sym same) is.enough;
-    stored = λ i low. is.stored i (subst (λ n. i < n) same low);
-    pending = λ off more.
-        ap (λ n. get_or bytes n 0) same ∙ pending off (subst (λ n. n < asked (m + 1)) same more) ∙ sym byte;
-    others = is.others;
-  }
+  plain s x m bytes is going over angle drive0 drive1 byte same count pending = grind arith
 
   -- nothing comes
   passes : (s : State) (m : ℕ) (bytes : List ℕ) → m < 18432 → gone (m + 1) ≡ gone m → asked (m + 1) ≡ asked m →
       (m + 1 ≡ 18432 → ⊥) → Inside s m bytes → Inside (moved_on s k m) (m + 1) bytes
   unfolding moved_on
-  passes s m bytes inside same none early is =
-      plain s (moved_on s k m) m bytes is (λ h. is.going inside) (λ h. absurd (early (omega arith))) refl refl refl refl same (is.count ∙ sym none)
-      (λ off more. is.pending off (subst (λ n. gone m < n) none more))
+  passes s m bytes inside same none early is = grind arith
 
   -- DRQ becomes set for the first byte
   asks_first : (s : State) (m : ℕ) (bytes : List ℕ) → m + 1 ≡ 768 → Inside s m bytes →
       Inside (record (moved_on s k m) { drq = true }) (m + 1) bytes
   unfolding moved_on gone asked owed
-  asks_first s m bytes now is =
-      let none : length bytes ≡ 0 = omega arith in
-      plain s (record (moved_on s k m) { drq = true }) m bytes is (λ h. is.going (omega arith)) (λ h. absurd (omega arith)) refl refl refl refl
-      (omega arith) (omega arith) (λ off. absurd (true≢false off))
+  asks_first s m bytes now is = grind arith
 
   ends_so : (s : State) (m : ℕ) (bytes : List ℕ) → m + 1 ≡ 18432 →
       Inside s m bytes → Inside (sector_ended t (moved_on s k m)) (m + 1) bytes
   unfolding moved_on gone asked owed
-  ends_so s m bytes now is =
-      let end = ended_by t.multiple t (moved_on s k m) refl in
-      let same : asked (m + 1) ≡ asked m = omega arith in
-      plain s (sector_ended t (moved_on s k m)) m bytes is (λ h. absurd (omega arith)) (λ h. end.command) end.angle end.drive0 end.drive1 end.byte
-      (omega arith) (ap (λ b. length bytes + owed b) end.drq ∙ is.count ∙ sym same)
-      (λ off more. is.pending (sym end.drq ∙ off) (subst (λ n. gone m < n) same more))
+  ends_so s m bytes now is = grind arith
 
   -- ---- Accesses.
 
@@ -302,19 +243,7 @@ module _ (d : Image) (t : Transfer) (k : ℕ) where
 
   pub begins : (s : State) → IsAtSector s t k → disc_in t.target.drive s ≡ Some d → Inside s 0 []
   unfolding gone asked owed
-  begins s at here = record {
-    going = λ h. at.command;
-    over = λ h. absurd (omega arith);
-    angle = at.angle ∙ ap (λ (n : ℕ). Some n) (let e : 64 * (312 * k) ≡ 64 * (312 * k) + 0 = omega arith in e);
-    now = d;
-    disc = here;
-    kind = refl;
-    count = ap (λ b. 0 + owed b) at.drq;
-    enough = omega arith;
-    stored = λ i low. absurd (omega arith);
-    pending = λ off more. absurd (omega arith);
-    others = λ n apart. refl;
-  }
+  begins s at here = grind arith
 
   -- the sector as it is then
   pub whole : (s : State) (bytes : List ℕ) → has_sector d.kind t.target.side t.target.head k ≡ true →
@@ -340,10 +269,7 @@ module _ (d : Image) (t : Transfer) (k : ℕ) where
   -- DRQ is off at the end
   pub off_at_end : (s : State) (bytes : List ℕ) → Inside s 18432 bytes → s.drq ≡ false
   unfolding gone asked owed
-  off_at_end s bytes is =
-      false_from_ne_true s.drq (λ on.
-      let all : length bytes + 1 ≡ asked 18432 = ap (λ b. length bytes + owed b) (sym on) ∙ is.count in
-      omega arith)
+  off_at_end s bytes is = grind arith
 
 -- Byte i is written.
 byte_goes : (back : IsReadBack) (others : OthersStay) (d : Image) (t : Transfer) (k : ℕ) (s : State) (m i : ℕ) (bytes : List ℕ) →
