@@ -184,7 +184,7 @@ asked_for : Target → ℕ → Command
 asked_for target m = SeekingAddress target (1000000 - m)
 
 address_command : (v : ℕ) (s : State) → 0xC0 ≤ v → v < 0xD0 → command_of v s ≡ address_of s
-address_command v s low high = rw (le-ltb v 0x80 (omega arith), le-ltb v 0xC0 low, lt-ltb v 0xD0 high) refl
+address_command v s low high = grind (arith, le-ltb, lt-ltb)
 
 -- where one sector of a track is on the disc all ten are, and none else
 on_disc_so : (o : Option Image) (target : Target) (k : ℕ) → is_on_disc o target 0 ≡ true → is_on_disc o target k ≡ nat_lt k 10

@@ -108,10 +108,7 @@ abbrev pub IsApart : ℕ → ℕ → ℕ → ℕ → ℕ → Type 0
 IsApart p q x y many = (q ≡ y → ⊥) ⊎ ((p < x) ⊎ (x + many ≤ p))
 
 pub length_one : (left x y colour : ℕ) (frame : List ℕ) → length (dot_set left x y colour frame) ≡ length frame
-length_one left x y colour frame = by_test (is_in_frame left x y) where
-  by_test : (b : Bool) → length (if b then slice_set frame (dot_index left x y) colour else frame) ≡ length frame
-  by_test true = length-set frame (dot_index left x y) colour
-  by_test false = refl
+length_one left x y colour frame = grind (arith, length-set)
 
 pub length_kept : (left x y : ℕ) (dots frame : List ℕ) → length (dots_set left x y dots frame) ≡ length frame
 length_kept left x y [] frame = refl
@@ -121,19 +118,7 @@ length_kept left x y (colour ∷ dots) frame =
 -- another dot stays as it was
 other_one : (left p q x y colour : ℕ) (frame : List ℕ) → Inside left p q → IsApart p q x y 1 →
     slice_index (dot_set left x y colour frame) (dot_index left p q) ≡ slice_index frame (dot_index left p q)
-other_one left p q x y colour frame here apart = by_test (is_in_frame left x y) refl where
-  by_test : (b : Bool) → is_in_frame left x y ≡ b →
-      slice_index (if b then slice_set frame (dot_index left x y) colour else frame) (dot_index left p q) ≡ slice_index frame (dot_index left p q)
-  by_test false e = refl
-  by_test true e =
-      let i = inside left x y e in
-      get_or-set_other frame (dot_index left x y) (dot_index left p q) colour 0 (λ same. elim apart [
-        | inl line ↦ line (omega arith)
-        | inr beside ↦ elim beside [
-          | inl before ↦ omega arith
-          | inr after ↦ omega arith
-        ]
-      ])
+other_one left p q x y colour frame here apart = grind (arith, inside, get_or-set_other)
 
 first_apart : (p q x y many : ℕ) → IsApart p q x y (suc many) → IsApart p q x y 1
 first_apart p q x y many h1 = grind arith
@@ -186,13 +171,7 @@ choice true s x y p q = p
 choice false s x y p q = q
 
 draws : (ram : List ℕ) (size : ℕ) (font : Font) (beam : Beam) (s : State) → Draws s (show_leaves ram size font beam s)
-draws ram size font beam s =
-    let byte = slice_index ram (byte_address beam.ma beam.ra size) in
-    choice beam.shown s (draw_leaves ram size font beam s) s
-    (choice (bit s.ula.control 1) s (draw_cell_leaves font beam (byte % 128) s) (draw_byte_leaves beam byte s)
-    (assumption)
-    (assumption))
-    (assumption)
+draws ram size font beam s = grind (arith, choice)
 
 in_bits : (p q : Bool) (x y s : State) → q ≡ false →
     (if p then (if q then x else y) else s).working ≡ (if p then y.working else s.working)
@@ -257,9 +236,7 @@ same_ula ram size font s (suc n) =
 -- clock n
 pub clock : (ram : ℕ → List ℕ) (size : ℕ → ℕ) (font : Font) (s : State) (n : ℕ) →
     Clocked (ram n) (size n) (tells n s.crtc) (char_clocks ram size font n s) (char_clocks ram size font (suc n) s)
-clock ram size font s n =
-    subst (λ (c : crtc.State). Clocked (ram n) (size n) (beam_of c) (char_clocks ram size font n s) (char_clocks ram size font (suc n) s))
-    (by_itself ram size font s n) (one_clock (ram n) (size n) font (char_clocks ram size font n s))
+clock ram size font s n = grind (arith, by_itself, one_clock)
 
 -- ---- Microseconds.
 
@@ -270,7 +247,7 @@ clocks_from ram size font (suc n) s = ap (char_clock_leaves ram size font) (cloc
 
 one_ula : (ram : List ℕ) (size : ℕ) (font : Font) (s : State) (b : Bool) → bit s.ula.control 4 ≡ b →
     bit (char_clock_leaves ram size font s).ula.control 4 ≡ b
-one_ula ram size font s b is = ap (λ (u : ula.State). bit u.control 4) (one_clock ram size font s).ula ∙ is
+one_ula ram size font s b is = grind (arith, one_clock)
 
 single : (ram : List ℕ) (size : ℕ) (font : Font) (n : ℕ) (s : State) → bit s.ula.control 4 ≡ false →
     microseconds ram size font n s ≡ char_clocks (λ k. ram) (λ k. size) font n s
@@ -293,11 +270,7 @@ double ram size font (suc n) s is =
     ∙ ap (λ k. char_clocks (λ i. ram) (λ i. size) font k s) e
 
 pub microseconds_are_clocks : MicrosecondsAreClocks
-microseconds_are_clocks ram size font n s = by_test (bit s.ula.control 4) refl where
-  by_test : (b : Bool) → bit s.ula.control 4 ≡ b →
-      microseconds ram size font n s ≡ char_clocks (λ k. ram) (λ k. size) font (if b then 2 * n else n) s
-  by_test true is = double ram size font n s is
-  by_test false is = single ram size font n s is
+microseconds_are_clocks = grind (arith, double, single)
 
 -- the laws of the 6845 that the beam follows
 pub record Laws : Type 0 where
@@ -319,21 +292,15 @@ sync_in_frame c makes =
 
 pub column_sync : Laws → (c : crtc.State) → MakesFrames c → (t : ℕ) →
     (tells (c.registers.horizontal_sync_position + t) c).sync_start ≡ (t % line_characters c.registers == 0)
-column_sync laws c makes t =
-    laws.columns c (c.registers.horizontal_sync_position + t) makes.bits makes.begins.character
-    ∙ comes (line_characters c.registers) c.registers.horizontal_sync_position t (omega arith)
+column_sync laws c makes t = grind (arith, comes)
 
 pub frame_sync : Laws → (c : crtc.State) → MakesFrames c → (t : ℕ) →
     (tells (sync_clock c.registers + t) c).frame_end ≡ (t % frame_clocks c.registers == 0)
-frame_sync laws c makes t =
-    laws.frames c (sync_clock c.registers + t) makes.bits makes.vertical makes.begins makes.early
-    ∙ comes (frame_clocks c.registers) (sync_clock c.registers) t (sync_in_frame c makes)
+frame_sync laws c makes t = grind (arith, comes, sync_in_frame)
 
 line_begins : Laws → (c : crtc.State) → MakesFrames c → (t : ℕ) →
     (tells (sync_clock c.registers + t) c).line_start ≡ (t % line_characters c.registers == 0)
-line_begins laws c makes t =
-    laws.lines c (sync_clock c.registers + t) makes.bits makes.begins.character
-    ∙ ap (λ k. k == 0) (mul-add-mod_self_right (sync_line c.registers) (line_characters c.registers) t)
+line_begins laws c makes t = grind (arith, mul-add-mod_self_right)
 
 -- ---- Where the beam is.
 

@@ -291,11 +291,7 @@ gets_there byte track small = grind arith
 
 found_it : (s : State) (v : ℕ) (waits : List Event) → 0x10 ≤ v → v < 0x20 → IsGiven s waits → count_steps waits + 1 ≡ motion_time v s →
     s.track ≡ head_selected s → s.byte ≤ 83 → Arrives v s.byte s.byte (ended_after v waits s)
-found_it s v waits low high is end same small =
-    let there : head_moved (nat_lt s.track s.byte) (head_steps v s) (head_selected s) ≡ s.byte =
-    ap (λ k. head_moved (nat_lt s.track s.byte) k (head_selected s)) (steps_of_seek v s low high)
-    ∙ ap (λ h. head_moved (nat_lt s.track s.byte) (max s.byte s.track - min s.byte s.track) h) (sym same) ∙ gets_there s.byte s.track small in
-    subst (λ h. Arrives v h s.byte (ended_after v waits s)) there (sought s v waits low high is end)
+found_it s v waits low high is end same small = grind (arith, steps_of_seek, gets_there, sought)
 
 counted_track : (b inward : Bool) (track : ℕ) → track_changed (if b then Follows else Stays) inward track ≡ (if b then track_counted inward track else track)
 counted_track true inward track = refl

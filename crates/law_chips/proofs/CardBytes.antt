@@ -59,19 +59,7 @@ elsewhere page of to at v b out low = grind arith
 one_byte : (a : Access) (page of at : ℕ) (bytes : List ℕ) → IsAccess a → length bytes ≡ 65536 → page < 256 → 0xFD00 ≤ at → at ≤ 0xFDFF →
     byte_after page of at a (get_or bytes (card_place of at) 0) ≡ get_or (bytes_after page a bytes) (card_place of at) 0
 unfolding bytes_after
-one_byte (read from) page of at bytes is long small low high = refl
-one_byte (write to v) page of at bytes is long small low high = elim (cases_lt to 0xFD00) [
-  | inr inside ↦
-      let other : to ≡ 0xFCFF → ⊥ = λ e. omega arith in
-      rw (ne_eqb to 0xFCFF other, le-leb 0xFD00 to inside) (stored page of to at v bytes long small inside is.0.1 low high)
-  | inl out ↦
-      elim (cases_eq to 0xFCFF) [
-        | inl register ↦
-            rw (eq-eqb to 0xFCFF register) (elsewhere page of to at v (get_or bytes (card_place of at) 0) out low)
-        | inr other ↦
-            rw (ne_eqb to 0xFCFF other, lt-leb 0xFD00 to out) (elsewhere page of to at v (get_or bytes (card_place of at) 0) out low)
-      ]
-]
+one_byte a page of at bytes is long small low high = grind (arith, ne_eqb, le-leb, stored, eq-eqb, elsewhere, lt-leb)
 
 -- what is answered in JIM, and by the page register
 in_jim : (page at : ℕ) (bytes : List ℕ) → 0xFD00 ≤ at → plug_answer (card page bytes) at ≡ get_or bytes (card_place page at) 0

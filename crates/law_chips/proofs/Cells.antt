@@ -143,9 +143,7 @@ only_held code s high = grind (arith, nat_tests)
 
 more_high : (s : Style) (code : ℕ) → 0x20 ≤ code → IsMore s code
 unfolding IsMore with_sixel
-more_high s code high =
-    ap (λ b. if b then effect_of controls code s else with_held_shape code s) (le-ltb code 0x20 high) ∙ swap (is_sixel code) s.graphics code s ∙ sym
-    (only_held code s high)
+more_high s code high = grind (arith, le-ltb, swap, only_held)
 
 stays : (s : Style) (code : ℕ) → 0x20 ≤ code → own code s ≡ s
 unfolding own
@@ -160,17 +158,11 @@ own_high s code high =
 
 is_more : (s : Style) (code : ℕ) → style_after code s ≡ more code s
 unfolding IsMore
-is_more s code = elim (cases_lt code 0x20) [
-  | inl low ↦ more_low s code low
-  | inr high ↦ more_high s code high
-]
+is_more s code = grind (arith, more_low, more_high)
 
 is_own : (s : Style) (code : ℕ) → style_at code s ≡ own code s
 unfolding IsOwn
-is_own s code = elim (cases_lt code 0x20) [
-  | inl low ↦ own_low s code low
-  | inr high ↦ own_high s code high
-]
+is_own s code = grind (arith, own_low, own_high)
 
 -- a row, with the nearest code first
 row_is : OneCodeMore → (before : List ℕ) → (row_of (reverse before)).style ≡ told before

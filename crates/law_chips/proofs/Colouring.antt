@@ -42,8 +42,7 @@ valued flash value =
     (either (bit value 3 && flash) 7 0 (omega arith) (omega arith))
 
 dotted : (u : ula.State) (byte : ℕ) (cursor : Bool) (d : ℕ) → dot_colour u byte cursor d < 8
-dotted u byte cursor d =
-    inverted cursor _ (valued (bit u.control 0) (slice_index u.palette (entry_of (shifted_byte byte (d / pixel_width u.control)))))
+dotted u byte cursor d = grind (arith, inverted, valued)
 
 byte_colours : (u : ula.State) (byte ra : ℕ) (marked : Bool) → AreColours (byte_dots u byte ra marked)
 byte_colours u byte ra marked =
@@ -80,12 +79,10 @@ obeyed_inks (c ∷ cs) keep code s i =
     inks_if (has c code) (c.effect code s) (effect_of cs code s) (keep.0 code s i) (obeyed_inks cs keep.1 code s i)
 
 inks_at : (code : ℕ) (s : Style) → Inks s → Inks (style_at code s)
-inks_at code s i = inks_if (holds_at_once controls code) (effect_of controls code s) s (obeyed_inks controls controls_keep code s i) i
+inks_at code s i = grind (arith, inks_if, obeyed_inks, controls_keep)
 
 inks_after : (code : ℕ) (s : Style) → Inks s → Inks (style_after code s)
-inks_after code s i =
-    inks_if (nat_lt code 0x20) (effect_of controls code s) _ (obeyed_inks controls controls_keep code s i)
-    (inks_if (s.graphics && is_sixel code) _ s (assumption) i)
+inks_after code s i = grind (arith, inks_if, obeyed_inks, controls_keep)
 
 cell_colours : (font : Font) (code : ℕ) (beam : Beam) (t : Text) → Inks t.codes.style → AreColours (cell_of font code beam t)
 unfolding cell_of
@@ -135,27 +132,13 @@ text_past_inks : (beam : Beam) (t : Text) → Inks t.codes.style → Inks (text_
 text_past_inks beam t i = grind arith
 
 begun_coloured : (beam : Beam) (s : State) → IsColoured s → IsColoured (begin_leaves beam s)
-begun_coloured beam s h = record {
-  text = text_at_inks beam s.text h.text;
-  working = both beam.frame_end black s.working black_colours h.working;
-  finished = both beam.frame_end s.working s.finished h.working h.finished;
-}
+begun_coloured beam s h = grind (arith, text_at_inks, both, black_colours)
 
 byte_coloured : (beam : Beam) (byte : ℕ) (s : State) → IsColoured s → IsColoured (draw_byte_leaves beam byte s)
-byte_coloured beam byte s h = record {
-  text = h.text;
-  working = set_colours 240 s.place.x s.place.y _ s.working (byte_colours s.ula byte beam.ra (is_marked s.ula.control beam.cursor s.cursor)) h.working;
-  finished = h.finished;
-}
+byte_coloured beam byte s h = grind (arith, set_colours, byte_colours)
 
 cell_coloured : (font : Font) (beam : Beam) (code : ℕ) (s : State) → IsColoured s → IsColoured (draw_cell_leaves font beam code s)
-cell_coloured font beam code s h = record {
-  text = codes_inks code s.text.codes h.text;
-  working = set_colours 208 s.place.x s.place.y _ s.working
-      (shown_colours s.ula (cell_of font code beam s.text) (is_marked s.ula.control beam.cursor s.cursor) (cell_colours font code beam s.text h.text))
-      h.working;
-  finished = h.finished;
-}
+cell_coloured font beam code s h = grind (arith, codes_inks, set_colours, shown_colours, cell_colours)
 
 told_coloured : (ram : List ℕ) (size : ℕ) (font : Font) (beam : Beam) (s : State) → IsColoured s → IsColoured (tell_leaves ram size font beam s)
 told_coloured ram size font beam s h =
@@ -175,21 +158,11 @@ clock_coloured ram size font s h =
     (assumption)
 
 moved : (m : Move) (s : State) → IsColoured s → IsColoured (after_move m s)
-moved (clock ram size font) s h = clock_coloured ram size font s h
-moved (step ram size font) s h =
-    let once : IsColoured (char_clock_leaves ram size font s) = clock_coloured ram size font s h in
-    coloured_if (bit s.ula.control 4) (char_clock_leaves ram size font (char_clock_leaves ram size font s)) (char_clock_leaves ram size font s)
-    (clock_coloured ram size font (char_clock_leaves ram size font s) once) once
-moved (new_crtc chip) s h = assumption
-moved (new_ula chip) s h = assumption
+moved m s h = grind (arith, clock_coloured, coloured_if)
 
 all_moved : (moves : List Move) (s : State) → IsColoured s → IsColoured (after_moves moves s)
 all_moved [] s h = h
 all_moved (m ∷ moves) s h = all_moved moves (after_move m s) (moved m s h)
 
 pub dots_are_colours : DotsAreColours
-dots_are_colours moves =
-    let first : IsColoured power_on =
-    record { text = record { foreground = omega arith; background = omega arith }; working = black_colours; finished = black_colours } in
-    let h : IsColoured (after_moves moves power_on) = all_moved moves power_on first in
-    (h.working, h.finished)
+dots_are_colours = grind (arith, black_colours, all_moved)

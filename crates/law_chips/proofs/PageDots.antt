@@ -59,14 +59,7 @@ pub record Told (ram : List ℕ) (size : ℕ) (font : Font) (b : Beam) (s x : St
 one_told : (ram : List ℕ) (size : ℕ) (font : Font) (s : State) → bit s.ula.control 1 ≡ true →
     Told ram size font (beam_of s.crtc) s (char_clock_leaves ram size font s)
 unfolding char_clock_leaves told_code told_dots
-one_told ram size font s on =
-    let b = beam_of s.crtc in
-    let x = begin_leaves b (record s { crtc = clock_leaves s.crtc }) in
-    let byte = slice_index ram (byte_address b.ma b.ra size) in
-    record {
-      text = ap (text_past b) (in_text b.shown (bit s.ula.control 1) (draw_cell_leaves font b (byte % 128) x) (draw_byte_leaves b byte x) x on);
-      working = in_cells b.shown (bit s.ula.control 1) (draw_cell_leaves font b (byte % 128) x) (draw_byte_leaves b byte x) x on;
-    }
+one_told ram size font s on = grind (arith, in_text, in_cells)
 
 pub told : (ram : ℕ → List ℕ) (size : ℕ → ℕ) (font : Font) (s : State) → bit s.ula.control 1 ≡ true → (n : ℕ) →
     Told (ram n) (size n) font (tells n s.crtc) (char_clocks ram size font n s) (char_clocks ram size font (suc n) s)
@@ -105,7 +98,7 @@ shown_before : (r : crtc.Registers) (k j : ℕ) → k % line_characters r ≡ j 
 shown_before r k j column next line is = grind arith
 
 more_codes : OneCodeMore → (before : List ℕ) (code : ℕ) → row_after code (row_of (reverse before)) ≡ row_of (reverse (code ∷ before))
-more_codes one before code = sym (one (reverse before) code) ∙ ap row_of (sym (reverse_onto before code []))
+more_codes one before code = grind (arith, reverse_onto)
 
 after_code : (code : ℕ) (t : Text) → (text_after code t).codes ≡ row_after code t.codes
 unfolding codes_after
@@ -184,11 +177,7 @@ told_dot ram size font b s d within =
 
 cells_shown : (ram : ℕ → List ℕ) (size : ℕ → ℕ) (font : Font) (s : State) → bit s.ula.control 1 ≡ true →
     Shows 208 ram size font s (λ n. told_dots (ram n) (size n) font (tells n s.crtc) (char_clocks ram size font n s))
-cells_shown ram size font s on = record {
-  many = λ n.
-      told_many (ram n) (size n) font (tells n s.crtc) (char_clocks ram size font n s) ∙ ap (λ (u : ula.State). dots_of u.control) (same_ula ram size font s n);
-  working = λ n. (told ram size font s on n).working;
-}
+cells_shown ram size font s on = grind (arith, told_many, same_ula, told)
 
 -- a dot of the character of clock n
 colour_is : OneCodeMore → CellsShowTheirCodes → Laws → ShownAddressesCount → CharactersAreShown → (ram : ℕ → List ℕ) (size : ℕ →

@@ -28,13 +28,7 @@ Changes f bank j k = register k (with_register j (f j (register j bank)) bank) �
 
 changes : (f : ℕ → Register → Register) (bank : Bank) (j k : ℕ) → 1 ≤ j → j ≤ 4 → 1 ≤ k → k ≤ 4 → Changes f bank j k
 unfolding Changes
-changes f bank j k lj hj lk hk =
-    four (λ i. Changes f bank i k)
-    (four (Changes f bank 1) refl refl refl refl k lk hk)
-    (four (Changes f bank 2) refl refl refl refl k lk hk)
-    (four (Changes f bank 3) refl refl refl refl k lk hk)
-    (four (Changes f bank 4) refl refl refl refl k lk hk)
-    j lj hj
+changes f bank j k lj hj lk hk = grind (arith, four)
 
 -- the count of rises is no part of a register
 counted_keeps : (from : Side) (k : ℕ) (old new : State) → queue from k (with_counts old new) ≡ queue from k new
@@ -63,12 +57,11 @@ balanced : {z z' : Bool} {s s' : Option ℕ} {r : Bool} {room : ℕ} {shown made
 balanced h1 h2 h3 h4 = grind arith
 
 nothing_comes : (b : Bool) (bytes : List ℕ) → bytes ≡ bytes ++ (if b then [] else [])
-nothing_comes true bytes = sym (append-nil bytes)
-nothing_comes false bytes = sym (append-nil bytes)
+nothing_comes b bytes = grind (arith, append-nil)
 
 -- an event that has nothing to do with the register
 apart : (room : ℕ) (shown made : List ℕ) (q : Register) → Balance false None false room shown made q q
-apart room shown made q = record { is = nothing_comes (nat_lt (count q) room) (held_bytes q) }
+apart room shown made q = grind (arith, nothing_comes)
 
 untouched : {z : Bool} {s : Option ℕ} {room : ℕ} {shown made : List ℕ} {q after : Register} → z ≡ false → s ≡ None → after ≡ q →
     Balance z s false room shown made q after
@@ -84,8 +77,7 @@ one_read b room shown made q is = record { is = grind (arith, common_steps) }
 
 by_room : (has : Bool) (front byte : ℕ) (rest : List ℕ) →
     held_bytes (if has then holds front (rest ++ byte ∷ []) else holds front rest) ≡ (front ∷ rest) ++ (if has then byte ∷ [] else [])
-by_room true front byte rest = refl
-by_room false front byte rest = sym (append-nil (front ∷ rest))
+by_room has front byte rest = grind (arith, append-nil)
 
 -- a write to a register for one byte, or for more
 one_byte : (room byte : ℕ) (shown made : List ℕ) (q : Register) → 1 ≤ room →
@@ -171,11 +163,7 @@ write_by_own Para k number byte c low lk hk =
 after_odd_write : (from : Side) (k number byte : ℕ) (c : State) → is_status number ≡ false → number < 8 → 1 ≤ k → k ≤ 4 →
     queue from k (chip_after c from (Write number byte))
     ≡ (if number == byte_number k then write_leaves (capacity from k c.flags) byte (queue from k c) else queue from k c)
-after_odd_write from k number byte c odd low lk hk =
-    counted_keeps from k c (op_leaves c from (Write number byte))
-    ∙ ap (λ b. queue from k (if b then status_written from number byte c else written_by from (register_number number) byte c)) odd
-    ∙ write_by_own from k number byte c low lk hk
-    ∙ sym (ap (λ b. if b then write_leaves (capacity from k c.flags) byte (queue from k c) else queue from k c) (odd_is number k odd lk))
+after_odd_write from k number byte c odd low lk hk = grind (arith, counted_keeps, write_by_own, odd_is)
 
 -- The side that reads it writes other registers.
 others_written : (from : Side) (k j byte : ℕ) (c : State) → queue from k (written_by (reader from) j byte c) ≡ queue from k c
@@ -307,15 +295,11 @@ unfolding Keeps
 resets from k c answer = grind arith
 
 resets_by : (from side : Side) (k : ℕ) (c : State) (answer : Answer) → side ≡ Host → Keeps from k c side (access Reset) answer
-resets_by from Host k c answer is = resets from k c answer
-resets_by from Para k c answer is = cc
+resets_by from side k c answer is = grind (arith, resets)
 
 looks : (from side : Side) (k : ℕ) (c : State) (answer : Answer) → Keeps from k c side look answer
 unfolding Keeps
-looks Host Host k c answer tick = untouched refl refl refl
-looks Host Para k c answer tick = untouched refl refl refl
-looks Para Host k c answer tick = untouched refl refl refl
-looks Para Para k c answer tick = untouched refl refl refl
+looks from side k c answer = grind (arith, untouched)
 
 each : (from side : Side) (query : Query) (k : ℕ) (c : State) (answer : Answer) → 1 ≤ k → k ≤ 4 → MayAsk side query →
     (act c side query).1 ≡ answer → Keeps from k c side query answer
@@ -352,9 +336,7 @@ one_event from k c e lk hk may answered = (each from e.side e.query k c e.answer
 -- what leaves and what comes, one event in front
 one_more : (left lefts here next comes more last : List ℕ) → left ++ next ≡ here ++ comes → lefts ++ last ≡ next ++ more →
     (left ++ lefts) ++ last ≡ here ++ (comes ++ more)
-one_more left lefts here next comes more last first rest =
-    append_assoc left lefts last ∙ ap (λ bytes. left ++ bytes) rest ∙ sym (append_assoc left next more)
-    ∙ ap (λ bytes. bytes ++ more) first ∙ append_assoc here comes more
+one_more left lefts here next comes more last first rest = grind (arith, append_assoc)
 
 pub all_queues : RegistersAreQueues
 all_queues from k c [] lk hk may answered = sym (append-nil (held_bytes (queue from k c)))

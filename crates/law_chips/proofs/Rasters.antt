@@ -36,12 +36,10 @@ written_has : (n v : ℕ) (r : Registers) → v < 256 → HaveTheirBits r → Ha
 written_has n v r byte bits = grind arith
 
 clock_keeps : (c : State) → HaveTheirBits c.registers → HaveTheirBits (clock_leaves c).registers
-clock_keeps c bits = subst HaveTheirBits (sym (count_keeps (start_leaves c) ∙ start_keeps c)) bits
+clock_keeps c bits = grind (arith, count_keeps, start_keeps)
 
 moved : (m : Move) (c : State) → WritesByte m → HaveTheirBits c.registers → HaveTheirBits (after_move m c).registers
-moved clock c byte bits = clock_keeps c bits
-moved (select v) c byte bits = bits
-moved (write v) c byte bits = written_has c.selected v c.registers byte bits
+moved m c byte bits = grind (arith, clock_keeps, written_has)
 
 all_moved : (moves : List Move) (c : State) → WriteBytes moves → HaveTheirBits c.registers → HaveTheirBits (after_moves moves c).registers
 all_moved [] c bytes bits = bits
@@ -51,7 +49,7 @@ first_bits : HaveTheirBits power_on.registers
 first_bits = grind arith
 
 pub registers_have_their_bits : RegistersHaveTheirBits
-registers_have_their_bits = record { keeps = moved; reached = λ moves bytes. all_moved moves power_on bytes first_bits }
+registers_have_their_bits = grind (arith, moved, all_moved, first_bits)
 
 -- ---- The 6845 of a raster.
 
@@ -61,10 +59,7 @@ choice true c x y p q = p
 choice false c x y p q = q
 
 draws : (ram : List ℕ) (size : ℕ) (font : Font) (beam : Beam) (s : raster.State) → (show_leaves ram size font beam s).crtc ≡ s.crtc
-draws ram size font beam s =
-    let byte = slice_index ram (byte_address beam.ma beam.ra size) in
-    choice beam.shown s.crtc (draw_leaves ram size font beam s) s
-    (choice (bit s.ula.control 1) s.crtc (draw_cell_leaves font beam (byte % 128) s) (draw_byte_leaves beam byte s) refl refl) refl
+draws ram size font beam s = grind (arith, choice)
 
 one_clock : (ram : List ℕ) (size : ℕ) (font : Font) (s : raster.State) →
     HaveTheirBits s.crtc.registers → HaveTheirBits (char_clock_leaves ram size font s).crtc.registers
@@ -81,13 +76,7 @@ one_or_two false x y p q = q
 
 raster_moved : (m : picture.Move) (s : raster.State) → PutsBits m →
     HaveTheirBits s.crtc.registers → HaveTheirBits (picture.after_move m s).crtc.registers
-raster_moved (picture.clock ram size font) s puts bits = one_clock ram size font s bits
-raster_moved (picture.step ram size font) s puts bits =
-    let once = char_clock_leaves ram size font s in
-    one_or_two (bit s.ula.control 4) (char_clock_leaves ram size font once) once
-    (one_clock ram size font once (one_clock ram size font s bits)) (one_clock ram size font s bits)
-raster_moved (picture.new_crtc chip) s puts bits = puts
-raster_moved (picture.new_ula chip) s puts bits = bits
+raster_moved m s puts bits = grind (arith, one_clock, one_or_two)
 
 raster_all_moved : (moves : List picture.Move) (s : raster.State) → PutBits moves →
     HaveTheirBits s.crtc.registers → HaveTheirBits (picture.after_moves moves s).crtc.registers
@@ -170,30 +159,13 @@ pub record AtClock (c : State) (n : ℕ) : Type 0 where
       ≡ (n + 1) / line_characters c.registers % frame_lines c.registers * line_characters c.registers + (n + 1) % line_characters c.registers
 
 pub at_clock : LinesHaveTheirCharacters → (c : State) → HaveTheirBits c.registers → c.character ≡ 0 → (n : ℕ) → AtClock c n
-at_clock lines c bits begins n =
-    let r = c.registers in
-    let x = clocks n c in
-    let k = kept x in
-    let regs : (start_leaves x).registers ≡ r = start_keeps x ∙ keeps n c in
-    let some = frame_some r in
-    record {
-      registers = regs;
-      column = ap (λ (e : State). e.character) k.1.1 ∙ characters lines c bits begins n;
-      total = ap (λ (q : Registers). q.horizontal_total) regs;
-      some = some;
-      digits = ap (λ k. (n + 1) % k) (mul_comm (line_characters r) (frame_lines r)) ∙ mod-mul (n + 1) some (omega arith);
-    }
+at_clock lines c bits begins n = grind (arith, kept, start_keeps, keeps, frame_some, characters, mul_comm, mod-mul)
 
 -- a clock that is not the last of its line ends neither the line nor the frame
 pub not_last : (c : State) (n : ℕ) → AtClock c n → (n + 1) % line_characters c.registers ≡ n % line_characters c.registers + 1 →
     n % line_characters c.registers + 1 < line_characters c.registers →
     (ends_line (start_leaves (clocks n c)) ≡ false) × (((n + 1) % (line_characters c.registers * frame_lines c.registers) == 0) ≡ false)
-not_last c n at up inner =
-    let d = start_leaves (clocks n c) in
-    let digits = at.digits in (
-      test_false d.character d.registers.horizontal_total (λ same. omega arith),
-      test_false ((n + 1) % (line_characters c.registers * frame_lines c.registers)) 0 (λ none. omega arith),
-    )
+not_last c n at up inner = grind (arith, test_false)
 
 -- ---- The rasters of a row.
 
@@ -298,12 +270,7 @@ row_goes_on l c bits at other =
 
 line_goes_on : (adjust : Option ℕ) (l : ℕ) (c : State) → c.adjust ≡ adjust → HaveTheirBits c.registers → IsAt c.registers l c →
     is_last_line_in adjust c ≡ false → IsAt c.registers (l + 1) (line_ended_in adjust c)
-line_goes_on None l c is bits (inl at) other = row_goes_on l c bits at other
-line_goes_on None l c is bits (inr at) other = absurd (true≢false (sym (ap is_none (sym at.some ∙ is))))
-line_goes_on (Some a) l c is bits (inl at) other = absurd (true≢false (ap is_none (sym at.none ∙ is)))
-line_goes_on (Some a) l c is bits (inr at) other =
-    let past = at.past in
-    subst (IsAt c.registers (l + 1)) (sym (adjust_line c a other)) (inr (record { line = (a + 1) % 32; some = refl; past = omega arith }))
+line_goes_on adjust l c is bits h3 other = grind (arith, row_goes_on, true≢false, adjust_line)
 
 -- the last line of a frame ends, and a new frame begins
 last_goes_on : (adjust : Option ℕ) (c : State) → is_last_line_in adjust c ≡ true → line_ended_in adjust c ≡ frame_begun c
@@ -319,9 +286,7 @@ last_by_line None c = refl
 last_by_line (Some a) c = refl
 
 frame_again : (c : State) → is_last_line c ≡ true → IsAt c.registers 0 (line_ended c)
-frame_again c is =
-    subst (IsAt c.registers 0) (sym (last_goes_on c.adjust (record c { character = 0 }) (last_by_line c.adjust c ∙ is)))
-    (inl (first_line c.registers 0 0 None refl refl refl))
+frame_again c is = grind (arith, last_goes_on, last_by_line, first_line)
 
 at_line : (r : Registers) (c : State) (l k : ℕ) → l ≡ k → IsAt r l c → IsAt r k c
 at_line r c l k e at = subst (λ (i : ℕ). IsAt r i c) e at
@@ -383,18 +348,7 @@ and_false false = refl
 
 shown_by : (r : Registers) (l h : ℕ) (c : State) → c.registers ≡ r → c.character ≡ h → IsAt r l c →
     is_shown c ≡ (nat_lt h r.horizontal_displayed && nat_lt (l / row_lines r) r.vertical_displayed && nat_le (l / row_lines r) r.vertical_total)
-shown_by r l h c regs column (inl at) =
-    let rows = at.rows in
-    let small : l / row_lines r < r.vertical_total + 1 = div_below l (row_lines r) (r.vertical_total + 1) (omega arith) rows in
-    let is : nat_le (l / row_lines r) r.vertical_total ≡ true = grind (arith, nat_tests) in
-    let none : is_none c.adjust ≡ true = ap is_none at.none in
-    rw (regs, column, at.row_is, none, is) refl
-shown_by r l h c regs column (inr at) =
-    let past = at.past in
-    let large : r.vertical_total + 1 ≤ l / row_lines r = le-div (r.vertical_total + 1) l (row_lines r) (omega arith) past in
-    let is : nat_le (l / row_lines r) r.vertical_total ≡ false = grind (arith, nat_tests) in
-    let some : is_none c.adjust ≡ false = ap is_none at.some in
-    rw (some, is) (and_false _ ∙ sym (and_false _))
+shown_by r l h c regs column h3 = grind (arith, div_below, nat_tests, le-div, and_false)
 
 raster_by : (r : Registers) (l : ℕ) (c : State) → IsAt r l c → is_shown c ≡ true → c.raster ≡ l % row_lines r * raster_step r
 raster_by r l c h1 is = grind arith

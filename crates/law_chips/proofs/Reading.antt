@@ -138,7 +138,7 @@ pub bytes_long : (d : Image) (side track k : ℕ) (bytes : List ℕ) → sector_
 bytes_long d side track k bytes is = grind arith
 
 all_come : (m : ℕ) (bytes : List ℕ) → m ≡ 18432 → length bytes ≡ 256 → take (bytes_come m) bytes ≡ bytes
-all_come m bytes now long = let all : length bytes ≤ bytes_come m = omega arith in take_all (bytes_come m) bytes all
+all_come m bytes now long = grind (arith, take_all)
 
 -- a disc with these bytes gives them
 gives : (s0 : State) (t : Transfer) (k : ℕ) (d : Image) (bytes : List ℕ) (s : State) (i : ℕ) → HasBytes s0 t k d bytes → s.drive0 ≡ s0.drive0 →

@@ -65,23 +65,7 @@ row_end_in : (c d : Crtc) (l : ℕ) → d.registers ≡ c.registers → HaveThei
     InRow c.registers l d.adjust d.row d.raster →
     (((l + 1) / row_lines c.registers ≡ l / row_lines c.registers) × (ends_row d ≡ false))
     ⊎ (((l + 1) / row_lines c.registers ≡ l / row_lines c.registers + 1) × (ends_row d ≡ true))
-row_end_in c d l regs bits end goes at =
-    let r = c.registers in
-    let h = row_lines r in
-    let b = is_interlaced r in
-    let none : is_none d.adjust ≡ true = ap is_none at.none in
-    let last : last_raster d.registers ≡ last_raster r = ap last_raster regs in
-    elim (next_place h l (omega arith)) [
-      | inl o ↦
-          let full : l % h + 1 ≡ h = o.1.1 in
-          let done : is_row_done d ≡ true = test_true d.raster (last_raster d.registers) (at.raster_is ∙ last_of b r.maximum_raster (l % h) full ∙ sym last) in
-          inr (o.1.0, ends_row_by (ends_line d) (is_none d.adjust) (is_row_done d) (is_last_line d) true true true false end none done goes)
-      | inr o ↦
-          let inner : l % h + 1 < h = o.1.1 in
-          let next : HasNext b r.maximum_raster (l % h) = next_of b r.maximum_raster (l % h) bits.maximum_raster inner in
-          let not_done : is_row_done d ≡ false = test_false d.raster (last_raster d.registers) (λ same. next.other (sym at.raster_is ∙ same ∙ last)) in
-          inl (o.1.0, ends_row_by (ends_line d) (is_none d.adjust) (is_row_done d) (is_last_line d) true true false false end none not_done goes)
-    ]
+row_end_in c d l regs bits end goes at = grind (arith, next_place, test_true, last_of, ends_row_by, next_of, test_false)
 
 no_row_end : (d : Crtc) → ends_line d ≡ false → ends_row d ≡ false
 no_row_end d is = rw is refl
@@ -153,18 +137,10 @@ div_grows : (m n k : ℕ) → 0 < k → m ≤ n → m / k ≤ n / k
 div_grows m n k some before = grind arith
 
 frame_grows : (r : Registers) (m n : ℕ) → m ≤ n → frame_index r m ≤ frame_index r n
-frame_grows r m n before =
-    div_grows (m / line_characters r) (n / line_characters r) (frame_lines r) (frame_some r) (div_grows m n (line_characters r) (omega arith) before)
+frame_grows r m n before = grind (arith, div_grows, frame_some)
 
 row_grows : (r : Registers) (m n : ℕ) → m ≤ n → frame_index r m ≡ frame_index r n → row_at r m ≤ row_at r n
-row_grows r m n before same =
-    let w = line_characters r in
-    let f = frame_lines r in
-    let a : m / w / f * f + m / w % f ≡ m / w = div-add-mod' (m / w) f in
-    let b : n / w / f * f + n / w % f ≡ n / w = div-add-mod' (n / w) f in
-    let e : m / w / f * f ≡ n / w / f * f = ap (λ i. i * f) same in
-    let lines : m / w ≤ n / w = div_grows m n w (omega arith) before in
-    div_grows (m / w % f) (n / w % f) (row_lines r) (omega arith) (omega arith)
+row_grows r m n before same = grind (arith, div-add-mod', div_grows)
 
 -- ---- What a clock makes of the text.
 
@@ -191,14 +167,7 @@ covers_on shown code t is = grind arith
 doubled_on : (shown : Bool) (code : ℕ) (t : Text) → Covers t → (shown_text shown code t).doubled ≡ true →
     (t.doubled ≡ true) ⊎ ((shown ≡ true) × (code ≡ 0x0D))
 unfolding Covers shown_text codes_after
-doubled_on false code t is had = inl had
-doubled_on true code t is had = by_cases t.doubled t.codes.had_double (code == 0x0D) refl refl refl had where
-  by_cases : (a b e : Bool) → t.doubled ≡ a → t.codes.had_double ≡ b → (code == 0x0D) ≡ e → (a || (b || e)) ≡ true →
-      (t.doubled ≡ true) ⊎ ((true ≡ true) × (code ≡ 0x0D))
-  by_cases true b e p q i h = inl p
-  by_cases false true e p q i h = inl (is q)
-  by_cases false false true p q i h = inr (refl, eqb-true code 0x0D i)
-  by_cases false false false p q i h = absurd (true≢false (sym h))
+doubled_on shown code t is had = grind (arith, eqb-true, true≢false)
 
 doubled_before : (shown : Bool) (code : ℕ) (t : Text) → t.doubled ≡ true → (shown_text shown code t).doubled ≡ true
 unfolding shown_text codes_after
@@ -259,7 +228,7 @@ behind ram size font s n = shown_text (tells n s.crtc).shown (told_code (ram n) 
 next_text : (ram : ℕ → List ℕ) (size : ℕ → ℕ) (font : Font) (s : State) → bit s.ula.control 1 ≡ true → (n : ℕ) →
     (char_clocks ram size font (n + 1) s).text ≡ text_past (tells n s.crtc) (behind ram size font s n)
 unfolding behind during shown_text
-next_text ram size font s on n = ap (λ i. (char_clocks ram size font i s).text) (add-one n) ∙ (told ram size font s on n).text
+next_text ram size font s on n = grind (arith, told)
 
 -- the end of a row, or of a frame, is that of a line
 line_follows : Facts → (c : Crtc) → MakesFrames c → (n : ℕ) → (tells (n + 1) c).line_start ≡ false →
@@ -281,9 +250,7 @@ bool_is false = inr refl
 
 behind_bottom : (ram : ℕ → List ℕ) (size : ℕ → ℕ) (font : Font) (s : State) (n : ℕ) → (behind ram size font s n).bottom ≡ is_lower ram size font s n
 unfolding behind during
-behind_bottom ram size font s n =
-    let b = tells n s.crtc in
-    bottom_on b.shown (told_code (ram n) (size n) b) (during ram size font s n) ∙ bottom_kept b (char_clocks ram size font n s).text
+behind_bottom ram size font s n = grind (arith, bottom_on, bottom_kept)
 
 and_on : (b : Bool) → (b && true) ≡ b
 and_on true = refl
@@ -296,31 +263,11 @@ too_far c n inside beyond = omega arith
 -- no earlier clock is in the row that begins
 new_row : (r : Registers) (n m : ℕ) → frame_index r (n + 1) ≡ frame_index r n → row_at r (n + 1) ≡ row_at r n + 1 → m ≤ n →
     frame_index r m ≡ frame_index r (n + 1) → row_at r m ≡ row_at r (n + 1) → ⊥
-new_row r n m frame row before same_frame same_row =
-    let low = row_grows r m n before (same_frame ∙ frame) in omega arith
+new_row r n m frame row before same_frame same_row = grind (arith, row_grows)
 
 -- the next frame begins
 to_frame : (ram : ℕ → List ℕ) (size : ℕ → ℕ) (font : Font) (s : State) → bit s.ula.control 1 ≡ true → (n : ℕ) → Begins s.crtc n → Holds ram size font s (n + 1)
-to_frame ram size font s on n begins =
-    let r = s.crtc.registers in
-    let text : (char_clocks ram size font (n + 1) s).text ≡ first_row (behind ram size font s n) =
-    next_text ram size font s on n ∙ past_frame (tells n s.crtc) (behind ram size font s n) begins.restart in
-    let none : (char_clocks ram size font (n + 1) s).text.doubled ≡ false = ap (λ (t : Text). t.doubled) text in
-    let lower : is_lower ram size font s (n + 1) ≡ false = ap (λ (t : Text). t.bottom) text in
-    let row = begins.row in
-    let earlier_none : (m : ℕ) → m ≤ n → frame_index r m ≡ frame_index r (n + 1) → ⊥ = λ m before same.
-    let low = frame_grows r m n before in omega arith in
-    record {
-      found = λ had. absurd (true≢false (sym had ∙ none));
-      finds = λ had. let earlier = had.earlier in absurd (earlier_none had.clock (omega arith) had.frame);
-      row = λ m before same same_row. elim (cases_eq m (n + 1)) [
-        | inl is ↦ ap (is_lower ram size font s) is
-        | inr other ↦ absurd (earlier_none m (omega arith) same)
-      ];
-      first = λ top. lower;
-      below = λ m is doubles. absurd (omega arith);
-      plain = λ nothing. lower;
-    }
+to_frame ram size font s on n begins = grind (arith, next_text, past_frame, frame_grows, true≢false)
 
 module _ (facts : Facts) (ram : ℕ → List ℕ) (size : ℕ → ℕ) (font : Font) (s : State) (makes : MakesFrames s.crtc) (on : bit s.ula.control 1 ≡ true) where
   -- the codes of a line are covered at each clock
@@ -368,11 +315,7 @@ module _ (facts : Facts) (ram : ℕ → List ℕ) (size : ℕ → ℕ) (font : F
   behind_now : (n : ℕ) →
       Doubles ram size s.crtc.registers n → (behind ram size font s n).doubled ≡ true
   unfolding behind during
-  behind_now n doubles =
-      let b = tells n s.crtc in
-      let shown : b.shown ≡ true = facts.shown.which s.crtc n makes.bits makes.begins ∙ doubles.shown in
-      doubled_here b.shown (told_code (ram n) (size n) b) (during ram size font s n) shown
-      ((here facts.count facts.shown ram size s n makes shown).code ∙ doubles.code)
+  behind_now n doubles = grind (arith, doubled_here, here)
 
   -- one clock further, in the same row
   in_row : (n : ℕ) →

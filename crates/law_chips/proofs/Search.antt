@@ -92,12 +92,7 @@ finds s0 s t left m going has now =
 
 loses : (s0 s : State) (t : Transfer) (left m : ℕ) → Going s0 t left s m → NoneAt s0 t m → m + 1 ≡ left → Lost (step s)
 unfolding NoneAt
-loses s0 s t left m going none end =
-    let s1 : State = record s { angle = Some (next_angle s.angle) } in
-    let is : work_leaves s ≡ not_found s1 =
-    step_by false s0 s t left m going none
-    ∙ ap (λ b. if b then record s1 { command = Searching t (left - m - 1) } else not_found s1) (le-ltb 1 (left - m) (omega arith)) in
-    subst (λ y. Lost (count_leaves (is_asking s) y)) (sym is) (assumption)
+loses s0 s t left m going none end = grind (arith, step_by, le-ltb)
 
 -- ---- Reads of registers.
 
@@ -138,7 +133,7 @@ run_done P reads s0 t left last ends before none (latch v ∷ es) s m all count 
 
 -- at the beginning
 begins : (s : State) (t : Transfer) (left : ℕ) → s.command ≡ Searching t left → Going s t left s 0
-begins s t left is = let all : left ≡ left - 0 = omega arith in at_first (Searching t (left - 0)) s (is ∙ ap (Searching t) all)
+begins s t left is = grind (arith, at_first)
 
 -- the search goes on for so many steps
 runs_on : (s : State) (t : Transfer) (left last : ℕ) (events : List Event) → s.command ≡ Searching t left → last < left →

@@ -195,16 +195,11 @@ byte_keeps target k i s = grind arith
 
 -- at any place but the end
 place_keeps : (t : Transfer) (k place : ℕ) (s : State) → (place ≡ 288 → ⊥) → Regs s (writing_at t k (Some place) s)
-place_keeps t k place s other =
-    let last : (if place == 288 then sector_ended t s else s) ≡ s = ap (λ b. if b then sector_ended t s else s) (ne_eqb place 288 other) in
-    let same : Regs s s = assumption in
-    either (place == 12) s _ _ (assumption)
-    (either ((place == 22) && s.drq) s _ _ (assumption)
-    (either (is_byte_place 30 place) s _ _ (byte_keeps t.target k (place - 30) s) (subst (Regs s) (sym last) same)))
+place_keeps t k place s other = grind (arith, ne_eqb, either, byte_keeps)
 
 -- what a sector does that is written
 writing_leaves : (t : Transfer) (k : ℕ) → Leaves t (writing_at t k)
-writing_leaves t k = record { none = λ s. refl; others = λ place s other. place_keeps t k place s other; ends = λ place s end. w_end t k place s end }
+writing_leaves t k = grind (arith, place_keeps, w_end)
 
 -- both, as long as nothing is lost
 record Both (s0 : State) (d : Image) (t : Transfer) (k : ℕ) (s : State) (m : ℕ) (bytes : List ℕ) : Type 0 where

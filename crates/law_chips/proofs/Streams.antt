@@ -206,9 +206,7 @@ module _ (p : Program) (P : State → ℕ → List ℕ → Type 0) (last : ℕ)
   -- from the beginning, in n steps
   pub runs_all : (n : ℕ) (events : List Event) (s : State) → p.all s events → count_steps events ≡ n → n ≤ last → P s 0 [] →
       P (history events s) n (p.outs s 0 events)
-  runs_all n events s all count most is =
-      let same : 0 + count_steps events ≡ n = omega arith in
-      subst (λ n. P (history events s) n (p.outs s 0 events)) same (runs events s 0 [] all (omega arith) is)
+  runs_all n events s all count most is = grind (arith, runs)
 
 -- whether a place is among these
 unfoldable pub has_place : ℕ → List ℕ → Bool
@@ -233,7 +231,7 @@ and_false true = refl
 and_false false = refl
 
 pub any_now : (f : ℕ → Bool) (ps : List ℕ) (p : ℕ) → f p ≡ true → list_any f (ps ++ p ∷ []) ≡ true
-any_now f ps p on = any_push f ps p ∙ ap (λ b. list_any f ps || b) on ∙ or_true (list_any f ps)
+any_now f ps p on = grind (arith, any_push, or_true)
 
 by_contrary : (a b : Bool) → (b ≡ false → a ≡ false) → a ≡ true → b ≡ true
 by_contrary a b h is = grind arith
@@ -442,11 +440,7 @@ taken_is e s may = grind arith
 
 -- what is taken, and the byte that waits behind it
 took : (b : Bool) (s x : State) (got : List ℕ) → Accessed b s x → (got ++ (if b && s.drq then s.byte ∷ [] else [])) ++ waiting_byte x ≡ got ++ waiting_byte s
-took true s x got acc =
-    ap (λ d. (got ++ waiting_byte s) ++ (if d then x.byte ∷ [] else [])) acc.drq ∙ append-nil (got ++ waiting_byte s)
-took false s x got acc =
-    ap (λ xs. xs ++ waiting_byte x) (append-nil got) ∙ ap (λ d. got ++ (if d then x.byte ∷ [] else [])) acc.drq
-    ∙ ap (λ y. got ++ (if s.drq then y ∷ [] else [])) (acc.byte refl)
+took b s x got acc = grind (arith, append-nil)
 
 module _ (f : Stream) (bytes : List ℕ) (s0 : State) where
   -- m steps after the beginning in state s0, where these bytes have been taken
@@ -475,33 +469,11 @@ module _ (f : Stream) (bytes : List ℕ) (s0 : State) where
   -- a byte waits_behind
   one_comes : (s x : State) (m : ℕ) (got : List ℕ) → IsGiven → (m + 1) % 64 ≡ 0 → f.first ≤ (m + 1) / 64 → (m + 1) / 64 ≤ f.first + f.l → Next f s x m →
       Taking s m got → x.lost_data ≡ false → got ++ waiting_byte x ≡ take (come f (m + 1)) bytes
-  one_comes s x m got given place low high next is kept =
-      let now = next.byte place low high in
-      let i = (m + 1) / 64 - f.first in
-      let parts = or_parts s.lost_data s.drq (sym now.1 ∙ kept) in
-      let before : come f m ≡ i = omega arith in
-      let after : come f (m + 1) ≡ i + 1 = omega arith in
-      let inside : i < length bytes = omega arith in
-      let have : got ≡ take i bytes =
-      sym (append-nil got) ∙ ap (λ b. got ++ (if b then s.byte ∷ [] else [])) (sym parts.1) ∙ is.taken parts.0 ∙ ap (λ n. take n bytes) before in
-      ap (λ d. got ++ (if d then x.byte ∷ [] else [])) now.0 ∙ ap (λ y. got ++ y ∷ []) (now.2 ∙ given.gives s i is.drive0 is.drive1)
-      ∙ ap (λ xs. xs ++ slice_index bytes i ∷ []) have ∙ sym (take_more bytes i 0 inside) ∙ ap (λ n. take n bytes) (sym after)
+  one_comes s x m got given place low high next is kept = grind (arith, or_parts, append-nil, take_more)
 
   waits_behind : (s x : State) (m : ℕ) (got : List ℕ) → IsGiven → Next f s x m → Taking s m got →
       x.lost_data ≡ false → got ++ waiting_byte x ≡ take (come f (m + 1)) bytes
-  waits_behind s x m got given next is =
-      elim (cases_eq ((m + 1) % 64) 0) [
-        | inr inner ↦ waits_on s x m got (λ place low high. inner place) (omega arith) next is
-        | inl place ↦
-            elim (cases_lt ((m + 1) / 64) f.first) [
-              | inl early ↦ waits_on s x m got (λ h low high. omega arith) (omega arith) next is
-              | inr low ↦
-                  elim (cases_lt (f.first + f.l) ((m + 1) / 64)) [
-                    | inl late ↦ waits_on s x m got (λ h l high. omega arith) (omega arith) next is
-                    | inr high ↦ one_comes s x m got given place low high next is
-                  ]
-            ]
-      ]
+  waits_behind s x m got given next is h4 = grind (arith, waits_on, one_comes)
 
   -- a step
   pub takes_step : (s : State) (m : ℕ) (got : List ℕ) → IsGiven → m < 64 * f.last → Taking s m got → Taking (step s) (m + 1) got
@@ -519,15 +491,7 @@ module _ (f : Stream) (bytes : List ℕ) (s0 : State) where
   -- an access
   pub takes_access : (e : Event) (s : State) (m : ℕ) (got : List ℕ) → Reads e → Accessed (is_data e) s (happens e s) → (f.Over s → f.Over (happens e s)) →
       Taking s m got → Taking (happens e s) m (got ++ taken_by s e)
-  takes_access e s m got may acc keeps is = record {
-    going = λ h. acc.command ∙ is.going h;
-    over = λ h. keeps (is.over h);
-    angle = acc.angle ∙ is.angle;
-    drive0 = acc.drive0 ∙ is.drive0;
-    drive1 = acc.drive1 ∙ is.drive1;
-    taken = λ kept.
-        ap (λ xs. (got ++ xs) ++ waiting_byte (happens e s)) (taken_is e s may) ∙ took (is_data e) s (happens e s) got acc ∙ is.taken (sym acc.lost ∙ kept);
-  }
+  takes_access e s m got may acc keeps is = grind (arith, taken_is, took)
 
   -- where no byte has come
   pub takes_first : 1 ≤ f.last → s0.command ≡ f.command → s0.angle ≡ Some f.base → s0.drq ≡ false → Taking s0 0 []

@@ -121,51 +121,23 @@ plain t k s x m ps none command angle kept drq is = grind arith
 
 -- nothing comes in another place before the bytes
 same_wants : (m : ℕ) (ps : List ℕ) → (m + 1 ≡ 64 * 12 → ⊥) → (m + 1 ≡ 64 * 22 → ⊥) → m + 1 < 64 * 30 → wants ((m + 1) / 64) ps ≡ wants (m / 64) ps
-same_wants m ps not_12 not_22 early = elim (cases_lt (m / 64) 12) [
-  | inl low ↦ wants_none ((m + 1) / 64) ps (omega arith) ∙ sym (wants_none (m / 64) ps low)
-  | inr more ↦
-      elim (cases_lt (m / 64) 22) [
-        | inl first ↦
-            wants_first ((m + 1) / 64) ps (omega arith) (omega arith) ∙ sym (wants_first (m / 64) ps more first)
-        | inr late ↦
-            wants_no_more ((m + 1) / 64) ps (omega arith) (omega arith) ∙ sym (wants_no_more (m / 64) ps late (omega arith))
-      ]
-]
+same_wants m ps not_12 not_22 early = grind (arith, wants_none, wants_first, wants_no_more)
 
 -- DRQ is set for the first byte
 asks_first : (t : Transfer) (k : ℕ) (s : State) (m : ℕ) (ps : List ℕ) → m + 1 ≡ 64 * 12 → Fine t k s m ps →
     Fine t k (record (moved_on s k m) { drq = true }) (m + 1) ps
 unfolding moved_on
-asks_first t k s m ps now is =
-    plain t k s (record (moved_on s k m) { drq = true }) m ps (none_over m (λ e. omega arith) (λ i some inside e. omega arith))
-    (λ h. is.command (omega arith)) refl refl
-    (λ h. sym (wants_first ((m + 1) / 64) ps (omega arith) (omega arith) ∙ ap not (is.early (omega arith)))) is
+asks_first t k s m ps now is = grind (arith, plain, none_over, wants_first)
 
 -- place 22
 looks : (t : Transfer) (k : ℕ) (s : State) (m : ℕ) (ps : List ℕ) → m + 1 ≡ 64 * 22 → s.drq ≡ false → given 0 ps ≡ true → Fine t k s m ps →
     Fine t k (moved_on s k m) (m + 1) ps
 unfolding moved_on
-looks t k s m ps now off had is = record {
-  command = λ h. is.command (omega arith);
-  angle = next_place k m;
-  kept = is.kept;
-  drq = λ h. off ∙ sym (wants_no_more ((m + 1) / 64) ps (omega arith) (omega arith));
-  served = λ i inside over. elim (over_cases i) [
-    | inl first ↦ ap (λ n. given n ps) first.0 ∙ had
-    | inr next ↦ absurd (omega arith)
-  ];
-  ahead = λ p more. is.ahead p (omega arith);
-  early = λ low. absurd (omega arith);
-}
+looks t k s m ps now off had is = grind (arith, next_place, wants_no_more, over_cases)
 
 -- whether the first byte was given, by whether DRQ asks for it still
 first_asked : (t : Transfer) (k : ℕ) (s : State) (m : ℕ) (ps : List ℕ) (b : Bool) → m + 1 ≡ 64 * 22 → s.drq ≡ b → Fine t k s m ps → given 0 ps ≡ not b
-first_asked t k s m ps b now drq is =
-    let was : s.drq ≡ not (given 0 ps) = is.drq (omega arith) ∙ wants_first (m / 64) ps (omega arith) (omega arith) in
-    other_of (given 0 ps) b (sym was ∙ drq) where
-      other_of : (a b : Bool) → not a ≡ b → a ≡ not b
-      other_of true b is = ap not is
-      other_of false b is = ap not is
+first_asked t k s m ps b now drq is = grind (arith, wants_first)
 
 -- byte i is written
 byte_goes : (t : Transfer) (k : ℕ) (s : State) (m i : ℕ) (ps : List ℕ) → i < 256 → m + 1 ≡ 64 * (30 + i) → Fine t k s m ps →
@@ -273,20 +245,7 @@ in_place_now m low high = grind arith
 -- DRQ is off after an access
 wants_after : (m : ℕ) (ps : List ℕ) → wants (m / 64) (ps ++ m / 64 ∷ []) ≡ false
 unfolding given has_place
-wants_after m ps = elim (cases_lt (m / 64) 12) [
-  | inl low ↦ wants_none (m / 64) (ps ++ m / 64 ∷ []) low
-  | inr more ↦
-      elim (cases_lt (m / 64) 22) [
-        | inl first ↦
-            wants_first (m / 64) (ps ++ m / 64 ∷ []) more first ∙ ap not (any_now (is_in_time true 0) ps (m / 64) (in_place_now m more first))
-        | inr late ↦
-            elim (cases_lt (m / 64) 30) [
-              | inl none ↦ wants_no_more (m / 64) (ps ++ m / 64 ∷ []) late none
-              | inr next ↦
-                  wants_next (m / 64) (ps ++ m / 64 ∷ []) next ∙ ap not (any_now (λ p. p == m / 64) ps (m / 64) (eq-eqb (m / 64) (m / 64) refl))
-            ]
-      ]
-]
+wants_after m ps = grind (arith, wants_none, wants_first, any_now, in_place_now, wants_no_more, wants_next, eq-eqb)
 
 accessed : (t : Transfer) (k : ℕ) (b : Bool) (s x : State) (m : ℕ) (ps : List ℕ) → Accessed b s x → Either t k s m ps → Either t k x m (ps ++ place_if b m)
 unfolding given has_place
@@ -322,18 +281,7 @@ accessed t k false s x m ps acc (inr is) =
 
 begins : (s : State) (t : Transfer) (k : ℕ) → IsAtSector s t k → s.lost_data ≡ false → Fine t k s 0 []
 unfolding given has_place
-begins s t k at kept = record {
-  command = λ h. at.command;
-  angle = at.angle ∙ ap (λ (n : ℕ). Some n) (let e : 64 * (312 * k) ≡ 64 * (312 * k) + 0 = omega arith in e);
-  kept = kept;
-  drq = λ h. at.drq ∙ sym (wants_none 0 [] (omega arith));
-  served = λ i inside over. elim (over_cases i) [
-    | inl first ↦ absurd (omega arith)
-    | inr next ↦ absurd (omega arith)
-  ];
-  ahead = λ p more. refl;
-  early = λ low. refl;
-}
+begins s t k at kept = grind (arith, wants_none, over_cases)
 
 after_writes : (s : State) (t : Transfer) (k : ℕ) (events : List Event) → IsAtSector s t k → k < 10 → s.lost_data ≡ false → t.writes ≡ true →
     AllLetGo events → count_steps events ≤ sector_steps → Either t k (history events s) (count_steps events) (accesses 0 events)
@@ -346,20 +294,13 @@ pub writes_kept : (s : State) (t : Transfer) (k : ℕ) (events : List Event) →
     AllLetGo events → count_steps events ≤ sector_steps → ((i : ℕ) → IsOver true i (count_steps events) → is_served true i events ≡ true) →
     (history events s).lost_data ≡ false
 unfolding given
-writes_kept s t k events at few kept writes all most served = elim (after_writes s t k events at few kept writes all most) [
-  | inl fine ↦ fine.kept
-  | inr missed ↦
-      absurd (true≢false (sym (served missed.byte (assumption)) ∙ missed.missed))
-]
+writes_kept s t k events at few kept writes all most served = grind (arith, after_writes, true≢false)
 
 pub writes_told : (s : State) (t : Transfer) (k : ℕ) (events : List Event) → IsAtSector s t k → k < 10 → s.lost_data ≡ false → t.writes ≡ true →
     AllLetGo events → count_steps events ≤ sector_steps → (i : ℕ) → IsOver true i (count_steps events) → is_served true i events ≡ false →
     (history events s).lost_data ≡ true
 unfolding given
-writes_told s t k events at few kept writes all most i over missed = elim (after_writes s t k events at few kept writes all most) [
-  | inl fine ↦ absurd (true≢false (sym (fine.served i over.byte over.over) ∙ missed))
-  | inr lost ↦ lost.lost
-]
+writes_told s t k events at few kept writes all most i over missed = grind (arith, after_writes, true≢false)
 
 pub after_reads : (s : State) (t : Transfer) (k : ℕ) (events : List Event) → IsAtSector s t k → k < 10 → s.lost_data ≡ false → t.writes ≡ false →
     AllLetGo events → count_steps events ≤ sector_steps →

@@ -97,32 +97,7 @@ pub by_place : (P : State → Type 0) (t : Transfer) (k place : ℕ) (s : State)
     (place ≡ 22 → s.drq ≡ true → P (finish_leaves (record s { lost_data = true }))) →
     (30 ≤ place → place < 286 → P (byte_written t.target k (place - 30) s)) → (place ≡ 288 → P (sector_ended t s)) →
     ((place ≡ 12 → ⊥) → (place ≡ 22 → s.drq ≡ false) → (place < 30) ⊎ (286 ≤ place) → (place ≡ 288 → ⊥) → P s) → P (writing_at t k (Some place) s)
-by_place P t k place s first late byte end none = elim (cases_eq place 12) [
-  | inl is ↦ rw (eq-eqb place 12 is) (first is)
-  | inr not_12 ↦
-      elim (cases_lt place 30) [
-        | inl early ↦
-            elim (bool_cases ((place == 22) && s.drq)) [
-              | inl on ↦
-                  let parts = and_parts _ _ on in rw (ne_eqb place 12 not_12, on) (late (eqb-true place 22 parts.0) parts.1)
-              | inr off ↦
-                  rw (ne_eqb place 12 not_12, off, before_bytes place early, ne_eqb place 288 (λ e. omega arith))
-                  (none not_12 (λ is. sym (ap (λ b. b && s.drq) (eq-eqb place 22 is)) ∙ off) (inl early) (λ e. omega arith))
-            ]
-        | inr from ↦
-            let not_22 : (place == 22) ≡ false = ne_eqb place 22 (λ e. omega arith) in
-            elim (cases_lt place 286) [
-              | inl to ↦ rw (ne_eqb place 12 not_12, not_22, byte_place place from to) (byte from to)
-              | inr over ↦
-                  elim (cases_eq place 288) [
-                    | inl is ↦ rw (ne_eqb place 12 not_12, not_22, behind_bytes place over, eq-eqb place 288 is) (end is)
-                    | inr other ↦
-                        rw (ne_eqb place 12 not_12, not_22, behind_bytes place over, ne_eqb place 288 other)
-                        (none not_12 (λ e. absurd (omega arith)) (inr over) other)
-                  ]
-            ]
-      ]
-]
+by_place P t k place s first late byte end none = grind (arith, eq-eqb, and_parts, ne_eqb, eqb-true, before_bytes, byte_place, behind_bytes)
 
 pub w_end : (t : Transfer) (k place : ℕ) (s : State) → place ≡ 288 → writing_at t k (Some place) s ≡ sector_ended t s
 w_end t k place s is = grind arith
@@ -183,41 +158,13 @@ module _ (d : Image) (t : Transfer) (k : ℕ) where
   -- an access of another register than the data register
   leaves_it : (s x : State) (m : ℕ) (bytes : List ℕ) → Accessed false s x → Inside s m bytes →
       Inside x m (bytes ++ [])
-  leaves_it s x m bytes acc is =
-      subst (λ xs. Inside x m xs) (sym (append-nil bytes)) (record {
-        going = λ h. acc.command ∙ is.going h;
-        over = λ h. acc.command ∙ is.over h;
-        angle = acc.angle ∙ is.angle;
-        now = is.now;
-        disc = same_disc t.target.drive x s acc.drive0 acc.drive1 ∙ is.disc;
-        kind = is.kind;
-        count = ap (λ b. length bytes + owed b) acc.drq ∙ is.count;
-        enough = is.enough;
-        stored = is.stored;
-        pending = λ off more. is.pending (sym acc.drq ∙ off) more ∙ sym (acc.byte refl);
-        others = is.others;
-      })
+  leaves_it s x m bytes acc is = grind (arith, append-nil, same_disc)
 
   -- a byte is given while DRQ is set
   byte_given : (s : State) (v m : ℕ) (bytes : List ℕ) → s.drq ≡ true → Inside s m bytes →
       Inside (write_leaves 3 v s) m (bytes ++ v ∷ [])
   unfolding gone asked owed
-  byte_given s v m bytes on is =
-      let more : length (bytes ++ v ∷ []) ≡ length bytes + 1 = length_push bytes v in
-      let all : length bytes + 1 ≡ asked m = ap (λ b. length bytes + owed b) (sym on) ∙ is.count in
-      record {
-        going = is.going;
-        over = is.over;
-        angle = is.angle;
-        now = is.now;
-        disc = same_disc t.target.drive (write_leaves 3 v s) s refl refl ∙ is.disc;
-        kind = is.kind;
-        count = ap (λ n. n + 0) more ∙ let e : length bytes + 1 + 0 ≡ length bytes + 1 = omega arith in e ∙ all;
-        enough = omega arith;
-        stored = λ i low. is.stored i low ∙ sym (get_or_append_left bytes (v ∷ []) 0 i (omega arith));
-        pending = λ off fewer. get_or_push bytes v 0 (gone m) (omega arith);
-        others = is.others;
-      }
+  byte_given s v m bytes on is = grind (arith, length_push, same_disc, get_or_append_left, get_or_push)
 
   -- an access of a program that gives bytes
   pub accessed : (e : Event) (s : State) (m : ℕ) (bytes : List ℕ) → IsAccess e → Writes s e → Accessed (is_data e) s (happens e s) →
