@@ -108,7 +108,10 @@ abbrev pub IsApart : ℕ → ℕ → ℕ → ℕ → ℕ → Type 0
 IsApart p q x y many = (q ≡ y → ⊥) ⊎ ((p < x) ⊎ (x + many ≤ p))
 
 pub length_one : (left x y colour : ℕ) (frame : List ℕ) → length (dot_set left x y colour frame) ≡ length frame
-length_one left x y colour frame = grind (arith, length-set)
+length_one left x y colour frame = by_test (is_in_frame left x y) where
+  by_test : (b : Bool) → length (if b then slice_set frame (dot_index left x y) colour else frame) ≡ length frame
+  by_test true = length-set frame (dot_index left x y) colour
+  by_test false = refl
 
 pub length_kept : (left x y : ℕ) (dots frame : List ℕ) → length (dots_set left x y dots frame) ≡ length frame
 length_kept left x y [] frame = refl
@@ -171,7 +174,13 @@ choice true s x y p q = p
 choice false s x y p q = q
 
 draws : (ram : List ℕ) (size : ℕ) (font : Font) (beam : Beam) (s : State) → Draws s (show_leaves ram size font beam s)
-draws ram size font beam s = grind (arith, choice)
+draws ram size font beam s =
+    let byte = slice_index ram (byte_address beam.ma beam.ra size) in
+    choice beam.shown s (draw_leaves ram size font beam s) s
+    (choice (bit s.ula.control 1) s (draw_cell_leaves font beam (byte % 128) s) (draw_byte_leaves beam byte s)
+    (assumption)
+    (assumption))
+    (assumption)
 
 in_bits : (p q : Bool) (x y s : State) → q ≡ false →
     (if p then (if q then x else y) else s).working ≡ (if p then y.working else s.working)
@@ -236,7 +245,9 @@ same_ula ram size font s (suc n) =
 -- clock n
 pub clock : (ram : ℕ → List ℕ) (size : ℕ → ℕ) (font : Font) (s : State) (n : ℕ) →
     Clocked (ram n) (size n) (tells n s.crtc) (char_clocks ram size font n s) (char_clocks ram size font (suc n) s)
-clock ram size font s n = grind (arith, by_itself, one_clock)
+clock ram size font s n =
+    subst (λ (c : crtc.State). Clocked (ram n) (size n) (beam_of c) (char_clocks ram size font n s) (char_clocks ram size font (suc n) s))
+    (by_itself ram size font s n) (one_clock (ram n) (size n) font (char_clocks ram size font n s))
 
 -- ---- Microseconds.
 
@@ -247,7 +258,7 @@ clocks_from ram size font (suc n) s = ap (char_clock_leaves ram size font) (cloc
 
 one_ula : (ram : List ℕ) (size : ℕ) (font : Font) (s : State) (b : Bool) → bit s.ula.control 4 ≡ b →
     bit (char_clock_leaves ram size font s).ula.control 4 ≡ b
-one_ula ram size font s b is = grind (arith, one_clock)
+one_ula ram size font s b is = ap (λ (u : ula.State). bit u.control 4) (one_clock ram size font s).ula ∙ is
 
 single : (ram : List ℕ) (size : ℕ) (font : Font) (n : ℕ) (s : State) → bit s.ula.control 4 ≡ false →
     microseconds ram size font n s ≡ char_clocks (λ k. ram) (λ k. size) font n s
@@ -270,7 +281,11 @@ double ram size font (suc n) s is =
     ∙ ap (λ k. char_clocks (λ i. ram) (λ i. size) font k s) e
 
 pub microseconds_are_clocks : MicrosecondsAreClocks
-microseconds_are_clocks = grind (arith, double, single)
+microseconds_are_clocks ram size font n s = by_test (bit s.ula.control 4) refl where
+  by_test : (b : Bool) → bit s.ula.control 4 ≡ b →
+      microseconds ram size font n s ≡ char_clocks (λ k. ram) (λ k. size) font (if b then 2 * n else n) s
+  by_test true is = double ram size font n s is
+  by_test false is = single ram size font n s is
 
 -- the laws of the 6845 that the beam follows
 pub record Laws : Type 0 where

@@ -49,14 +49,16 @@ begun_length false frame is = is
 
 drawn_length : (is : Bool) (left x y : ℕ) (dots frame : List ℕ) → length frame ≡ 163840 →
     length (if is then dots_set left x y dots frame else frame) ≡ 163840
-drawn_length is left x y dots frame long = grind (arith, length_kept)
+drawn_length true left x y dots frame long = length_kept left x y dots frame ∙ long
+drawn_length false left x y dots frame long = long
 
 -- ---- A dot of the frame that is drawn.
 
 -- a character that is not shown draws nothing, and one that is draws elsewhere
 stays_if : (is : Bool) (left p q x y : ℕ) (dots frame : List ℕ) → Inside left p q → (is ≡ true → IsApart p q x y (length dots)) →
     slice_index (if is then dots_set left x y dots frame else frame) (dot_index left p q) ≡ slice_index frame (dot_index left p q)
-stays_if is left p q x y dots frame here apart = grind (arith, others)
+stays_if true left p q x y dots frame here apart = others left p q x y dots frame here (apart refl)
+stays_if false left p q x y dots frame here apart = refl
 
 -- another character of the same line, or one of another line, is elsewhere
 columns_apart : (a b dots d : ℕ) → (a ≡ b → ⊥) → d < dots → (dots ≡ 8) ⊎ (dots ≡ 16) → (a * dots + d < b * dots) ⊎ (b * dots + dots ≤ a * dots + d)
@@ -67,7 +69,11 @@ same_line w u j some same = grind arith
 
 apart : (w a u j dots d many : ℕ) → 0 < w → 0 < j → d < dots → (dots ≡ 8) ⊎ (dots ≡ 16) → u / w < 296 → many ≡ dots →
     IsApart (a % w * dots + d) (u / w) ((a + j) % w * dots) (min ((u + j) / w) 1023) many
-apart w a u j dots d many some more within widths bottom all = grind (arith, columns_apart, differs, same_line)
+apart w a u j dots d many some more within widths bottom all = elim (cases_eq ((u + j) / w) (u / w)) [
+  | inl same ↦
+      inr (rw all (columns_apart (a % w) ((a + j) % w) dots d (differs w a j more (same_line w u j some same)) within widths))
+  | inr other ↦ inl (λ line. other (omega arith))
+]
 
 pub apart_at : (p q x y k l many : ℕ) → x ≡ k → y ≡ l → IsApart p q k l many → IsApart p q x y many
 apart_at p q x y k l many e g is = rw (e, g) is
@@ -305,7 +311,15 @@ colour_is count characters ram size font s n d makes three is within =
 -- what each character draws
 pub bytes_shown : (ram : ℕ → List ℕ) (size : ℕ → ℕ) (font : Font) (s : State) → bit s.ula.control 1 ≡ false →
     Shows 240 ram size font s (λ n. dots_at (ram n) (size n) (tells n s.crtc) (char_clocks ram size font n s))
-bytes_shown ram size font s off = grind (arith, dot_count, same_ula, clock)
+bytes_shown ram size font s off = record {
+  many = λ n.
+      let b = tells n s.crtc in
+      let x = char_clocks ram size font n s in
+      dot_count x.ula (slice_index (ram n) (byte_address b.ma b.ra (size n))) b.ra (is_marked x.ula.control b.cursor x.cursor)
+      ∙ ap (λ (u : ula.State). dots_of u.control) (same_ula ram size font s n);
+  working = λ n.
+      (clock ram size font s n).working (ap (λ (u : ula.State). bit u.control 1) (same_ula ram size font s n) ∙ off);
+}
 
 pub frames_show_their_bytes : Laws → ShownAddressesCount → CharactersAreShown → FramesShowTheirBytes
 frames_show_their_bytes laws count characters ram size font s n d m makes off runs met within here after before =

@@ -68,7 +68,10 @@ all_moved [] c bytes h = h
 all_moved (m ∷ moves) c bytes h = all_moved moves (after_move m c) bytes.1 (moved m c bytes.0 h)
 
 pub latches_are_bytes : LatchesAreBytes
-latches_are_bytes = grind (arith, moved, all_moved)
+latches_are_bytes = record {
+  keeps = moved;
+  reached = λ moves bytes. all_moved moves power_on bytes (record { timer1 = omega arith; timer2 = omega arith });
+}
 
 by_digits : (f : ℕ → ℕ → ℕ) (g : Bool → Bool → Bool) → (f 0 0 == 1) ≡ g false false → (f 0 1 == 1) ≡ g false true → (f 1 0 == 1) ≡ g true false →
     (f 1 1 == 1) ≡ g true true →
@@ -76,10 +79,10 @@ by_digits : (f : ℕ → ℕ → ℕ) (g : Bool → Bool → Bool) → (f 0 0 ==
 by_digits f g a b c d p q lp lq = grind arith
 
 and_bit : (a b n : ℕ) → bit (bit_and a b) n ≡ (bit a n && bit b n)
-and_bit a b n = grind (arith, bit_at_and, by_digits, bit_at-lt)
+and_bit a b n = ap (λ d. d == 1) (bit_at_and a b n) ∙ by_digits min ◌&&◌ refl refl refl refl (bit_at a n) (bit_at b n) (bit_at-lt a n) (bit_at-lt b n)
 
 or_bit : (a b n : ℕ) → bit (bit_or a b) n ≡ (bit a n || bit b n)
-or_bit a b n = grind (arith, bit_at_or, by_digits, bit_at-lt)
+or_bit a b n = ap (λ d. d == 1) (bit_at_or a b n) ∙ by_digits max ◌||◌ refl refl refl refl (bit_at a n) (bit_at b n) (bit_at-lt a n) (bit_at-lt b n)
 
 -- a law of bits 0 to 7
 pub by_bit : (P : ℕ → Type 0) → P 0 → P 1 → P 2 → P 3 → P 4 → P 5 → P 6 → P 7 → (n : ℕ) → n < 8 → P n
@@ -106,7 +109,9 @@ chosen : (d o p : Bool) → ((o && d) || (p && not d)) ≡ (if d then o else p)
 chosen d o p = grind arith
 
 port_bit : (d o p n : ℕ) → n < 8 → d < 256 → bit (port d o p) n ≡ (if bit d n then bit o n else bit p n)
-port_bit d o p n inside byte = grind (arith, or_bit, and_bit, not_bit, chosen)
+port_bit d o p n inside byte =
+    or_bit (bit_and o d) (bit_and p (255 - d)) n ∙ ap (λ b. b || bit (bit_and p (255 - d)) n) (and_bit o d n)
+    ∙ ap (λ b. (bit o n && bit d n) || b) (and_bit p (255 - d) n ∙ ap (λ b. bit p n && b) (not_bit d n byte inside)) ∙ chosen (bit d n) (bit o n) (bit p n)
 
 -- all bits of FF are 1
 all_ones : (n : ℕ) → n < 8 → bit 255 n ≡ true
@@ -211,7 +216,8 @@ none_cleared reg v c o f = grind arith
 
 kept : (f : Flag) (reg v : ℕ) (c : State) → IsOther reg → IsAsTold reg v c f
 unfolding IsAsTold
-kept f reg v c o = grind (arith, others_keep, and_on, none_cleared)
+kept f reg v c o =
+    ap (is_set f) (others_keep reg v c o) ∙ and_on (is_set f c.flags) ∙ ap (λ b. is_set f c.flags && not b) (sym (none_cleared reg v c o f))
 
 -- this register or another
 unless : (P : ℕ → Type 0) (n reg : ℕ) → P n → ((reg == n) ≡ false → P reg) → P reg
@@ -239,14 +245,16 @@ both : (a b : Bool) → a ≡ true → b ≡ false → (a && not b) ≡ true
 both a b is none = ap (λ x. x && not b) is ∙ ap not none
 
 by_move : (f : Flag) (m : Move) (c : State) → is_set f c.flags ≡ true → is_cleared f m c ≡ false → is_set f (after_move m c).flags ≡ true
-by_move f m c is none = grind (arith, none, by_step, by_read, both, by_write)
+by_move f (microsecond pins) c is none = by_step f pins c is
+by_move f (read reg) c is none = by_read f reg c ∙ both (is_set f c.flags) (is_cleared f (read reg) c) is none
+by_move f (write reg v) c is none = by_write f reg v c ∙ both (is_set f c.flags) (is_cleared f (write reg v) c) is none
 
 stays : (f : Flag) (moves : List Move) (c : State) → is_set f c.flags ≡ true → NoneClears f moves c → is_set f (after_moves moves c).flags ≡ true
 stays f [] c is none = is
 stays f (m ∷ moves) c is none = stays f moves (after_move m c) (by_move f m c is none.0) none.1
 
 pub flags_are_cleared : FlagsAreCleared
-flags_are_cleared = grind (arith, by_read, by_write, stays)
+flags_are_cleared = record { by_read = by_read; by_write = by_write; stays = stays; no_shift = λ pins c. refl }
 
 -- ---- The bytes that show them.
 
@@ -317,7 +325,9 @@ some_of : (a b c d e f g : Bool) → (a || b || c || d || e || f || g) ≡ (a ||
 some_of a b c d e f g = grind arith
 
 line : (c : State) → asks c ≡ some_enabled c
-line c = grind (arith, some_of)
+line c =
+    some_of (c.flags.timer1 && c.enabled.timer1) (c.flags.timer2 && c.enabled.timer2) (c.flags.cb1 && c.enabled.cb1) (c.flags.cb2 && c.enabled.cb2)
+    (c.flags.shift && c.enabled.shift) (c.flags.ca1 && c.enabled.ca1) (c.flags.ca2 && c.enabled.ca2)
 
 -- what a write to IER makes of a flag
 marked : (up mark before : Bool) → (if up then before || mark else before && not mark) ≡ (if mark then up else before)

@@ -28,7 +28,13 @@ Changes f bank j k = register k (with_register j (f j (register j bank)) bank) �
 
 changes : (f : ℕ → Register → Register) (bank : Bank) (j k : ℕ) → 1 ≤ j → j ≤ 4 → 1 ≤ k → k ≤ 4 → Changes f bank j k
 unfolding Changes
-changes f bank j k lj hj lk hk = grind (arith, four)
+changes f bank j k lj hj lk hk =
+    four (λ i. Changes f bank i k)
+    (four (Changes f bank 1) refl refl refl refl k lk hk)
+    (four (Changes f bank 2) refl refl refl refl k lk hk)
+    (four (Changes f bank 3) refl refl refl refl k lk hk)
+    (four (Changes f bank 4) refl refl refl refl k lk hk)
+    j lj hj
 
 -- the count of rises is no part of a register
 counted_keeps : (from : Side) (k : ℕ) (old new : State) → queue from k (with_counts old new) ≡ queue from k new
@@ -299,7 +305,10 @@ resets_by from side k c answer is = grind (arith, resets)
 
 looks : (from side : Side) (k : ℕ) (c : State) (answer : Answer) → Keeps from k c side look answer
 unfolding Keeps
-looks from side k c answer = grind (arith, untouched)
+looks Host Host k c answer tick = untouched refl refl refl
+looks Host Para k c answer tick = untouched refl refl refl
+looks Para Host k c answer tick = untouched refl refl refl
+looks Para Para k c answer tick = untouched refl refl refl
 
 each : (from side : Side) (query : Query) (k : ℕ) (c : State) (answer : Answer) → 1 ≤ k → k ≤ 4 → MayAsk side query →
     (act c side query).1 ≡ answer → Keeps from k c side query answer
@@ -336,7 +345,9 @@ one_event from k c e lk hk may answered = (each from e.side e.query k c e.answer
 -- what leaves and what comes, one event in front
 one_more : (left lefts here next comes more last : List ℕ) → left ++ next ≡ here ++ comes → lefts ++ last ≡ next ++ more →
     (left ++ lefts) ++ last ≡ here ++ (comes ++ more)
-one_more left lefts here next comes more last first rest = grind (arith, append_assoc)
+one_more left lefts here next comes more last first rest =
+    append_assoc left lefts last ∙ ap (λ bytes. left ++ bytes) rest ∙ sym (append_assoc left next more)
+    ∙ ap (λ bytes. bytes ++ more) first ∙ append_assoc here comes more
 
 pub all_queues : RegistersAreQueues
 all_queues from k c [] lk hk may answered = sym (append-nil (held_bytes (queue from k c)))

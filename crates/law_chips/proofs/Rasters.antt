@@ -36,10 +36,12 @@ written_has : (n v : ℕ) (r : Registers) → v < 256 → HaveTheirBits r → Ha
 written_has n v r byte bits = grind arith
 
 clock_keeps : (c : State) → HaveTheirBits c.registers → HaveTheirBits (clock_leaves c).registers
-clock_keeps c bits = grind (arith, count_keeps, start_keeps)
+clock_keeps c bits = subst HaveTheirBits (sym (count_keeps (start_leaves c) ∙ start_keeps c)) bits
 
 moved : (m : Move) (c : State) → WritesByte m → HaveTheirBits c.registers → HaveTheirBits (after_move m c).registers
-moved m c byte bits = grind (arith, clock_keeps, written_has)
+moved clock c byte bits = clock_keeps c bits
+moved (select v) c byte bits = bits
+moved (write v) c byte bits = written_has c.selected v c.registers byte bits
 
 all_moved : (moves : List Move) (c : State) → WriteBytes moves → HaveTheirBits c.registers → HaveTheirBits (after_moves moves c).registers
 all_moved [] c bytes bits = bits
@@ -49,7 +51,7 @@ first_bits : HaveTheirBits power_on.registers
 first_bits = grind arith
 
 pub registers_have_their_bits : RegistersHaveTheirBits
-registers_have_their_bits = grind (arith, moved, all_moved, first_bits)
+registers_have_their_bits = record { keeps = moved; reached = λ moves bytes. all_moved moves power_on bytes first_bits }
 
 -- ---- The 6845 of a raster.
 
@@ -59,7 +61,10 @@ choice true c x y p q = p
 choice false c x y p q = q
 
 draws : (ram : List ℕ) (size : ℕ) (font : Font) (beam : Beam) (s : raster.State) → (show_leaves ram size font beam s).crtc ≡ s.crtc
-draws ram size font beam s = grind (arith, choice)
+draws ram size font beam s =
+    let byte = slice_index ram (byte_address beam.ma beam.ra size) in
+    choice beam.shown s.crtc (draw_leaves ram size font beam s) s
+    (choice (bit s.ula.control 1) s.crtc (draw_cell_leaves font beam (byte % 128) s) (draw_byte_leaves beam byte s) refl refl) refl
 
 one_clock : (ram : List ℕ) (size : ℕ) (font : Font) (s : raster.State) →
     HaveTheirBits s.crtc.registers → HaveTheirBits (char_clock_leaves ram size font s).crtc.registers
@@ -159,7 +164,19 @@ pub record AtClock (c : State) (n : ℕ) : Type 0 where
       ≡ (n + 1) / line_characters c.registers % frame_lines c.registers * line_characters c.registers + (n + 1) % line_characters c.registers
 
 pub at_clock : LinesHaveTheirCharacters → (c : State) → HaveTheirBits c.registers → c.character ≡ 0 → (n : ℕ) → AtClock c n
-at_clock lines c bits begins n = grind (arith, kept, start_keeps, keeps, frame_some, characters, mul_comm, mod-mul)
+at_clock lines c bits begins n =
+    let r = c.registers in
+    let x = clocks n c in
+    let k = kept x in
+    let regs : (start_leaves x).registers ≡ r = start_keeps x ∙ keeps n c in
+    let some = frame_some r in
+    record {
+      registers = regs;
+      column = ap (λ (e : State). e.character) k.1.1 ∙ characters lines c bits begins n;
+      total = ap (λ (q : Registers). q.horizontal_total) regs;
+      some = some;
+      digits = ap (λ k. (n + 1) % k) (mul_comm (line_characters r) (frame_lines r)) ∙ mod-mul (n + 1) some (omega arith);
+    }
 
 -- a clock that is not the last of its line ends neither the line nor the frame
 pub not_last : (c : State) (n : ℕ) → AtClock c n → (n + 1) % line_characters c.registers ≡ n % line_characters c.registers + 1 →
@@ -270,7 +287,12 @@ row_goes_on l c bits at other =
 
 line_goes_on : (adjust : Option ℕ) (l : ℕ) (c : State) → c.adjust ≡ adjust → HaveTheirBits c.registers → IsAt c.registers l c →
     is_last_line_in adjust c ≡ false → IsAt c.registers (l + 1) (line_ended_in adjust c)
-line_goes_on adjust l c is bits h3 other = grind (arith, row_goes_on, true≢false, adjust_line)
+line_goes_on None l c is bits (inl at) other = row_goes_on l c bits at other
+line_goes_on None l c is bits (inr at) other = absurd (true≢false (sym (ap is_none (sym at.some ∙ is))))
+line_goes_on (Some a) l c is bits (inl at) other = absurd (true≢false (ap is_none (sym at.none ∙ is)))
+line_goes_on (Some a) l c is bits (inr at) other =
+    let past = at.past in
+    subst (IsAt c.registers (l + 1)) (sym (adjust_line c a other)) (inr (record { line = (a + 1) % 32; some = refl; past = omega arith }))
 
 -- the last line of a frame ends, and a new frame begins
 last_goes_on : (adjust : Option ℕ) (c : State) → is_last_line_in adjust c ≡ true → line_ended_in adjust c ≡ frame_begun c

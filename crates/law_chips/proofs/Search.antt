@@ -92,7 +92,12 @@ finds s0 s t left m going has now =
 
 loses : (s0 s : State) (t : Transfer) (left m : ℕ) → Going s0 t left s m → NoneAt s0 t m → m + 1 ≡ left → Lost (step s)
 unfolding NoneAt
-loses s0 s t left m going none end = grind (arith, step_by, le-ltb)
+loses s0 s t left m going none end =
+    let s1 : State = record s { angle = Some (next_angle s.angle) } in
+    let is : work_leaves s ≡ not_found s1 =
+    step_by false s0 s t left m going none
+    ∙ ap (λ b. if b then record s1 { command = Searching t (left - m - 1) } else not_found s1) (le-ltb 1 (left - m) (omega arith)) in
+    subst (λ y. Lost (count_leaves (is_asking s) y)) (sym is) (assumption)
 
 -- ---- Reads of registers.
 
