@@ -118,7 +118,15 @@ all_ones : (n : ℕ) → n < 8 → bit 255 n ≡ true
 all_ones n inside = by_bit (λ n. bit 255 n ≡ true) refl refl refl refl refl refl refl refl n inside
 
 a_register : (reg : ℕ) (pins : Pins) (c : State) → ((reg == 1) || (reg == 15)) ≡ true → answer_of reg pins c ≡ port c.ddra c.ora pins.a
-a_register reg pins c is = grind (arith, common_steps)
+a_register reg pins c is = elim (cases_eq reg 1) [
+  | inl one ↦ ap (λ r. answer_of r pins c) one
+  | inr other ↦
+      elim (cases_eq reg 15) [
+        | inl last ↦ ap (λ r. answer_of r pins c) last
+        | inr none ↦
+            absurd (true≢false (sym is ∙ ap (λ b. b || (reg == 15)) (ne_eqb reg 1 other) ∙ ne_eqb reg 15 none))
+      ]
+]
 
 pub ports_show_their_bits : PortsShowTheirBits
 ports_show_their_bits = record {

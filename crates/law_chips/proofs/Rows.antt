@@ -267,7 +267,26 @@ new_row r n m frame row before same_frame same_row = grind (arith, row_grows)
 
 -- the next frame begins
 to_frame : (ram : ℕ → List ℕ) (size : ℕ → ℕ) (font : Font) (s : State) → bit s.ula.control 1 ≡ true → (n : ℕ) → Begins s.crtc n → Holds ram size font s (n + 1)
-to_frame ram size font s on n begins = grind (arith, next_text, past_frame, frame_grows, true≢false)
+to_frame ram size font s on n begins =
+    let r = s.crtc.registers in
+    let text : (char_clocks ram size font (n + 1) s).text ≡ first_row (behind ram size font s n) =
+    next_text ram size font s on n ∙ past_frame (tells n s.crtc) (behind ram size font s n) begins.restart in
+    let none : (char_clocks ram size font (n + 1) s).text.doubled ≡ false = ap (λ (t : Text). t.doubled) text in
+    let lower : is_lower ram size font s (n + 1) ≡ false = ap (λ (t : Text). t.bottom) text in
+    let row = begins.row in
+    let earlier_none : (m : ℕ) → m ≤ n → frame_index r m ≡ frame_index r (n + 1) → ⊥ = λ m before same.
+    let low = frame_grows r m n before in omega arith in
+    record {
+      found = λ had. absurd (true≢false (sym had ∙ none));
+      finds = λ had. let earlier = had.earlier in absurd (earlier_none had.clock (omega arith) had.frame);
+      row = λ m before same same_row. elim (cases_eq m (n + 1)) [
+        | inl is ↦ ap (is_lower ram size font s) is
+        | inr other ↦ absurd (earlier_none m (omega arith) same)
+      ];
+      first = λ top. lower;
+      below = λ m is doubles. absurd (omega arith);
+      plain = λ nothing. lower;
+    }
 
 module _ (facts : Facts) (ram : ℕ → List ℕ) (size : ℕ → ℕ) (font : Font) (s : State) (makes : MakesFrames s.crtc) (on : bit s.ula.control 1 ≡ true) where
   -- the codes of a line are covered at each clock

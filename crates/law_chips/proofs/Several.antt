@@ -79,7 +79,22 @@ pub kept_step : (t : Transfer) (k : ℕ) (at : Option ℕ → State → State) �
     transfer_step t k (64 * (312 * k) + m + 1) (moved_on s k m) ≡ at (places_into k (64 * (312 * k) + m + 1)) (moved_on s k m) →
     Kept s0 s m → Kept s0 (step s) (m + 1)
 unfolding moved_on
-kept_step t k at leaves few many s0 s m inside going angle by is = grind arith
+kept_step t k at leaves few many s0 s m inside going angle by is =
+    let s1 = moved_on s k m in
+    let To : State → Type 0 = λ x. Kept s0 (count_leaves (is_asking s) x) (m + 1) in
+    let counted : (x : State) → Kept s0 x (m + 1) → To x = λ x h. assumption in
+    at_each at To k m s1 (work_leaves s) (worked_is s t k m few inside going angle ∙ by)
+    (λ passes_by.
+    let place = (m + 1) / 64 in
+    elim (cases_eq place 288) [
+      | inl end ↦ subst To (sym (leaves.ends place s1 end)) (counted (sector_ended t s1) (ends_so s0 t k s m many (omega arith) is))
+      | inr other ↦
+          let regs = leaves.others place s1 other in
+          counted (at (Some place) s1) (plain s0 s (at (Some place) s1) m (before_end m inside (λ h e. other e))
+          (assumption) is)
+    ])
+    (λ none. subst To (sym (leaves.none s1))
+    (counted s1 (plain s0 s s1 m (before_end m inside (λ h e. none h)) (assumption) is)))
 
 -- an access of a program that only reads registers, or gives bytes
 regs_kept : (e : Event) (s : State) → IsAccess e → Gives e → Regs s (happens e s)
@@ -96,7 +111,15 @@ waits_give e may = grind arith
 
 -- what a sector does that is read
 reading_leaves : (t : Transfer) (k : ℕ) → Leaves t (reading_at t k)
-reading_leaves t k = grind arith
+reading_leaves t k = record {
+  none = λ s. refl;
+  others = λ place s other.
+      either (is_byte_place 31 place) s (byte_came (byte_on_disc (disc_in t.target.drive s) t.target k (place - 31)) s)
+      (if place == 288 then sector_ended t s else s)
+      (assumption)
+      (subst (λ b. Regs s (if b then sector_ended t s else s)) (sym (ne_eqb place 288 other)) (assumption));
+  ends = λ place s end. rw (behind_bytes place (omega arith), eq-eqb place 288 end) refl;
+}
 
 reads_only : (events : List Event) → AllWait events → AllRead events
 reads_only [] all = tt

@@ -164,7 +164,22 @@ module _ (d : Image) (t : Transfer) (k : ℕ) where
   byte_given : (s : State) (v m : ℕ) (bytes : List ℕ) → s.drq ≡ true → Inside s m bytes →
       Inside (write_leaves 3 v s) m (bytes ++ v ∷ [])
   unfolding gone asked owed
-  byte_given s v m bytes on is = grind (arith, length_push, same_disc, get_or_append_left, get_or_push)
+  byte_given s v m bytes on is =
+      let more : length (bytes ++ v ∷ []) ≡ length bytes + 1 = length_push bytes v in
+      let all : length bytes + 1 ≡ asked m = ap (λ b. length bytes + owed b) (sym on) ∙ is.count in
+      record {
+        going = is.going;
+        over = is.over;
+        angle = is.angle;
+        now = is.now;
+        disc = same_disc t.target.drive (write_leaves 3 v s) s refl refl ∙ is.disc;
+        kind = is.kind;
+        count = ap (λ n. n + 0) more ∙ let e : length bytes + 1 + 0 ≡ length bytes + 1 = omega arith in e ∙ all;
+        enough = omega arith;
+        stored = λ i low. is.stored i low ∙ sym (get_or_append_left bytes (v ∷ []) 0 i (omega arith));
+        pending = λ off fewer. get_or_push bytes v 0 (gone m) (omega arith);
+        others = is.others;
+      }
 
   -- an access of a program that gives bytes
   pub accessed : (e : Event) (s : State) (m : ℕ) (bytes : List ℕ) → IsAccess e → Writes s e → Accessed (is_data e) s (happens e s) →
