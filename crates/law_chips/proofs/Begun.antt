@@ -42,9 +42,6 @@ sector_command v s low high = rw (le-ltb v 0x80 low, lt-ltb v 0xC0 high) refl
 settling : Transfer → ℕ → ℕ → Command
 settling t left m = if nat_lt m left then Settling t (left - m) else search_of t
 
-cases_more : (m left : ℕ) → (m + 1 < left) ⊎ (left ≤ m + 1)
-cases_more m left = cases_lt (m + 1) left
-
 settles_down : (t : Transfer) (left : ℕ) → CountsDown (settling t left) left
 unfolding settling
 settles_down t left = grind arith

@@ -115,13 +115,6 @@ no_control (c ∷ cs) code low high =
     ap (λ b. if b then c.at_once else holds_at_once cs code) (and_right (nat_le c.first code) (nat_le code c.last) (lt-leb code c.last above))
     ∙ no_control cs code parts.1 high
 
--- none of the tests passes
-no_letters : (code : ℕ) → 0x20 ≤ code → is_letters code ≡ false
-no_letters code high = grind arith
-
-no_colour : (code : ℕ) → 0x20 ≤ code → is_colour code ≡ false
-no_colour code high = grind arith
-
 no_change : (code : ℕ) (double : Bool) → 0x20 ≤ code → changes_height code double ≡ false
 no_change code double high = grind arith
 

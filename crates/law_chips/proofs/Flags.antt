@@ -151,13 +151,6 @@ and_on : (b : Bool) → b ≡ (b && true)
 and_on true = refl
 and_on false = refl
 
-and_off : (b : Bool) → false ≡ (b && false)
-and_off true = refl
-and_off false = refl
-
-independent : (x b : Bool) → (x && b) ≡ (x && not (not b || false))
-independent x b = grind arith
-
 -- a law of each flag
 each : (P : Flag → Type 0) → P timer_1 → P timer_2 → P line_cb1 → P line_cb2 → P shift_register → P line_ca1 → P line_ca2 → (f : Flag) → P f
 each P t1 t2 cb1 cb2 sr ca1 ca2 timer_1 = t1
@@ -242,9 +235,6 @@ told f reg v c =
 by_write : (f : Flag) (reg v : ℕ) (c : State) → is_set f (write_leaves reg v c).flags ≡ (is_set f c.flags && not (is_cleared f (write reg v) c))
 unfolding IsAsTold
 by_write f reg v c = told f reg v c
-
-or_set : (b x : Bool) → b ≡ true → (b || x) ≡ true
-or_set b x is = ap (λ y. y || x) is
 
 by_step : (f : Flag) (p : Pins) (c : State) → is_set f c.flags ≡ true → is_set f (step p c).flags ≡ true
 by_step f p c is = grind arith

@@ -148,10 +148,6 @@ codes_are one laws count characters ram size font s makes on (suc j) n column is
 cell_length : (font : Font) (code ra : ℕ) (lower : Bool) (fields : ℕ) (row : Row) → length (cell font code ra lower fields row) ≡ 16
 cell_length font code ra lower fields row = grind arith
 
-of_sixteen : (dots : ℕ) → (dots ≡ 8) ⊎ (dots ≡ 16) → min dots 16 ≡ dots
-of_sixteen dots (inl e) = omega arith
-of_sixteen dots (inr e) = omega arith
-
 within_sixteen : (dots d : ℕ) → (dots ≡ 8) ⊎ (dots ≡ 16) → d < dots → d < 16
 within_sixteen dots d h1 h = grind arith
 

@@ -48,9 +48,6 @@ odd_is number k odd low = grind arith
 even_is : (number k : ℕ) → is_status number ≡ true → 1 ≤ k → (number == byte_number k) ≡ false
 even_is number k even low = grind arith
 
-odd_not_0 : (number : ℕ) → is_status number ≡ false → (number == 0) ≡ false
-odd_not_0 number odd = grind arith
-
 -- What leaves a register and what comes into it, by what an event is for it: it clears all (z), writes this byte (s), reads (r).
 record Balance (z : Bool) (s : Option ℕ) (r : Bool) (room : ℕ) (shown made : List ℕ) (q after : Register) : Type 0 where
   pub is :
@@ -73,17 +70,10 @@ untouched : {z : Bool} {s : Option ℕ} {room : ℕ} {shown made : List ℕ} {q 
     Balance z s false room shown made q after
 untouched ez es ea = balanced ez es ea (apart _ _ _ _)
 
-is_some_held : (front : ℕ) (rest : List ℕ) → is_empty (holds front rest) ≡ false
-is_some_held front rest = ne_eqb (length (front ∷ rest)) 0 (λ e. omega arith)
-
 -- a read, or none
 one_read : (b : Bool) (room : ℕ) (shown made : List ℕ) (q : Register) → (b ≡ true → shown ≡ front_of q ∷ []) →
     Balance false None b room shown made q (if b then take_leaves q else q)
 one_read b room shown made q is = record { is = grind (arith, common_steps) }
-
-by_room : (has : Bool) (front byte : ℕ) (rest : List ℕ) →
-    held_bytes (if has then holds front (rest ++ byte ∷ []) else holds front rest) ≡ (front ∷ rest) ++ (if has then byte ∷ [] else [])
-by_room has front byte rest = grind (arith, append-nil)
 
 -- a write to a register for one byte, or for more
 one_byte : (room byte : ℕ) (shown made : List ℕ) (q : Register) → 1 ≤ room →
@@ -148,11 +138,6 @@ read_shows from k number c low is =
     let same : register_number number ≡ k = omega arith in
     rw odd (ap (λ i. front_of (register i (incoming_bank (reader from) c))) same ∙ ap front_of (incoming_is from k c))
 
--- The side that writes it reads other registers.
-others_read : (from : Side) (k j : ℕ) (c : State) → queue from k (read_by from j c) ≡ queue from k c
-others_read Host k j c = refl
-others_read Para k j c = refl
-
 own_read : (from : Side) (k number : ℕ) (c : State) → queue from k (chip_after c from (Read number)) ≡ queue from k c
 own_read from k number c = grind arith
 
@@ -171,11 +156,6 @@ after_odd_write : (from : Side) (k number byte : ℕ) (c : State) → is_status 
     ≡ (if number == byte_number k then write_leaves (capacity from k c.flags) byte (queue from k c) else queue from k c)
 after_odd_write from k number byte c odd low lk hk = grind (arith, counted_keeps, write_by_own, odd_is)
 
--- The side that reads it writes other registers.
-others_written : (from : Side) (k j byte : ℕ) (c : State) → queue from k (written_by (reader from) j byte c) ≡ queue from k c
-others_written Host k j byte c = refl
-others_written Para k j byte c = refl
-
 after_odd_other : (from : Side) (k number byte : ℕ) (c : State) → is_status number ≡ false →
     queue from k (chip_after c (reader from) (Write number byte)) ≡ queue from k c
 after_odd_other from k number byte c odd = grind arith
@@ -188,14 +168,6 @@ after_control from k number byte c even = grind arith
 after_no_control : (from : Side) (k number byte : ℕ) (c : State) → is_status number ≡ true →
     queue from k (chip_after c Para (Write number byte)) ≡ queue from k c
 after_no_control from k number byte c even = grind arith
-
-has_cleared : (from : Side) (k : ℕ) (c : State) → held_bytes (queue from k (clear_leaves c)) ≡ held_bytes (queue from k power_on)
-has_cleared Host k c = refl
-has_cleared Para k c = refl
-
-flags_only : (from : Side) (k : ℕ) (flags : Flags) (c : State) → queue from k (record c { flags = flags }) ≡ queue from k c
-flags_only Host k flags c = refl
-flags_only Para k flags c = refl
 
 control : Bool → Bool → Flags → State → State
 control z t flags c = if z then (if t then clear_leaves (record c { flags = flags }) else record c { flags = flags }) else c
@@ -220,10 +192,6 @@ control_clears from k number byte c room shown =
     let t = bit byte 7 && bit byte 6 in
     one_clear (z && t) room shown _ (queue from k c) (queue from k (control z t (flags_after byte c.flags) c))
     (cleared_by z t from k (flags_after byte c.flags) c) (not_cleared z t from k (flags_after byte c.flags) c)
-
-has_reset : (from : Side) (k : ℕ) (c : State) → held_bytes (queue from k (chip_after c Host Reset)) ≡ held_bytes (queue from k power_on)
-has_reset Host k c = refl
-has_reset Para k c = refl
 
 -- ---- Each event.
 

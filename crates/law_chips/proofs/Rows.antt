@@ -144,13 +144,6 @@ row_grows r m n before same = grind (arith, div-add-mod', div_grows)
 
 -- ---- What a clock makes of the text.
 
-or_left : (a b : Bool) → a ≡ true → (a || b) ≡ true
-or_left a b is = ap (λ x. x || b) is
-
-or_right : (a b : Bool) → b ≡ true → (a || b) ≡ true
-or_right true b is = refl
-or_right false b is = is
-
 -- the codes of the line have one for double height only where the row has
 Covers : Text → Type 0
 Covers t = t.codes.had_double ≡ true → t.doubled ≡ true

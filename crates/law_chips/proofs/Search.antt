@@ -41,14 +41,6 @@ searched : (s : State) (t : Transfer) (left : ℕ) → s.command ≡ Searching t
     work_leaves s ≡ search_step t left (next_angle s.angle) (record s { angle = Some (next_angle s.angle) })
 searched s t left is = grind arith
 
-shuffle : (a b c d : Bool) → (a && b && c && d) ≡ ((a && (b && d)) && c)
-shuffle a b c d = grind arith
-
--- The test of a search is that there is a sector for it, and that it begins now.
-found_when : (s0 s : State) (t : Transfer) (left m angle : ℕ) → Going s0 t left s m →
-    is_found t.target angle (record s { angle = Some angle }) ≡ (has_match t s0 && (angle == sector_angle s0.sector))
-found_when s0 s t left m angle going = grind arith
-
 -- no sector is found in the step behind m steps
 NoneAt : State → Transfer → ℕ → Type 0
 NoneAt s0 t m = (has_match t s0 && ((next_angle s0.angle + m) % 200000 == sector_angle s0.sector)) ≡ false
@@ -145,13 +137,6 @@ runs_on : (s : State) (t : Transfer) (left last : ℕ) (events : List Event) →
     ((i : ℕ) → i < last → NoneAt s t i) → AllWait events → count_steps events ≤ last → (history events s).command ≡ Searching t (left - count_steps events)
 runs_on s t left last events is before none all most =
     (waits_from (λ m. Searching t (left - m)) last s (goes_on s t left last before none) events all most (begins s t left is).command).command
-
--- a sector that is on a disc begins within a turn
-on_disc_small : (disc : Option Image) (target : Target) (k : ℕ) → is_on_disc disc target k ≡ true → k < 10
-on_disc_small disc target k is = grind arith
-
-sector_small : (s : State) (t : Transfer) → has_match t s ≡ true → s.sector < 10
-sector_small s t has = grind arith
 
 not_before : (s : State) (t : Transfer) → has_match t s ≡ true → (i : ℕ) → i < (sector_angle s.sector + 200000 - next_angle s.angle) % 200000 → NoneAt s t i
 unfolding NoneAt

@@ -96,10 +96,6 @@ kept_step t k at leaves few many s0 s m inside going angle by is =
     (λ none. subst To (sym (leaves.none s1))
     (counted s1 (plain s0 s s1 m (before_end m inside (λ h e. none h)) (assumption) is)))
 
--- an access of a program that only reads registers, or gives bytes
-regs_kept : (e : Event) (s : State) → IsAccess e → Gives e → Regs s (happens e s)
-regs_kept e s access may = grind arith
-
 pub kept_access : (s0 : State) (e : Event) (s : State) (m : ℕ) → IsAccess e → Gives e → Kept s0 s m → Kept s0 (happens e s) m
 kept_access s0 e s m access may is = grind arith
 

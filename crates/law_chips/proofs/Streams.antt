@@ -35,10 +35,6 @@ pub record Accessed (data_register : Bool) (s x : State) : Type 0 where
   pub drq : x.drq ≡ (if data_register then false else s.drq)
   pub byte : data_register ≡ false → x.byte ≡ s.byte
 
--- a read of the status leaves DRQ
-drq_read : (a b q : Bool) → (a ≡ true → b ≡ false) → (if a then q else if b then false else q) ≡ (if b then false else q)
-drq_read a b q h = grind arith
-
 read_leaves_it : (reg : ℕ) (s : State) → Accessed (reg == 3) s (read_leaves reg s)
 read_leaves_it reg s = grind arith
 

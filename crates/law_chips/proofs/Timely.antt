@@ -56,9 +56,6 @@ given_in : (i place : ℕ) (ps : List ℕ) → 1 ≤ i → place ≡ 29 + i → 
 unfolding given has_place
 given_in i place ps some is = grind arith
 
-over_first : (i : ℕ) → i ≡ 0 → time_over true i ≡ 22
-over_first i is = ap (λ b. if b then 22 else 30 + i) (eq-eqb i 0 is)
-
 over_next : (i : ℕ) → 1 ≤ i → time_over true i ≡ 30 + i
 over_next i some = ap (λ b. if b then 22 else 30 + i) (ne_eqb i 0 (λ e. omega arith))
 

@@ -48,10 +48,6 @@ record Ended (t : Transfer) (s x : State) : Type 0 where
   pub byte : x.byte ≡ s.byte
   pub drq : x.drq ≡ s.drq
 
-ended_by : (b : Bool) (t : Transfer) (s : State) → t.multiple ≡ b →
-    Ended t s (if b then record s { sector = (s.sector + 1) % 256; command = search_of t } else finish_leaves s)
-ended_by b t s is = grind arith
-
 -- what a byte that is written leaves of the state
 pub record Put (target : Target) (number : Option DriveNumber) (k i v : ℕ) (s x : State) : Type 0 where
   pub command : x.command ≡ s.command
@@ -61,10 +57,6 @@ pub record Put (target : Target) (number : Option DriveNumber) (k i v : ℕ) (s 
 
 pub put : (target : Target) (number : Option DriveNumber) (k i v : ℕ) (s : State) → Put target number k i v s (written_in number target k i v s)
 put target number k i v s = grind arith
-
-by_kind : (b : Bool) (d : Image) (bytes : List ℕ) → (if b then record d { bytes = bytes } else d).kind ≡ d.kind
-by_kind true d bytes = refl
-by_kind false d bytes = refl
 
 same_kind : (side track sector i v : ℕ) (d : Image) → (byte_put side track sector i v d).kind ≡ d.kind
 same_kind side track sector i v d = grind arith
