@@ -1,8 +1,8 @@
 -- Read address, event by event.
 use Rattle.std.proofs.Common.{◌≡◌, ◌∙◌, sym, ap, subst, refl, ℕ, ◌+◌, ◌-◌, ◌*◌, ◌/◌, ◌%◌, ◌<◌, ◌≤◌, ◌==◌, ◌&&◌, min, Bool, true, false, List, [], ◌∷◌, ◌++◌}
 use Rattle.std.proofs.Common.{take, arith, inl, inr}
-use Rattle.std.specs.Prelude.{Option, None, Some, nat_lt, nat_le, slice_index, if◌then◌else◌}
-use Rattle.std.proofs.lemmas.Bool.{cases_eq, cases_lt, eq-eqb, ne_eqb, lt-ltb, le-ltb, le-leb, lt-leb, and_parts, and_right, true≢false}
+use Rattle.std.specs.Prelude.{Option, Some, nat_lt, nat_le, slice_index, if◌then◌else◌}
+use Rattle.std.proofs.lemmas.Bool.{cases_eq, cases_lt, eq-eqb, ne_eqb, lt-ltb, le-ltb, le-leb, lt-leb, true≢false}
 use Rattle.std.proofs.lemmas.List.{append-nil}
 use Rattle.disc_image.specs.Image.{Image}
 use Rattle.wd1770.specs.declared.drive.Target.{Target}
@@ -16,7 +16,7 @@ use Rattle.wd1770.specs.Addresses.{address_of, is_address, address_bytes, addres
 use Rattle.wd1770.specs.Commands.{command_of}
 use Rattle.wd1770.specs.Registers.{read_leaves, write_leaves}
 use Rattle.wd1770.specs.Step.{next_angle, command_step, work_leaves, step}
-use Rattle.wd1770.specs.History.{Event, happens, microsecond, read, write, latch, history, count_steps}
+use Rattle.wd1770.specs.History.{Event, happens, history, count_steps}
 use Rattle.law_chips.specs.SectorReads.{bytes_taken}
 use Rattle.law_chips.specs.Searches.{Waits, AllWait}
 use Rattle.law_chips.specs.LostData.{accesses}
@@ -26,7 +26,7 @@ use Rattle.law_chips.proofs.Streams.{Accessed, IsAccess, is_data, waiting, waits
 use Rattle.law_chips.proofs.Streams.{has_place, Stream, Next, GoesOn, Either, run}
 use Rattle.law_chips.proofs.Streams.{Taking, IsGiven, takes_step, takes_access, takes_first}
 use Rattle.law_chips.proofs.Begun.{begun}
-use Rattle.law_chips.proofs.Waiting.{read_makes, small_angle, Waited, CountsFrom, waits_from}
+use Rattle.law_chips.proofs.Waiting.{small_angle, Waited, CountsFrom, waits_from}
 
 -- a step of the command
 worked : (s : State) (target : Target) (k m : ℕ) → k < 10 → m < 896 → s.command ≡ GivingAddress target k → s.angle ≡ Some (64 * (312 * k) + m) →
@@ -35,10 +35,10 @@ unfolding moved_on
 worked s target k m few inside goes at = grind arith
 
 at_byte : (place : ℕ) → 7 ≤ place → place ≤ 12 → (nat_le 7 place && nat_le place 12) ≡ true
-at_byte place low high = rw (le-leb 7 place low, le-leb place 12 high) refl
+at_byte place low high = rw (le-leb 7 place low, le-leb place 12 high)
 
 before_bytes : (place : ℕ) → place < 7 → (nat_le 7 place && nat_le place 12) ≡ false
-before_bytes place early = rw (lt-leb 7 place early) refl
+before_bytes place early = rw (lt-leb 7 place early)
 
 behind_bytes : (place : ℕ) → 12 < place → (nat_le 7 place && nat_le place 12) ≡ false
 behind_bytes place late = grind arith

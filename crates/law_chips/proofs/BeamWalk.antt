@@ -1,18 +1,18 @@
 -- What each clock draws, and where the beam is then, while no register of the 6845 is written.
 use Rattle.std.proofs.Common.{◌≡◌, ◌∙◌, sym, ap, refl, ℕ, zero, suc, ◌+◌, ◌-◌, ◌*◌, ◌/◌, ◌%◌, ◌<◌, ◌≤◌, ◌==◌, ◌&&◌, ◌⊎◌, Bool, true, false, List, [], ◌∷◌}
-use Rattle.std.proofs.Common.{length, arith, ltb, leb, inl, inr, subst, min, add-one}
+use Rattle.std.proofs.Common.{length, arith, inl, inr, subst, min, add-one}
 use Rattle.std.specs.Prelude.{slice_index, slice_set, if◌then◌else◌}
-use Rattle.std.proofs.lemmas.Bool.{cases_lt, cases_eq, leb-true, ltb-true}
+use Rattle.std.proofs.lemmas.Bool.{cases_lt, cases_eq}
 use Rattle.std.proofs.lemmas.Bool.Decides.{nat_tests}
 use Rattle.std.proofs.lemmas.List.{length-set, get_or-set_same, get_or-set_other}
-use Rattle.std.proofs.lemmas.Nat.{div-add-mod', div-mul-add, mod-mul-add, mod_below, mul-add-lt}
-use Rattle.std.proofs.Math.Nat.{add-mul-mod_self_left, zero-mod, zero-div, mul-add-mod_self_right, mul_comm}
+use Rattle.std.proofs.lemmas.Nat.{div-add-mod', mod-mul-add, mod_below, mul-add-lt}
+use Rattle.std.proofs.Math.Nat.{add-mul-mod_self_left, zero-mod, zero-div, mul-add-mod_self_right}
 use Rattle.raster.specs.Frame.{is_in_frame, dot_set, dots_set, black}
 use Rattle.beeb_bits.specs.Bits.{bit}
 use Rattle.crtc6845.specs.declared.Beam.{Beam}
 use Rattle.crtc6845.specs.State as crtc
 use Rattle.crtc6845.specs.Clock.{beam_of, clock_leaves}
-use Rattle.crtc6845.specs.Laws.{clocks, tells, line_characters, row_lines, frame_lines, frame_clocks, LinesHaveTheirCharacters, SyncComesInEachLine}
+use Rattle.crtc6845.specs.Laws.{clocks, tells, line_characters, frame_lines, frame_clocks, LinesHaveTheirCharacters, SyncComesInEachLine}
 use Rattle.video_ula.specs.State as ula
 use Rattle.video_ula.specs.Pixels.{dots_of}
 use Rattle.saa5050.specs.Shapes.{Font}
@@ -124,10 +124,10 @@ other_one : (left p q x y colour : ℕ) (frame : List ℕ) → Inside left p q �
 other_one left p q x y colour frame here apart = grind (arith, inside, get_or-set_other)
 
 first_apart : (p q x y many : ℕ) → IsApart p q x y (suc many) → IsApart p q x y 1
-first_apart p q x y many h1 = grind arith
+first_apart p q x y many apart = grind arith
 
 rest_apart : (p q x y many : ℕ) → IsApart p q x y (suc many) → IsApart p q (x + 1) y many
-rest_apart p q x y many h1 = grind arith
+rest_apart p q x y many apart = grind arith
 
 pub others : (left p q x y : ℕ) (dots frame : List ℕ) → Inside left p q → IsApart p q x y (length dots) →
     slice_index (dots_set left x y dots frame) (dot_index left p q) ≡ slice_index frame (dot_index left p q)
@@ -327,7 +327,7 @@ pub eight_or_sixteen : (control : ℕ) → (dots_of control ≡ 8) ⊎ (dots_of 
 eight_or_sixteen control = grind arith
 
 fits : (h dots : ℕ) → h < 255 → (dots ≡ 8) ⊎ (dots ≡ 16) → min (h * dots + dots) 4095 ≡ (h + 1) * dots
-fits h dots small h2 = grind arith
+fits h dots small widths = grind arith
 
 nought : (dots : ℕ) → 0 ≡ 0 * dots
 nought dots = omega arith

@@ -1,5 +1,5 @@
 -- Commands that are written: a search up to where its sector begins, and a motion up to its end.
-use Rattle.std.proofs.Common.{◌≡◌, ◌∙◌, sym, ap, subst, refl, ℕ, ◌+◌, ◌-◌, ◌/◌, ◌%◌, ◌<◌, ◌≤◌, ◌==◌, ◌&&◌, Bool, true, false, List, arith, inl, inr, ◌⊎◌, ◌*◌}
+use Rattle.std.proofs.Common.{◌≡◌, ◌∙◌, sym, ap, subst, refl, ℕ, ◌+◌, ◌-◌, ◌/◌, ◌%◌, ◌<◌, ◌≤◌, ◌==◌, ◌&&◌, Bool, true, false, List, arith, inl, inr, ◌*◌}
 use Rattle.std.proofs.Common.{◌||◌, min, max, not}
 use Rattle.std.specs.Prelude.{Some, nat_lt, if◌then◌else◌}
 use Rattle.std.proofs.lemmas.Bool.{cases_lt, eq-eqb, ne_eqb, lt-ltb, le-ltb}
@@ -8,9 +8,9 @@ use Rattle.wd1770.specs.declared.command.Command.{Command}
 use Rattle.wd1770.specs.declared.command.Command.TheVariants.{Idle, Settling, Moving}
 use Rattle.wd1770.specs.declared.command.Transfer.{Transfer}
 use Rattle.wd1770.specs.State.{State}
-use Rattle.wd1770.specs.Select.{is_reset, disc_in, is_single_density, drive_selected, drive_or_0, drive_of, with_drive, head_selected}
+use Rattle.wd1770.specs.Select.{is_reset, disc_in, drive_selected, drive_or_0, drive_of, with_drive, head_selected}
 use Rattle.wd1770.specs.Ends.{is_asking, count_leaves, is_busy}
-use Rattle.wd1770.specs.Sectors.{is_on_disc, search_of, transfer_of, sectors_of}
+use Rattle.wd1770.specs.Sectors.{search_of, transfer_of, sectors_of}
 use Rattle.wd1770.specs.Commands.{command_of, begin_leaves}
 use Rattle.wd1770.specs.Registers.{write_leaves}
 use Rattle.wd1770.specs.Step.{next_angle, command_step, work_leaves}
@@ -33,10 +33,10 @@ use Rattle.law_chips.specs.Motions.{head_steps, motion_time, head_moved, track_c
 -- A command other than Dx, written while there is none.
 pub begun : (v : ℕ) (s : State) → s.command ≡ Idle → is_reset s.latch ≡ false → (v / 16 ≡ 0xD → ⊥) →
     write_leaves 0 v s ≡ count_leaves (is_asking s) (begin_leaves v s)
-begun v s idle live other = rw (live, ne_eqb (v / 16) 0xD other, idle) refl
+begun v s idle live other = rw (live, ne_eqb (v / 16) 0xD other, idle)
 
 sector_command : (v : ℕ) (s : State) → 0x80 ≤ v → v < 0xC0 → command_of v s ≡ sectors_of v s
-sector_command v s low high = rw (le-ltb v 0x80 low, lt-ltb v 0xC0 high) refl
+sector_command v s low high = rw (le-ltb v 0x80 low, lt-ltb v 0xC0 high)
 
 -- what the command is m steps after its writing, with so many to settle
 settling : Transfer → ℕ → ℕ → Command
@@ -48,8 +48,8 @@ settles_down t left = grind arith
 
 settled_is : (b : Bool) (v : ℕ) (s : State) → bit v 2 ≡ b → sectors_of v s ≡ settling (transfer_of v s) (settle_time v) 0
 unfolding settling
-settled_is true v s is = rw is refl
-settled_is false v s is = rw is refl
+settled_is true v s is = rw is
+settled_is false v s is = rw is
 
 over_is : (t : Transfer) (left : ℕ) → settling t left left ≡ search_of t
 unfolding settling
@@ -115,7 +115,7 @@ unfolding counting
 counts m left = grind arith
 
 motion_command : (v : ℕ) (s : State) → v < 0x80 → command_of v s ≡ motion_of v s
-motion_command v s low = rw (lt-ltb v 0x80 low) refl
+motion_command v s low = rw (lt-ltb v 0x80 low)
 
 -- after its writing and some waiting
 waited : (s : State) (v : ℕ) (waits : List Event) (m : Motion) (left : ℕ) → v < 0x80 → IsGiven s waits → motion_of v s ≡ Moving m left → 0 < left →
@@ -214,13 +214,13 @@ arrived s v waits m left low is moves some drive verifies end =
 
 is_restore : (v : ℕ) (s : State) → v < 0x10 → motion_of v s ≡ Moving (motion v false (Becomes 0) (head_selected s) s) (left_of v (head_selected s))
 unfolding motion left_of
-is_restore v s low = rw (lt-ltb v 0x10 low) refl
+is_restore v s low = rw (lt-ltb v 0x10 low)
 
 is_seek : (v : ℕ) (s : State) → 0x10 ≤ v → v < 0x20 →
     motion_of v s ≡ Moving (motion v (nat_lt s.track s.byte) (Becomes s.byte) (max s.byte s.track - min s.byte s.track) s)
     (left_of v (max s.byte s.track - min s.byte s.track))
 unfolding motion left_of
-is_seek v s low high = rw (le-ltb v 0x10 low, lt-ltb v 0x20 high) refl
+is_seek v s low high = rw (le-ltb v 0x10 low, lt-ltb v 0x20 high)
 
 -- the direction of a command of one step
 inward_by : ℕ → State → Bool
@@ -250,13 +250,13 @@ some_left v n = omega arith
 -- the time by which command it is
 time_of_restore : (v : ℕ) (s : State) → v < 0x10 → motion_time v s ≡ left_of v (head_selected s)
 unfolding left_of
-time_of_restore v s low = rw (lt-ltb v 0x10 low) refl
+time_of_restore v s low = rw (lt-ltb v 0x10 low)
 
 steps_of_seek : (v : ℕ) (s : State) → 0x10 ≤ v → v < 0x20 → head_steps v s ≡ max s.byte s.track - min s.byte s.track
-steps_of_seek v s low high = rw (le-ltb v 0x10 low, lt-ltb v 0x20 high) refl
+steps_of_seek v s low high = rw (le-ltb v 0x10 low, lt-ltb v 0x20 high)
 
 steps_of_step : (v : ℕ) (s : State) → 0x20 ≤ v → head_steps v s ≡ 1
-steps_of_step v s low = rw (le-ltb v 0x10 (omega arith), le-ltb v 0x20 low) refl
+steps_of_step v s low = rw (le-ltb v 0x10 (omega arith), le-ltb v 0x20 low)
 
 time_by : (v n : ℕ) (s : State) → head_steps v s ≡ n → motion_time v s ≡ left_of v n
 unfolding left_of

@@ -1,8 +1,8 @@
 -- The style of a row by its codes.
-use Rattle.std.proofs.Common.{◌≡◌, ◌∙◌, sym, ap, subst, refl, ℕ, ◌+◌, ◌-◌, ◌%◌, ◌<◌, ◌≤◌, ◌==◌, ◌&&◌, ◌||◌, not, Bool, true, false, List, [], ◌∷◌, reverse}
-use Rattle.std.proofs.Common.{arith, inl, inr}
+use Rattle.std.proofs.Common.{◌≡◌, ◌∙◌, sym, ap, refl, ℕ, ◌+◌, ◌%◌, ◌<◌, ◌≤◌, ◌==◌, ◌&&◌, ◌||◌, not, Bool, true, false, List, [], ◌∷◌, reverse}
+use Rattle.std.proofs.Common.{arith}
 use Rattle.std.specs.Prelude.{Option, None, Some, nat_lt, nat_le, if◌then◌else◌}
-use Rattle.std.proofs.lemmas.Bool.{cases_lt, ne_eqb, le-ltb, lt-leb, ltb-true, and_right, and_parts}
+use Rattle.std.proofs.lemmas.Bool.{le-ltb, lt-leb, ltb-true, and_right, and_parts}
 use Rattle.std.proofs.lemmas.List.{reverse-reverse}
 use Rattle.std.proofs.lemmas.Grind.{reverse_onto}
 use Rattle.std.proofs.lemmas.Bool.Decides.{nat_tests}
@@ -10,7 +10,7 @@ use Rattle.saa5050.specs.declared.style.Style.{Style}
 use Rattle.saa5050.specs.declared.style.Sixel.{Sixel}
 use Rattle.saa5050.specs.Shapes.{Font}
 use Rattle.saa5050.specs.Controls.{Control, controls, effect_of, holds_at_once}
-use Rattle.saa5050.specs.Row.{is_sixel, sixel_of, with_held_shape, style_after, style_at, row_of, styled_cell}
+use Rattle.saa5050.specs.Row.{is_sixel, sixel_of, style_after, style_at, row_of, styled_cell}
 use Rattle.saa5050.specs.Laws.{OneCodeMore}
 use Rattle.law_chips.specs.TeletextCells.{is_letters, is_colour, colour, in_graphics, is_flashing, is_double, is_separated, is_holding, is_concealed}
 use Rattle.law_chips.specs.TeletextCells.{background}
@@ -114,9 +114,6 @@ no_control (c ∷ cs) code low high =
     let above : c.last < code = below c.last code parts.0 high in
     ap (λ b. if b then c.at_once else holds_at_once cs code) (and_right (nat_le c.first code) (nat_le code c.last) (lt-leb code c.last above))
     ∙ no_control cs code parts.1 high
-
-no_change : (code : ℕ) (double : Bool) → 0x20 ≤ code → changes_height code double ≡ false
-no_change code double high = grind arith
 
 is_not : (code n : ℕ) → nat_lt n 0x20 ≡ true → 0x20 ≤ code → (code == n) ≡ false
 is_not code n low high = grind arith

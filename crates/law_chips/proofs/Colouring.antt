@@ -1,6 +1,6 @@
 -- The colours of both frames, clock by clock.
 use Rattle.std.proofs.Common.{ℕ, ◌+◌, ◌-◌, ◌*◌, ◌/◌, ◌%◌, ◌<◌, ◌&&◌, Bool, true, false, List, [], ◌∷◌, map, arith}
-use Rattle.std.specs.Prelude.{⊤, slice_index, slice_index_or, slice_set, nat_lt, if◌then◌else◌}
+use Rattle.std.specs.Prelude.{⊤, slice_index, slice_index_or, slice_set, if◌then◌else◌}
 use Rattle.std.specs.List.{range_with_len}
 use Rattle.std.proofs.lemmas.List.Elements.{All-head, All-tail, All-set, All-replicate, All-map, All-take}
 use Rattle.std.proofs.lemmas.Nat.{xor_lt}
@@ -9,17 +9,17 @@ use Rattle.beeb_bits.specs.Zeros.{zeros}
 use Rattle.crtc6845.specs.declared.Beam.{Beam}
 use Rattle.crtc6845.specs.Clock.{beam_of, clock_leaves}
 use Rattle.video_ula.specs.State as ula
-use Rattle.video_ula.specs.Pixels.{dots_of, pixel_width, shifted_byte, entry_of, colour_of, under_cursor, dot_colour}
+use Rattle.video_ula.specs.Pixels.{dots_of, colour_of, under_cursor, dot_colour}
 use Rattle.saa5050.specs.declared.style.Style.{Style}
 use Rattle.saa5050.specs.Shapes.{Font}
-use Rattle.saa5050.specs.Controls.{Control, controls, has, effect_of, holds_at_once}
-use Rattle.saa5050.specs.Row.{Row, row_start, is_sixel, style_at, style_after, cell_dot, pixel}
+use Rattle.saa5050.specs.Controls.{Control, controls, has, effect_of}
+use Rattle.saa5050.specs.Row.{Row, style_at, style_after, cell_dot, pixel}
 use Rattle.raster.specs.Frame.{black, is_in_frame, dot_set, dots_set}
-use Rattle.raster.specs.Beam.{byte_address, is_marked}
-use Rattle.raster.specs.Text.{Text, first_row, next_row, text_at, codes_after, cell_of, text_past}
-use Rattle.raster.specs.State.{State, power_on}
+use Rattle.raster.specs.Beam.{byte_address}
+use Rattle.raster.specs.Text.{Text, text_at, codes_after, cell_of, text_past}
+use Rattle.raster.specs.State.{State}
 use Rattle.raster.specs.Clock.{begin_leaves, byte_dots, cell_dots, draw_byte_leaves, draw_cell_leaves, draw_leaves, show_leaves, tell_leaves, char_clock_leaves}
-use Rattle.law_chips.specs.PictureRuns.{Move, clock, step, new_crtc, new_ula, after_move, after_moves}
+use Rattle.law_chips.specs.PictureRuns.{Move, after_move, after_moves}
 use Rattle.law_chips.specs.Colours.{AreColours, DotsAreColours}
 
 -- a colour from 0 to 7

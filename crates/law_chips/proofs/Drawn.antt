@@ -1,8 +1,8 @@
 -- The dots of the frame that is drawn and of the one that is finished, while no register is written.
 use Rattle.std.proofs.Common.{◌≡◌, ◌∙◌, sym, ap, refl, ℕ, zero, suc, ◌+◌, ◌-◌, ◌*◌, ◌/◌, ◌%◌, ◌<◌, ◌≤◌, ◌⊎◌, Bool, true, false, min, List, length, arith, inl}
-use Rattle.std.proofs.Common.{inr, map, ◌==◌, ◌&&◌, true≢false}
+use Rattle.std.proofs.Common.{inr, map, ◌==◌, ◌&&◌}
 use Rattle.std.specs.Prelude.{slice_index, if◌then◌else◌, replicate, nat_le, nat_lt}
-use Rattle.std.proofs.lemmas.Bool.{cases_lt, cases_eq}
+use Rattle.std.proofs.lemmas.Bool.{cases_eq}
 use Rattle.std.proofs.lemmas.List.{length-replicate, get_or-replicate}
 use Rattle.std.proofs.lemmas.Nat.{div-add-mod', mod_below}
 use Rattle.std.proofs.Math.Nat.{zero-mod, mul-mod_left}
@@ -20,13 +20,12 @@ use Rattle.law_chips.proofs.BeamWalk.{added, test_true, test_false, differs, Ins
 use Rattle.law_chips.proofs.BeamWalk.{frame_at, clock, dots_at, same_ula}
 use Rattle.law_chips.proofs.BeamWalk.{Laws, place_in, eight_or_sixteen, sync_in_frame, frame_sync, column_walk, line_walk}
 use Rattle.std.specs.List.{range_with_len}
-use Rattle.std.proofs.lemmas.List.FromFn.{length-map-range_with_len, get_or-map-range_with_len}
+use Rattle.std.proofs.lemmas.List.FromFn.{get_or-map-range_with_len}
 use Rattle.beeb_bits.specs.Bits.{bit}
 use Rattle.crtc6845.specs.Pictures.{ShownAddressesCount}
 use Rattle.video_ula.specs.State as ula
 use Rattle.raster.specs.Beam.{Cursor, byte_address, cursor_past, is_marked}
 use Rattle.raster.specs.Clock.{byte_dots}
-use Rattle.std.proofs.lemmas.Bool.Decides.{nat_tests}
 
 -- Each character that is shown draws these dots, the first of which is at the beam's place, in a frame that begins at this dot of a line.
 pub record Shows (left : ℕ) (ram : ℕ → List ℕ) (size : ℕ → ℕ) (font : Font) (s : State) (dots : ℕ → List ℕ) : Type 0 where
@@ -62,7 +61,7 @@ stays_if false left p q x y dots frame here apart = refl
 
 -- another character of the same line, or one of another line, is elsewhere
 columns_apart : (a b dots d : ℕ) → (a ≡ b → ⊥) → d < dots → (dots ≡ 8) ⊎ (dots ≡ 16) → (a * dots + d < b * dots) ⊎ (b * dots + dots ≤ a * dots + d)
-columns_apart a b dots d other within h3 = grind arith
+columns_apart a b dots d other within widths = grind arith
 
 same_line : (w u j : ℕ) → 0 < w → (u + j) / w ≡ u / w → j < w
 same_line w u j some same = grind arith
@@ -288,7 +287,7 @@ cursor_was ram size font s n three =
   where
     cursors : (a x b y z : Bool) → a ≡ x → b ≡ y →
         ◌≡◌ {A = Cursor} (record { one_ago = a; two_ago = b; three_ago = z }) (record { one_ago = x; two_ago = y; three_ago = z })
-    cursors a x b y z p q = rw (p, q) refl
+    cursors a x b y z p q = rw (p, q)
 
 -- a dot of the character of clock n is of the colour of its byte
 colour_is : ShownAddressesCount → CharactersAreShown → (ram : ℕ → List ℕ) (size : ℕ → ℕ) (font : Font) (s : State) (n d : ℕ) →
@@ -338,7 +337,7 @@ and_second true b e is = e
 and_second false b e is = cc
 
 both_true : (a b c : Bool) → a ≡ true → b ≡ true → c ≡ true → (a && b && c) ≡ true
-both_true a b c h i j = rw (h, i, j) refl
+both_true a b c h i j = rw (h, i, j)
 
 elsewhere : (l x p q dots : ℕ) → q < 296 → (l == q && nat_le x p && nat_lt p (x + dots)) ≡ false → IsApart p q x (min l 1023) dots
 elsewhere l x p q dots bottom other = grind arith

@@ -1,13 +1,12 @@
 -- The latches of the 6522, its edges and ports, its flags, and the bytes that show them.
-use Rattle.std.proofs.Common.{◌≡◌, ◌∙◌, refl, ◌&&◌, ◌||◌, Bool, true, false, not, List, [], ◌∷◌, map, sym, ℕ, ◌<◌, subst, arith, ap, zero, suc, ◌-◌, ◌/◌, ◌%◌}
+use Rattle.std.proofs.Common.{◌≡◌, ◌∙◌, refl, ◌&&◌, ◌||◌, Bool, true, false, not, List, [], ◌∷◌, map, sym, ℕ, ◌<◌, arith, ap, ◌-◌}
 use Rattle.std.proofs.Common.{◌==◌, min, max, inl, inr, ◌+◌, ◌*◌}
 use Rattle.beeb_bits.specs.Bits.{bit, weight}
 use Rattle.via6522.specs.declared.Pins.{Pins}
-use Rattle.via6522.specs.Lines.{is_edge, ca1_edge, ca2_edge, cb1_edge, cb2_edge}
+use Rattle.via6522.specs.Lines.{is_edge}
 use Rattle.via6522.specs.Step.{step}
 use Rattle.law_chips.specs.Edges.{has_active, Ca1Sees, Ca2Sees, Cb1Sees, Cb2Sees}
-use Rattle.via6522.specs.State.{State, Timer1, Timer2, power_on, Causes}
-use Rattle.via6522.specs.Timers.{timer1_after, timer2_after, timer1_flags, timer2_flags}
+use Rattle.via6522.specs.State.{State, power_on, Causes}
 use Rattle.via6522.specs.Registers.{read_leaves, write_leaves, port, answer_of, asks, causes_byte, set_marked, clear_marked}
 use Rattle.law_chips.specs.ViaBytes.{Move, microsecond, read, write, after_move, after_moves, WritesByte, WriteBytes, HasByteLatches, LatchesAreBytes}
 use Rattle.std.specs.Prelude.{bit_and, bit_or, if◌then◌else◌}

@@ -17,7 +17,7 @@ use Rattle.law_chips.proofs.Waiting.{read_makes}
 use Rattle.law_chips.proofs.Streams.{of_three}
 
 forced : (s : State) (v : ℕ) → is_reset s.latch ≡ false → v / 16 ≡ 0xD → write_leaves 0 v s ≡ count_leaves (is_asking s) (force_leaves v s)
-forced s v live is = rw (live, eq-eqb (v / 16) 0xD is) refl
+forced s v live is = rw (live, eq-eqb (v / 16) 0xD is)
 
 -- no command, and INTRQ
 record Rests (asks : Bool) (s : State) : Type 0 where

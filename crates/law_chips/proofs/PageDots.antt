@@ -1,30 +1,27 @@
 -- The dots of the finished frame in teletext mode, while no register is written.
-use Rattle.std.proofs.Common.{◌≡◌, ◌∙◌, sym, ap, subst, refl, ℕ, zero, suc, ◌+◌, ◌-◌, ◌/◌, ◌%◌, ◌<◌, ◌≤◌, ◌⊎◌, Bool, true, false, min, map, List, [], ◌∷◌}
+use Rattle.std.proofs.Common.{◌≡◌, ◌∙◌, sym, ap, subst, refl, ℕ, zero, suc, ◌+◌, ◌-◌, ◌/◌, ◌%◌, ◌<◌, ◌≤◌, ◌⊎◌, Bool, true, false, map, List, ◌∷◌}
 use Rattle.std.proofs.Common.{length}
 use Rattle.std.proofs.Common.{reverse, arith, inl, inr}
-use Rattle.std.specs.Prelude.{slice_index, nat_lt, nat_le, if◌then◌else◌}
-use Rattle.std.proofs.lemmas.Bool.{ltb-true, lt-ltb, and_parts, and_from}
-use Rattle.std.proofs.lemmas.List.{get_or-take, get_or-map, length-take, length-map, reverse-reverse}
-use Rattle.std.proofs.lemmas.List.FromFn.{length-map-range_with_len}
+use Rattle.std.specs.Prelude.{slice_index, if◌then◌else◌}
+use Rattle.std.proofs.lemmas.List.{get_or-take, get_or-map, reverse-reverse}
 use Rattle.std.proofs.lemmas.Grind.{reverse_onto}
-use Rattle.std.proofs.Math.Nat.{zero-mod}
 use Rattle.beeb_bits.specs.Bits.{bit}
 use Rattle.crtc6845.specs.declared.Beam.{Beam}
 use Rattle.crtc6845.specs.State as crtc
-use Rattle.crtc6845.specs.Clock.{beam_of, clock_leaves}
-use Rattle.crtc6845.specs.Laws.{tells, line_characters, row_lines, frame_lines}
-use Rattle.crtc6845.specs.Pictures.{row_at, column_at, ShownAddressesCount}
+use Rattle.crtc6845.specs.Clock.{beam_of}
+use Rattle.crtc6845.specs.Laws.{tells, line_characters}
+use Rattle.crtc6845.specs.Pictures.{column_at, ShownAddressesCount}
 use Rattle.video_ula.specs.State as ula
 use Rattle.video_ula.specs.Pixels.{dots_of, under_cursor}
 use Rattle.saa5050.specs.Shapes.{Font}
-use Rattle.saa5050.specs.Row.{Row, row_start, row_after, row_of, style_at, cell_dot, pixel, cell}
+use Rattle.saa5050.specs.Row.{Row, row_start, row_after, row_of, cell}
 use Rattle.saa5050.specs.Laws.{OneCodeMore}
 use Rattle.raster.specs.Frame.{dots_set}
 use Rattle.raster.specs.Beam.{Cursor, place_at, byte_address, is_marked}
-use Rattle.raster.specs.Text.{Text, text_at, codes_after, cell_of, text_after, next_row, first_row, text_past}
+use Rattle.raster.specs.Text.{Text, text_at, codes_after, cell_of, text_after, text_past}
 use Rattle.raster.specs.State.{State}
-use Rattle.raster.specs.Clock.{begin_leaves, cell_dots, draw_byte_leaves, draw_cell_leaves, char_clock_leaves}
-use Rattle.law_chips.specs.ShownBytes.{char_clocks, character_address, raster_at, is_shown_at, cursor_before, is_marked_at, CharactersAreShown, MakesFrames}
+use Rattle.raster.specs.Clock.{cell_dots, char_clock_leaves}
+use Rattle.law_chips.specs.ShownBytes.{char_clocks, raster_at, is_shown_at, cursor_before, is_marked_at, CharactersAreShown, MakesFrames}
 use Rattle.law_chips.specs.TeletextCells.{pixels_of, CellsShowTheirCodes}
 use Rattle.law_chips.specs.TeletextFrames.{code_at, codes_before, cell_at, FramesShowTheirCells, RestOfPageIsBlack}
 use Rattle.law_chips.proofs.BeamWalk.{next_place, test_true, test_false}
@@ -149,7 +146,7 @@ cell_length : (font : Font) (code ra : ℕ) (lower : Bool) (fields : ℕ) (row :
 cell_length font code ra lower fields row = grind arith
 
 within_sixteen : (dots d : ℕ) → (dots ≡ 8) ⊎ (dots ≡ 16) → d < dots → d < 16
-within_sixteen dots d h1 h = grind arith
+within_sixteen dots d widths within = grind arith
 
 told_many : (ram : List ℕ) (size : ℕ) (font : Font) (b : Beam) (s : State) → length (told_dots ram size font b s) ≡ dots_of s.ula.control
 unfolding told_dots told_code cell_of

@@ -1,8 +1,8 @@
 -- A register of the Tube, event by event.
-use Rattle.std.proofs.Common.{◌≡◌, ◌∙◌, sym, ap, subst, refl, ℕ, zero, suc, ◌+◌, ◌-◌, ◌*◌, ◌/◌, ◌%◌, ◌<◌, ◌≤◌, ◌==◌, ◌&&◌, ◌||◌, Bool, true, false, not, List}
-use Rattle.std.proofs.Common.{[], ◌∷◌, ◌++◌, length, arith, inl, inr}
+use Rattle.std.proofs.Common.{◌≡◌, ◌∙◌, sym, ap, refl, ℕ, ◌-◌, ◌*◌, ◌%◌, ◌<◌, ◌≤◌, ◌==◌, ◌&&◌, ◌||◌, Bool, true, false, not, List}
+use Rattle.std.proofs.Common.{[], ◌∷◌, ◌++◌, arith, inl, inr}
 use Rattle.std.specs.Prelude.{Option, None, Some, is_some, nat_lt, if◌then◌else◌}
-use Rattle.std.proofs.lemmas.Bool.{cases_eq, eq-eqb, ne_eqb, eqb-true, eqb-false, lt-ltb, cases_Bool, or_parts, true≢false, false≢true}
+use Rattle.std.proofs.lemmas.Bool.{ne_eqb, eqb-true, cases_Bool}
 use Rattle.std.proofs.lemmas.List.{append-nil, append_assoc}
 use Rattle.beeb_bits.specs.Bits.{bit}
 use Rattle.std.proofs.lemmas.Grind.{common_steps}
@@ -10,9 +10,9 @@ use Rattle.beeb_bits.specs.declared.Side.{Side}
 use Rattle.beeb_bits.specs.declared.Side.TheVariants.{Host, Para}
 use Rattle.tube_chip.specs.declared.Op.TheVariants.{Read, Write, Reset}
 use Rattle.tube_chip.specs.declared.Answer.{Answer}
-use Rattle.tube_chip.specs.Register.{Register, empty, holds, held_bytes, count, front_of, take_leaves, write_leaves}
+use Rattle.tube_chip.specs.Register.{Register, held_bytes, count, front_of, take_leaves, write_leaves}
 use Rattle.tube_chip.specs.State.{State, Flags, Bank, register, with_register, incoming_bank, capacity, is_empty, power_on, clear_leaves}
-use Rattle.tube_chip.specs.Act.{Query, access, look, is_status, register_number, flags_after, answer_of, control_leaves, read_by, written_by, status_written}
+use Rattle.tube_chip.specs.Act.{Query, access, look, is_status, register_number, flags_after, answer_of, control_leaves, read_by, written_by}
 use Rattle.tube_chip.specs.Act.{op_leaves, with_counts, chip_after, act}
 use Rattle.tube_chip.specs.Events.{Event, after_from}
 use Rattle.law_chips.specs.Queues.{reader, queue, byte_number, byte_sent, clears, destroys, byte_shown, is_read, read_out, the_byte, written_in}
@@ -57,7 +57,7 @@ record Balance (z : Bool) (s : Option ℕ) (r : Bool) (room : ℕ) (shown made :
 
 balanced : {z z' : Bool} {s s' : Option ℕ} {r : Bool} {room : ℕ} {shown made : List ℕ} {q after after' : Register} →
     z ≡ z' → s ≡ s' → after ≡ after' → Balance z' s' r room shown made q after' → Balance z s r room shown made q after
-balanced h1 h2 h3 h4 = grind arith
+balanced ez es ea balance = grind arith
 
 nothing_comes : (b : Bool) (bytes : List ℕ) → bytes ≡ bytes ++ (if b then [] else [])
 nothing_comes b bytes = grind (arith, append-nil)
@@ -344,8 +344,8 @@ all_kept from k c (e ∷ events) lk hk may answered keeps =
 
 -- register 1 to the host is for 24 bytes
 fifo_keeps : (z a b : Bool) → z ≡ false → (z || (a && (false && b))) ≡ false
-fifo_keeps z true b stays = rw stays refl
-fifo_keeps z false b stays = rw stays refl
+fifo_keeps z true b stays = rw stays
+fifo_keeps z false b stays = rw stays
 
 fifo_destroys_nothing : (c : State) (events : List Event) → ClearsNothing events → DestroysNothing Para 1 c events
 fifo_destroys_nothing c [] clear = tt

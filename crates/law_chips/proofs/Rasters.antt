@@ -7,7 +7,7 @@ use Rattle.crtc6845.specs.declared.Beam.{Beam}
 use Rattle.crtc6845.specs.State.{Registers, State, power_on}
 use Rattle.crtc6845.specs.Registers.{write_leaves}
 use Rattle.crtc6845.specs.Clock.{beam_of, clock_leaves, start_leaves, count_leaves, is_interlaced, raster_step, last_raster, starts_line, begins_sync}
-use Rattle.crtc6845.specs.Clock.{sync_counted, sync_begun, is_shown, ends_line, is_row_done, are_rows_done, is_last_line_in, is_last_line, ends_frame}
+use Rattle.crtc6845.specs.Clock.{sync_counted, sync_begun, is_shown, ends_line, is_row_done, is_last_line_in, is_last_line, ends_frame}
 use Rattle.crtc6845.specs.Clock.{frame_begun, adjust_begun, row_begun, raster_begun, row_line_ended, adjust_line_ended, line_ended_in, line_ended}
 use Rattle.crtc6845.specs.Laws.{HaveTheirBits, clocks, line_characters, row_lines, frame_lines, BeginsFrame, LinesHaveTheirCharacters, FramesHaveTheirClocks}
 use Rattle.saa5050.specs.Shapes.{Font}
@@ -114,10 +114,10 @@ pub kept : (c : State) → IsKept c (start_leaves c)
 kept c = kept_by (starts_line c) (begins_sync (sync_counted c)) c
 
 inner_is : (d : State) → ends_line d ≡ false → count_leaves d ≡ record d { character = (d.character + 1) % 256 }
-inner_is d h = rw h refl
+inner_is d h = rw h
 
 last_is : (d : State) → ends_line d ≡ true → count_leaves d ≡ line_ended d
-last_is d h = rw h refl
+last_is d h = rw h
 
 -- ---- The character of the line.
 
@@ -225,14 +225,14 @@ rows_line : (c : State) → is_row_done c ≡ true → (c.row == c.registers.ver
 rows_line c done all other = grind arith
 
 row_line : (c : State) → is_row_done c ≡ true → (c.row == c.registers.vertical_total) ≡ false → row_line_ended c ≡ row_begun c
-row_line c done other = rw (done, other) refl
+row_line c done other = rw (done, other)
 
 raster_line : (c : State) → is_row_done c ≡ false → row_line_ended c ≡ raster_begun c
-raster_line c other = rw other refl
+raster_line c other = rw other
 
 adjust_line : (c : State) (a : ℕ) → ((a + 1) % 32 == c.registers.vertical_adjust) ≡ false →
     adjust_line_ended a c ≡ record c { adjust = Some ((a + 1) % 32) }
-adjust_line c a other = rw other refl
+adjust_line c a other = rw other
 
 -- a line among the rows ends, and the frame does not
 row_goes_on : (l : ℕ) (c : State) → HaveTheirBits c.registers → InRow c.registers l c.adjust c.row c.raster → is_last_line_in None c ≡ false →
@@ -370,10 +370,10 @@ and_false false = refl
 
 shown_by : (r : Registers) (l h : ℕ) (c : State) → c.registers ≡ r → c.character ≡ h → IsAt r l c →
     is_shown c ≡ (nat_lt h r.horizontal_displayed && nat_lt (l / row_lines r) r.vertical_displayed && nat_le (l / row_lines r) r.vertical_total)
-shown_by r l h c regs column h3 = grind (arith, div_below, nat_tests, le-div, and_false)
+shown_by r l h c regs column at = grind (arith, div_below, nat_tests, le-div, and_false)
 
 raster_by : (r : Registers) (l : ℕ) (c : State) → IsAt r l c → is_shown c ≡ true → c.raster ≡ l % row_lines r * raster_step r
-raster_by r l c h1 is = grind arith
+raster_by r l c at is = grind arith
 
 pub characters_are_shown : LinesHaveTheirCharacters → FramesHaveTheirClocks → CharactersAreShown
 characters_are_shown lines frames = record {

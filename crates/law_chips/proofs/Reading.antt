@@ -1,26 +1,23 @@
 -- A sector that is read, event by event.
 use Rattle.std.proofs.Common.{◌≡◌, ◌∙◌, sym, ap, subst, refl, ℕ, ◌+◌, ◌-◌, ◌*◌, ◌/◌, ◌%◌, ◌<◌, ◌≤◌, Bool, true, false, List, [], length, take, arith, inl}
 use Rattle.std.proofs.Common.{inr}
-use Rattle.std.specs.Prelude.{Option, None, Some, unwrap_or, nat_lt, nat_le, slice_index, if◌then◌else◌}
-use Rattle.std.proofs.lemmas.Bool.{cases_eq, cases_lt, eq-eqb, ne_eqb, lt-ltb, le-ltb, le-leb, lt-leb, and_parts, and_right, ltb-true}
+use Rattle.std.specs.Prelude.{Option, None, Some, slice_index, if◌then◌else◌}
+use Rattle.std.proofs.lemmas.Bool.{cases_eq, cases_lt, eq-eqb, ne_eqb, lt-ltb, le-leb, lt-leb}
 use Rattle.std.proofs.lemmas.List.{take_all}
-use Rattle.std.proofs.lemmas.List.FromFn.{length-map-range_with_len}
-use Rattle.disc_image.specs.Image.{Image, has_sector, place, byte_at, sector_of, sector_bytes}
-use Rattle.wd1770.specs.declared.drive.Drive.{Drive}
+use Rattle.disc_image.specs.Image.{Image, place, sector_of}
 use Rattle.wd1770.specs.declared.drive.DriveNumber.{DriveNumber}
-use Rattle.wd1770.specs.declared.drive.DriveNumber.TheVariants.{Drive0, Drive1}
-use Rattle.wd1770.specs.declared.command.Command.TheVariants.{Idle, Transferring}
+use Rattle.wd1770.specs.declared.command.Command.TheVariants.{Transferring}
 use Rattle.wd1770.specs.declared.command.Transfer.{Transfer}
 use Rattle.wd1770.specs.State.{State}
 use Rattle.wd1770.specs.Select.{disc_in}
 use Rattle.wd1770.specs.Ends.{finish_leaves}
-use Rattle.wd1770.specs.Sectors.{search_of, places_into, is_byte_place, byte_of_sector, byte_on_disc, reading_at, writing_at, transfer_step}
+use Rattle.wd1770.specs.Sectors.{search_of, places_into, is_byte_place, byte_on_disc, reading_at, transfer_step}
 use Rattle.wd1770.specs.Step.{work_leaves}
 use Rattle.wd1770.specs.History.{Event, history, count_steps}
 use Rattle.law_chips.specs.SectorReads.{sector_steps, bytes_come, AllRead, bytes_taken, IsAtSector, HasBytes, command_behind, SectorIsRead}
 use Rattle.law_chips.proofs.Streams.{reading, runs_all}
 use Rattle.law_chips.proofs.Streams.{Stream, Next, GoesOn}
-use Rattle.law_chips.proofs.Streams.{Taking, IsGiven, takes_step, takes_access, takes_first}
+use Rattle.law_chips.proofs.Streams.{Taking, IsGiven, takes_step, takes_access}
 
 pub same_disc : (number : Option DriveNumber) (s s0 : State) → s.drive0 ≡ s0.drive0 → s.drive1 ≡ s0.drive1 → disc_in number s ≡ disc_in number s0
 same_disc number s s0 a b = grind arith
@@ -57,10 +54,10 @@ reads_is t k angle s reads = grind arith
 
 -- a place within the sector
 pub at_byte : (place : ℕ) → 31 ≤ place → place < 287 → is_byte_place 31 place ≡ true
-at_byte place low high = rw (le-leb 31 place low, lt-ltb place 287 high) refl
+at_byte place low high = rw (le-leb 31 place low, lt-ltb place 287 high)
 
 pub before_bytes : (place : ℕ) → place < 31 → is_byte_place 31 place ≡ false
-before_bytes place early = rw (lt-leb 31 place early) refl
+before_bytes place early = rw (lt-leb 31 place early)
 
 pub behind_bytes : (place : ℕ) → 287 ≤ place → is_byte_place 31 place ≡ false
 behind_bytes place late = grind arith

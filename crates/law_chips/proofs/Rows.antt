@@ -1,26 +1,25 @@
 -- Which rows of a teletext page are the lower ones of double height, clock by clock.
-use Rattle.std.proofs.Common.{◌≡◌, ◌∙◌, sym, ap, subst, refl, ℕ, zero, suc, ◌+◌, ◌*◌, ◌/◌, ◌%◌, ◌<◌, ◌≤◌, ◌==◌, ◌&&◌, ◌||◌, ◌⊎◌, not, Bool, true, false, List}
+use Rattle.std.proofs.Common.{◌≡◌, ◌∙◌, sym, ap, subst, refl, ℕ, zero, suc, ◌+◌, ◌*◌, ◌/◌, ◌%◌, ◌<◌, ◌≤◌, ◌==◌, ◌&&◌, ◌⊎◌, not, Bool, true, false, List}
 use Rattle.std.proofs.Common.{add-one, arith}
 use Rattle.std.proofs.Common.{inl, inr, true≢false}
-use Rattle.std.specs.Prelude.{is_none, if◌then◌else◌}
-use Rattle.std.proofs.lemmas.Bool.{cases_lt, cases_eq, eqb-true, eq-eqb}
+use Rattle.std.specs.Prelude.{if◌then◌else◌}
+use Rattle.std.proofs.lemmas.Bool.{cases_Bool, cases_lt, cases_eq, eqb-true}
 use Rattle.std.proofs.lemmas.Nat.{div-add-mod', le-div}
-use Rattle.std.proofs.Math.Nat.{zero-mod, zero-div, div-mul-le_self}
+use Rattle.std.proofs.Math.Nat.{zero-mod, zero-div}
 use Rattle.beeb_bits.specs.Bits.{bit}
 use Rattle.crtc6845.specs.declared.Beam.{Beam}
 use Rattle.crtc6845.specs.State.{Registers, State as Crtc}
-use Rattle.crtc6845.specs.Clock.{is_interlaced, last_raster, start_leaves, ends_line, is_row_done, is_last_line, ends_row}
+use Rattle.crtc6845.specs.Clock.{start_leaves, ends_line, is_last_line, ends_row}
 use Rattle.crtc6845.specs.Laws.{clocks, tells, line_characters, row_lines, frame_lines, HaveTheirBits, LinesHaveTheirCharacters, FramesHaveTheirClocks}
 use Rattle.crtc6845.specs.Pictures.{line_at, row_at, ShownAddressesCount}
 use Rattle.saa5050.specs.Shapes.{Font}
-use Rattle.saa5050.specs.Row.{Row, row_start}
 use Rattle.raster.specs.Text.{Text, text_at, codes_after, text_after, next_row, first_row, text_past}
 use Rattle.raster.specs.State.{State}
 use Rattle.law_chips.specs.ShownBytes.{char_clocks, CharactersAreShown, MakesFrames}
 use Rattle.law_chips.specs.TeletextFrames.{frame_index, IsAbove, Doubles, is_lower, LowerRowsFollow}
 use Rattle.law_chips.proofs.BeamWalk.{next_place, test_true, test_false}
-use Rattle.law_chips.proofs.Rasters.{frame_some, and_left, and_false, at_clock, not_last, kept, last_of, HasNext, next_of, InRow, IsAt, walk}
-use Rattle.law_chips.proofs.PageDots.{told_code, told, codes_at, bottom_kept, here}
+use Rattle.law_chips.proofs.Rasters.{frame_some, and_left, and_false, at_clock, not_last, kept, last_of, next_of, InRow, IsAt, walk}
+use Rattle.law_chips.proofs.PageDots.{told_code, told, bottom_kept, here}
 
 -- what the laws of the 6845 say
 pub record Facts : Type 0 where
@@ -58,7 +57,7 @@ Goes c n = (Stays c n ⊎ Steps c n) ⊎ (Begins c n ⊎ Beyond c n)
 
 -- whether a row ends, by the parts of its test
 ends_row_by : (e a d l : Bool) (w x y z : Bool) → e ≡ w → a ≡ x → d ≡ y → l ≡ z → (e && a && d && not l) ≡ (w && x && y && not z)
-ends_row_by e a d l w x y z p q s t = rw (p, q, s, t) refl
+ends_row_by e a d l w x y z p q s t = rw (p, q, s, t)
 
 -- the end of a line among the rows
 row_end_in : (c d : Crtc) (l : ℕ) → d.registers ≡ c.registers → HaveTheirBits c.registers → ends_line d ≡ true → is_last_line d ≡ false →
@@ -68,7 +67,7 @@ row_end_in : (c d : Crtc) (l : ℕ) → d.registers ≡ c.registers → HaveThei
 row_end_in c d l regs bits end goes at = grind (arith, next_place, test_true, last_of, ends_row_by, next_of, test_false)
 
 no_row_end : (d : Crtc) → ends_line d ≡ false → ends_row d ≡ false
-no_row_end d is = rw is refl
+no_row_end d is = rw is
 
 -- clock by clock
 goes : Facts → (c : Crtc) → MakesFrames c → (n : ℕ) → Goes c n
@@ -236,10 +235,6 @@ line_follows facts c makes n inner =
           let inner = not_last c n (at_clock facts.lines c makes.bits makes.begins.character n) o.0 o.1.1 in
           (facts.frames c n makes.bits makes.begins ∙ inner.1, no_row_end (start_leaves (clocks n c)) inner.0)
     ]
-
-bool_is : (b : Bool) → (b ≡ true) ⊎ (b ≡ false)
-bool_is true = inl refl
-bool_is false = inr refl
 
 behind_bottom : (ram : ℕ → List ℕ) (size : ℕ → ℕ) (font : Font) (s : State) (n : ℕ) → (behind ram size font s n).bottom ≡ is_lower ram size font s n
 unfolding behind during
@@ -421,7 +416,7 @@ module _ (facts : Facts) (ram : ℕ → List ℕ) (size : ℕ → ℕ) (font : F
             lower ∙ ap (λ b. not (is_lower ram size font s n) && b) had ∙ and_on (not (is_lower ram size font s n))
             ∙ ap not (sym (holds.row m where_it_is.0 (is.frame ∙ goes.frame) where_it_is.1));
         plain = λ nothing.
-            let off : t.doubled ≡ false = elim (bool_is t.doubled) [
+            let off : t.doubled ≡ false = elim (cases_Bool t.doubled) [
               | inr off ↦ off
               | inl had ↦
                   elim (had_behind n holds had) [

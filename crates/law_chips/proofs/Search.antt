@@ -1,21 +1,18 @@
 -- A search, step by step.
-use Rattle.std.proofs.Common.{◌≡◌, ◌∙◌, sym, ap, subst, refl, ℕ, ◌+◌, ◌-◌, ◌%◌, ◌<◌, ◌≤◌, ◌==◌, ◌&&◌, Bool, true, false, List, [], ◌∷◌, arith, inl, inr}
-use Rattle.std.specs.Prelude.{Option, None, Some, nat_lt, if◌then◌else◌}
-use Rattle.std.proofs.lemmas.Bool.{cases_eq, eq-eqb, ne_eqb, lt-ltb, le-ltb, and_parts, and_from, and_left, and_right, ltb-true}
-use Rattle.disc_image.specs.Image.{Image}
-use Rattle.wd1770.specs.declared.drive.Target.{Target}
+use Rattle.std.proofs.Common.{◌≡◌, ◌∙◌, sym, ap, subst, ℕ, ◌+◌, ◌-◌, ◌%◌, ◌<◌, ◌≤◌, ◌==◌, ◌&&◌, Bool, true, false, List, [], ◌∷◌, arith, inl, inr}
+use Rattle.std.specs.Prelude.{Some, nat_lt, if◌then◌else◌}
+use Rattle.std.proofs.lemmas.Bool.{cases_eq, eq-eqb, le-ltb, and_from, and_left}
 use Rattle.wd1770.specs.declared.command.Command.TheVariants.{Idle, Searching, Transferring}
 use Rattle.wd1770.specs.declared.command.Transfer.{Transfer}
 use Rattle.wd1770.specs.State.{State}
-use Rattle.wd1770.specs.Select.{is_single_density, disc_in}
 use Rattle.wd1770.specs.Ends.{is_asking, count_leaves, not_found}
-use Rattle.wd1770.specs.Sectors.{is_on_disc, is_found, search_step}
+use Rattle.wd1770.specs.Sectors.{is_found, search_step}
 use Rattle.wd1770.specs.Registers.{read_leaves}
-use Rattle.wd1770.specs.Step.{next_angle, command_step, work_leaves, step}
+use Rattle.wd1770.specs.Step.{next_angle, work_leaves, step}
 use Rattle.wd1770.specs.History.{Event, microsecond, read, write, latch, history, count_steps}
 use Rattle.law_chips.specs.Searches.{AllWait, steps_to, sector_angle, has_match, SearchEnds}
 use Rattle.law_chips.proofs.Reading.{same_disc}
-use Rattle.law_chips.proofs.Waiting.{small_angle, read_makes, stays_off, Waited, CountsFrom, one_step, waited_read, at_first, waits_from}
+use Rattle.law_chips.proofs.Waiting.{Waited, CountsFrom, one_step, waited_read, at_first, waits_from}
 
 -- a search m steps after its beginning
 abbrev Going : State → Transfer → ℕ → State → ℕ → Type 0
@@ -138,6 +135,7 @@ runs_on : (s : State) (t : Transfer) (left last : ℕ) (events : List Event) →
 runs_on s t left last events is before none all most =
     (waits_from (λ m. Searching t (left - m)) last s (goes_on s t left last before none) events all most (begins s t left is).command).command
 
+-- a sector that is on a disc begins within a turn
 not_before : (s : State) (t : Transfer) → has_match t s ≡ true → (i : ℕ) → i < (sector_angle s.sector + 200000 - next_angle s.angle) % 200000 → NoneAt s t i
 unfolding NoneAt
 not_before s t has i early = grind arith

@@ -1,20 +1,19 @@
 -- Several sectors in one command, one after the other, that are read or written.
-use Rattle.std.proofs.Common.{◌≡◌, ◌∙◌, sym, ap, subst, refl, ℕ, ◌+◌, ◌-◌, ◌*◌, ◌/◌, ◌%◌, ◌<◌, ◌≤◌, ◌==◌, ◌&&◌, Bool, true, false, List, [], ◌∷◌, ◌++◌, length}
+use Rattle.std.proofs.Common.{◌≡◌, ◌∙◌, sym, ap, subst, refl, ℕ, ◌+◌, ◌-◌, ◌*◌, ◌/◌, ◌%◌, ◌<◌, ◌≤◌, ◌==◌, Bool, true, false, List, [], ◌∷◌, ◌++◌, length}
 use Rattle.std.proofs.Common.{arith, inl, inr, ◌≢◌}
-use Rattle.std.specs.Prelude.{Option, None, Some, nat_lt, if◌then◌else◌, unwrap_or, map}
-use Rattle.std.proofs.lemmas.Bool.{cases_eq, eq-eqb, ne_eqb, lt-ltb, and_parts}
+use Rattle.std.specs.Prelude.{Option, None, Some, if◌then◌else◌, map}
+use Rattle.std.proofs.lemmas.Bool.{cases_eq, eq-eqb, ne_eqb}
 use Rattle.disc_image.specs.declared.Kind.{Kind}
 use Rattle.disc_image.specs.Image.{Image, has_sector, sector_bytes, sides, place, byte_at, sector_of}
 use Rattle.wd1770.specs.declared.command.Command.TheVariants.{Idle, Transferring}
 use Rattle.wd1770.specs.declared.command.Transfer.{Transfer}
 use Rattle.wd1770.specs.State.{State}
 use Rattle.wd1770.specs.Select.{is_single_density, disc_in}
-use Rattle.wd1770.specs.Ends.{is_asking, count_leaves, finish_leaves}
-use Rattle.wd1770.specs.Sectors.{search_of, is_on_disc, is_byte_place, places_into, sector_ended, byte_came, byte_on_disc, reading_at, transfer_step}
+use Rattle.wd1770.specs.Ends.{is_asking, count_leaves}
+use Rattle.wd1770.specs.Sectors.{search_of, is_byte_place, places_into, sector_ended, byte_came, byte_on_disc, reading_at, transfer_step}
 use Rattle.wd1770.specs.Sectors.{written_in, byte_written, writing_at}
-use Rattle.wd1770.specs.Registers.{write_leaves}
 use Rattle.wd1770.specs.Step.{work_leaves, step}
-use Rattle.wd1770.specs.History.{Event, microsecond, read, write, latch, happens, history, count_steps}
+use Rattle.wd1770.specs.History.{Event, happens, history, count_steps}
 use Rattle.law_chips.specs.SectorReads.{AllRead, bytes_taken, IsAtSector, HasBytes, sector_steps}
 use Rattle.law_chips.specs.Searches.{Waits, AllWait, has_match}
 use Rattle.law_chips.specs.SeveralSectors.{Round, round_end, bytes_of, IsTimely, bytes_from, IsReading, Gives, SectorsFollow, AllGive, GivesInTime, IsWriting}
@@ -23,13 +22,11 @@ use Rattle.law_chips.proofs.Reading.{same_disc, at_each, moved_on, worked_is, re
 use Rattle.law_chips.proofs.Streams.{IsAccess, waiting, waits_read, runs_all, Program, writing, writes_let, lets_go}
 use Rattle.law_chips.proofs.Streams.{Taking, takes_step, takes_access}
 use Rattle.law_chips.proofs.Search.{search_found}
-use Rattle.law_chips.proofs.Waiting.{read_makes}
 use Rattle.law_chips.proofs.Timely.{served, whole}
 use Rattle.std.specs.List.{range_with_len}
 use Rattle.std.proofs.lemmas.List.FromFn.{fill_by_all, length-map-range_with_len, get_or-map-range_with_len}
 use Rattle.disc_image.specs.Laws.{IsReadBack, OthersStay}
 use Rattle.wd1770.specs.declared.drive.DriveNumber.{DriveNumber}
-use Rattle.wd1770.specs.declared.drive.DriveNumber.TheVariants.{Drive0, Drive1}
 use Rattle.wd1770.specs.declared.drive.Target.{Target}
 use Rattle.law_chips.specs.SectorWrites.{Writes, AllWritten, given_by, bytes_given}
 use Rattle.law_chips.proofs.Losing.{kept_before}
@@ -114,7 +111,7 @@ reading_leaves t k = record {
       (if place == 288 then sector_ended t s else s)
       (assumption)
       (subst (λ b. Regs s (if b then sector_ended t s else s)) (sym (ne_eqb place 288 other)) (assumption));
-  ends = λ place s end. rw (behind_bytes place (omega arith), eq-eqb place 288 end) refl;
+  ends = λ place s end. rw (behind_bytes place (omega arith), eq-eqb place 288 end);
 }
 
 reads_only : (events : List Event) → AllWait events → AllRead events

@@ -3,20 +3,19 @@
 use Rattle.std.proofs.Common.{◌≡◌, ◌∙◌, sym, ap, subst, refl, ℕ, ◌+◌, ◌<◌, ◌≤◌, ◌==◌, Bool, true, false, List, [], ◌∷◌, ◌++◌, arith, inl, inr, ◌-◌, ◌*◌, ◌/◌}
 use Rattle.std.proofs.Common.{◌%◌, ◌&&◌, ◌||◌, not, ◌⊎◌, min, length, take}
 use Rattle.std.specs.Prelude.{if◌then◌else◌, Some, nat_le, slice_index}
-use Rattle.std.proofs.lemmas.Bool.{cases_eq, ne_eqb, true≢false, cases_lt, eq-eqb, le-leb, lt-leb, or_parts}
+use Rattle.std.proofs.lemmas.Bool.{cases_Bool, cases_eq, ne_eqb, true≢false, cases_lt, eq-eqb, le-leb, or_parts}
 use Rattle.std.proofs.lemmas.List.{append-nil, append_assoc, take_more}
 use Rattle.wd1770.specs.State.{State}
 use Rattle.wd1770.specs.Select.{is_reset}
 use Rattle.wd1770.specs.Ends.{is_asking, count_leaves}
-use Rattle.wd1770.specs.Commands.{latch_leaves, stop_leaves}
-use Rattle.wd1770.specs.Registers.{read_leaves, write_leaves, answer_of}
+use Rattle.wd1770.specs.Commands.{latch_leaves}
+use Rattle.wd1770.specs.Registers.{read_leaves, write_leaves}
 use Rattle.wd1770.specs.Step.{step, work_leaves}
 use Rattle.wd1770.specs.History.{Event, microsecond, read, write, latch, happens, history, count_steps}
 use Rattle.law_chips.specs.SectorReads.{Reads, AllRead, taken_by, bytes_taken, waiting_byte}
 use Rattle.law_chips.specs.SectorWrites.{Writes, AllWritten, given_by, bytes_given}
 use Rattle.law_chips.specs.Searches.{Waits, AllWait}
 use Rattle.law_chips.specs.LostData.{LetsGo, AllLetGo, place_if, accesses}
-use Rattle.law_chips.proofs.Waiting.{read_makes}
 use Rattle.std.specs.List.{list_any}
 use Rattle.std.proofs.Math.Bool.{or-false}
 use Rattle.std.proofs.lemmas.List.Folds.{list_any-append}
@@ -246,10 +245,6 @@ pub record Missed (first l : ℕ) (s : State) (m : ℕ) (ps : List ℕ) : Type 0
   pub over : 64 * (first + byte + 1) ≤ m
   pub missed : has_place (first + byte) ps ≡ false
 
-pub bool_cases : (b : Bool) → (b ≡ true) ⊎ (b ≡ false)
-bool_cases true = inl refl
-bool_cases false = inr refl
-
 -- a command that gives bytes
 pub record Stream : Type 1 where
   pub command : Command
@@ -302,7 +297,7 @@ module _ (f : Stream) where
         command = next.command;
         angle = next.angle;
         kept = now.1 ∙ ap (λ b. b || s.drq) is.kept ∙ off;
-        drq = λ h. now.0 ∙ sym (rw (le-leb f.first ((m + 1) / 64) low, new) refl);
+        drq = λ h. now.0 ∙ sym (rw (le-leb f.first ((m + 1) / 64) low, new));
         served = λ i inside over. elim (cases_lt (m + 1) (64 * (f.first + i + 1) + 1)) [
           | inl last_one ↦
               let here : m / 64 ≡ f.first + i = omega arith in
@@ -350,7 +345,7 @@ module _ (f : Stream) where
                               drq_before s m ps true (omega arith) is (λ h. absurd (omega arith)) (λ h. refl) in
                               fine (comes s (work_leaves s) m ps some place low high off (λ h. absurd (omega arith)) next is)
                           | inr later ↦
-                              elim (bool_cases (has_place (m / 64) ps)) [
+                              elim (cases_Bool (has_place (m / 64) ps)) [
                                 | inl taken ↦
                                     let off : s.drq ≡ false = drq_before s m ps true (omega arith) is (λ h. taken) (λ h. refl) in
                                     fine (comes s (work_leaves s) m ps some place low high off (λ h. taken) next is)
@@ -469,7 +464,7 @@ module _ (f : Stream) (bytes : List ℕ) (s0 : State) where
 
   waits_behind : (s x : State) (m : ℕ) (got : List ℕ) → IsGiven → Next f s x m → Taking s m got →
       x.lost_data ≡ false → got ++ waiting_byte x ≡ take (come f (m + 1)) bytes
-  waits_behind s x m got given next is h4 = grind (arith, waits_on, one_comes)
+  waits_behind s x m got given next is kept = grind (arith, waits_on, one_comes)
 
   -- a step
   pub takes_step : (s : State) (m : ℕ) (got : List ℕ) → IsGiven → m < 64 * f.last → Taking s m got → Taking (step s) (m + 1) got

@@ -1,9 +1,9 @@
 -- Lost data during a sector, and sectors that are read or written in time.
 use Rattle.std.proofs.Common.{◌≡◌, ◌∙◌, sym, ap, subst, refl, ℕ, ◌+◌, ◌-◌, ◌*◌, ◌/◌, ◌%◌, ◌<◌, ◌≤◌, ◌==◌, ◌&&◌, ◌||◌, not, Bool, true, false, List, [], ◌∷◌}
 use Rattle.std.proofs.Common.{◌++◌, arith, inl, inr, ◌⊎◌}
-use Rattle.std.specs.Prelude.{Some, nat_lt, nat_le, if◌then◌else◌, Option}
+use Rattle.std.specs.Prelude.{Some, nat_lt, if◌then◌else◌, Option}
 use Rattle.std.specs.List.{list_any}
-use Rattle.std.proofs.lemmas.Bool.{cases_eq, cases_lt, eq-eqb, ne_eqb, lt-ltb, le-ltb, le-leb, lt-leb, true≢false, and_parts, ltb-true}
+use Rattle.std.proofs.lemmas.Bool.{cases_Bool, cases_eq, cases_lt, eq-eqb, ne_eqb, lt-ltb, le-ltb, lt-leb, true≢false, and_parts, ltb-true}
 use Rattle.std.proofs.lemmas.List.{append-nil}
 use Rattle.wd1770.specs.declared.command.Command.TheVariants.{Transferring}
 use Rattle.wd1770.specs.declared.command.Transfer.{Transfer}
@@ -16,7 +16,7 @@ use Rattle.law_chips.specs.SectorReads.{sector_steps, IsAtSector, AllRead, bytes
 use Rattle.law_chips.specs.LostData.{AllLetGo, place_if, accesses, is_in_time, time_over, IsOver, is_served, LostDataIsTold}
 use Rattle.law_chips.proofs.Reading.{moved_on, next_place, worked_is, at_each, of_sector, sector_goes, number_small, sector_read}
 use Rattle.law_chips.proofs.Writing.{by_place, put, writes_is, sector_written}
-use Rattle.law_chips.proofs.Streams.{has_place, any_stays, any_other, any_now, or_true, and_false, bool_cases, stays_lost, Either as Taken, run as reads_run}
+use Rattle.law_chips.proofs.Streams.{has_place, any_stays, any_other, any_now, or_true, stays_lost, Either as Taken, run as reads_run}
 use Rattle.law_chips.proofs.Streams.{Accessed, is_data, letting_go, runs_all, reading, lets_go, writing}
 use Rattle.disc_image.specs.Image.{Image, has_sector}
 use Rattle.law_chips.specs.InTime.{IsInTime, found_after, ReadsInTime, WritesInTime}
@@ -37,11 +37,11 @@ wants place ps = if nat_lt place 12 then false else if nat_lt place 22 then not 
 
 wants_none : (place : ℕ) (ps : List ℕ) → place < 12 → wants place ps ≡ false
 unfolding wants
-wants_none place ps low = rw (lt-ltb place 12 low) refl
+wants_none place ps low = rw (lt-ltb place 12 low)
 
 wants_first : (place : ℕ) (ps : List ℕ) → 12 ≤ place → place < 22 → wants place ps ≡ not (given 0 ps)
 unfolding wants
-wants_first place ps low high = rw (le-ltb place 12 low, lt-ltb place 22 high) refl
+wants_first place ps low high = rw (le-ltb place 12 low, lt-ltb place 22 high)
 
 wants_no_more : (place : ℕ) (ps : List ℕ) → 22 ≤ place → place < 30 → wants place ps ≡ false
 unfolding wants
@@ -85,7 +85,7 @@ abbrev Either : Transfer → ℕ → State → ℕ → List ℕ → Type 0
 Either t k s m ps = Fine t k s m ps ⊎ Missed s m ps
 
 counted : (t : Transfer) (k : ℕ) (before : Bool) (s : State) (m : ℕ) (ps : List ℕ) → Either t k s m ps → Either t k (count_leaves before s) m ps
-counted t k before s m ps h1 = grind arith
+counted t k before s m ps is = grind arith
 
 -- the time of no byte ends with this step
 NoneOver : ℕ → Type 0
@@ -172,7 +172,7 @@ byte_goes t k s m i ps inside now is =
           let where_it_is : m / 64 ≡ 29 + i = omega arith in
           let was : s.drq ≡ not (given i ps) =
           is.drq (omega arith) ∙ wants_next (m / 64) ps (omega arith) ∙ ap not (sym (given_in i (m / 64) ps more where_it_is)) in
-          elim (bool_cases (given i ps)) [
+          elim (cases_Bool (given i ps)) [
             | inl had ↦ inl (fine (was ∙ ap not had) had)
             | inr none ↦
                 let on : s.drq ≡ true = was ∙ ap not none in

@@ -13,8 +13,8 @@ use Rattle.law_chips.specs.Typing.{keys_after, typed_by, ScriptIsTyped}
 
 set_one : (k key : ℕ) (down old : Bool) → (if key == k then down else old) ≡ unwrap_or (if k == key then Some down else None) old
 set_one k key down old = elim (cases_eq k key) [
-  | inl same ↦ rw (eq-eqb key k (sym same), eq-eqb k key same) refl
-  | inr other ↦ rw (ne_eqb key k (λ e. other (sym e)), ne_eqb k key other) refl
+  | inl same ↦ rw (eq-eqb key k (sym same), eq-eqb k key same)
+  | inr other ↦ rw (ne_eqb key k (λ e. other (sym e)), ne_eqb k key other)
 ]
 
 -- what an event makes of a key, or what it was

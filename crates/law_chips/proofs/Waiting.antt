@@ -1,9 +1,8 @@
 -- A command that counts down, while a program waits.
-use Rattle.std.proofs.Common.{◌≡◌, sym, subst, refl, ℕ, ◌+◌, ◌%◌, ◌<◌, ◌≤◌, ◌==◌, Bool, true, false, List, [], ◌∷◌, arith}
+use Rattle.std.proofs.Common.{◌≡◌, subst, refl, ℕ, ◌+◌, ◌%◌, ◌<◌, ◌≤◌, Bool, true, false, List, [], ◌∷◌, arith}
 use Rattle.std.specs.Prelude.{Option, None, Some, if◌then◌else◌}
 use Rattle.wd1770.specs.declared.command.Command.{Command}
 use Rattle.wd1770.specs.State.{State}
-use Rattle.wd1770.specs.Ends.{is_asking, count_leaves}
 use Rattle.wd1770.specs.Registers.{read_leaves}
 use Rattle.wd1770.specs.Step.{next_angle, work_leaves, step}
 use Rattle.wd1770.specs.History.{Event, microsecond, read, write, latch, history, count_steps}

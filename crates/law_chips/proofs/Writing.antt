@@ -1,24 +1,23 @@
 -- A sector that is written, event by event.
-use Rattle.std.proofs.Common.{◌≡◌, ◌≢◌, ◌∙◌, sym, ap, subst, refl, ℕ, ◌+◌, ◌-◌, ◌*◌, ◌/◌, ◌%◌, ◌<◌, ◌≤◌, ◌==◌, ◌&&◌, ◌||◌, min, not, Bool, true}
+use Rattle.std.proofs.Common.{◌≡◌, ◌≢◌, ◌∙◌, sym, ap, subst, refl, ℕ, ◌+◌, ◌-◌, ◌*◌, ◌/◌, ◌%◌, ◌<◌, ◌≤◌, ◌==◌, ◌||◌, min, not, Bool, true}
 use Rattle.std.proofs.Common.{◌⊎◌, false, List, [], ◌∷◌, ◌++◌, length, get_or, arith, inl, inr}
-use Rattle.std.specs.Prelude.{Option, None, Some, option_map, slice_set, nat_lt, nat_le, if◌then◌else◌}
-use Rattle.std.proofs.lemmas.Bool.{cases_eq, cases_lt, eq-eqb, eqb-true, ne_eqb, lt-ltb, le-ltb, le-leb, lt-leb, or_parts, and_parts, and_right, ltb-true}
-use Rattle.std.proofs.lemmas.Bool.{true≢false, false_from_ne_true}
+use Rattle.std.specs.Prelude.{Option, None, Some, if◌then◌else◌}
+use Rattle.std.proofs.lemmas.Bool.{cases_eq, eq-eqb, eqb-true, ne_eqb, lt-ltb, le-leb, lt-leb, or_parts, and_parts, ltb-true}
+use Rattle.std.proofs.lemmas.Bool.{true≢false}
 use Rattle.std.proofs.lemmas.List.{append-nil, length_push, get_or_append_left, get_or_push}
 use Rattle.std.proofs.lemmas.List.FromFn.{fill_by_all}
 use Rattle.disc_image.specs.declared.Kind.{Kind}
-use Rattle.disc_image.specs.Image.{Image, has_sector, place, byte_at, byte_put, with_zeros_to, sector_bytes}
+use Rattle.disc_image.specs.Image.{Image, has_sector, place, byte_at, byte_put, sector_bytes}
 use Rattle.disc_image.specs.Laws.{IsReadBack, OthersStay}
 use Rattle.wd1770.specs.declared.drive.DriveNumber.{DriveNumber}
-use Rattle.wd1770.specs.declared.drive.DriveNumber.TheVariants.{Drive0, Drive1}
 use Rattle.wd1770.specs.declared.drive.Target.{Target}
-use Rattle.wd1770.specs.declared.command.Command.TheVariants.{Idle, Transferring}
+use Rattle.wd1770.specs.declared.command.Command.TheVariants.{Transferring}
 use Rattle.wd1770.specs.declared.command.Transfer.{Transfer}
 use Rattle.wd1770.specs.State.{State}
 use Rattle.wd1770.specs.Select.{disc_in}
 use Rattle.wd1770.specs.Ends.{is_asking, count_leaves, finish_leaves}
 use Rattle.wd1770.specs.Commands.{latch_leaves}
-use Rattle.wd1770.specs.Sectors.{search_of, places_into, is_byte_place, sector_ended, written_in, byte_written, reading_at, writing_at, transfer_step}
+use Rattle.wd1770.specs.Sectors.{places_into, is_byte_place, sector_ended, written_in, byte_written, writing_at, transfer_step}
 use Rattle.wd1770.specs.Registers.{read_leaves, write_leaves}
 use Rattle.wd1770.specs.Step.{work_leaves, step}
 use Rattle.wd1770.specs.History.{Event, happens, microsecond, read, write, latch, history, count_steps}
@@ -26,7 +25,6 @@ use Rattle.law_chips.specs.SectorReads.{sector_steps, IsAtSector, command_behind
 use Rattle.law_chips.specs.SectorWrites.{Writes, AllWritten, given_by, bytes_given, IsStored, SectorIsWritten}
 use Rattle.law_chips.proofs.Reading.{same_disc, moved_on, next_place, worked_is, at_each}
 use Rattle.law_chips.proofs.Losing.{kept_before}
-use Rattle.law_chips.proofs.Streams.{bool_cases}
 use Rattle.law_chips.proofs.Streams.{Accessed, IsAccess, is_data, writing, runs_all}
 
 -- how many bytes have been written m steps after the sector was found, and for how many DRQ was set
@@ -76,10 +74,10 @@ places_differ kind side track k i j e = omega arith
 -- ---- What a step at a place does.
 
 byte_place : (place : ℕ) → 30 ≤ place → place < 286 → is_byte_place 30 place ≡ true
-byte_place place low high = rw (le-leb 30 place low, lt-ltb place 286 high) refl
+byte_place place low high = rw (le-leb 30 place low, lt-ltb place 286 high)
 
 pub before_bytes : (place : ℕ) → place < 30 → is_byte_place 30 place ≡ false
-before_bytes place early = rw (lt-leb 30 place early) refl
+before_bytes place early = rw (lt-leb 30 place early)
 
 pub behind_bytes : (place : ℕ) → 286 ≤ place → is_byte_place 30 place ≡ false
 behind_bytes place late = grind arith
