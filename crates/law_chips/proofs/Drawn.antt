@@ -119,17 +119,17 @@ finished_stays laws ram size font s t makes whole (suc i) below =
     ∙ ap (λ k. if k then x.working else x.finished) runs
     ∙ finished_stays laws ram size font s t makes whole i (omega arith)
 
-module _ (laws : Laws) (left : ℕ) (ram : ℕ → List ℕ) (size : ℕ → ℕ) (font : Font) (s : State) (dots : ℕ → List ℕ) where
-  frame_length : MakesFrames s.crtc →
-      Shows left ram size font s dots → (t : ℕ) →
+module _ (laws : Laws) (left : ℕ) (ram : ℕ → List ℕ) (size : ℕ → ℕ) (font : Font) (s : State) (dots : ℕ → List ℕ) (makes : MakesFrames s.crtc)
+    (shows : Shows left ram size font s dots) where
+  frame_length : (t : ℕ) →
       length (frame_at (tells (sync_clock s.crtc.registers + t) s.crtc) (char_clocks ram size font (sync_clock s.crtc.registers + t) s)) ≡ 163840
-  frame_length makes shows zero =
+  frame_length zero =
       let n = sync_clock s.crtc.registers in
       let f = frame_clocks s.crtc.registers in
       ap (λ q. length (if q then black else (char_clocks ram size font (n + 0) s).working))
       (frame_sync laws s.crtc makes 0 ∙ test_true (0 % f) 0 (zero-mod f))
       ∙ black_length
-  frame_length makes shows (suc t) =
+  frame_length (suc t) =
       let n = sync_clock s.crtc.registers + t in
       let e : sync_clock s.crtc.registers + suc t ≡ suc n = omega arith in
       let b = tells n s.crtc in
@@ -137,18 +137,17 @@ module _ (laws : Laws) (left : ℕ) (ram : ℕ → List ℕ) (size : ℕ → ℕ
       let long : length (char_clocks ram size font (suc n) s).working ≡ 163840 =
       ap length (shows.working n)
       ∙ drawn_length b.shown left (place_in ram size font s n).x (place_in ram size font s n).y (dots n) (frame_at b x)
-      (frame_length makes shows t) in
+      (frame_length t) in
       begun_length (tells (sync_clock s.crtc.registers + suc t) s.crtc).frame_end _
       (ap (λ k. length (char_clocks ram size font k s).working) e ∙ long)
 
   -- the dot is drawn
-  drawn_now : (n t a d : ℕ) → MakesFrames s.crtc →
-      Shows left ram size font s dots → IsClock s.crtc.registers n t a → (tells n s.crtc).shown ≡ true → d < dots_of s.ula.control →
+  drawn_now : (n t a d : ℕ) → IsClock s.crtc.registers n t a → (tells n s.crtc).shown ≡ true → d < dots_of s.ula.control →
       let p = a % line_characters s.crtc.registers * dots_of s.ula.control + d in
       let q = t % frame_clocks s.crtc.registers / line_characters s.crtc.registers in
       is_in_frame left p q ≡ true →
       slice_index (char_clocks ram size font (suc n) s).working (dot_index left p q) ≡ slice_index (dots n) d
-  drawn_now n t a d makes shows at is within here =
+  drawn_now n t a d at is within here =
       let w = line_characters s.crtc.registers in
       let p = a % w * dots_of s.ula.control + d in
       let q = t % frame_clocks s.crtc.registers / w in
@@ -163,7 +162,7 @@ module _ (laws : Laws) (left : ℕ) (ram : ℕ → List ℕ) (size : ℕ → ℕ
       ap (λ k. (place_in ram size font s k).y) (sym at.vertical) ∙ line_walk laws ram size font s makes t ∙ omega arith in
       let long : length frame ≡ 163840 =
       ap (λ k. length (frame_at (tells k s.crtc) (char_clocks ram size font k s))) (sym at.vertical)
-      ∙ frame_length makes shows t in
+      ∙ frame_length t in
       let many : length (dots n) ≡ dots_of s.ula.control = shows.many n in
       ap (λ xs. slice_index xs (dot_index left p q)) (shows.working n)
       ∙ ap (λ k. slice_index (if k then dots_set left place.x place.y (dots n) frame else frame) (dot_index left p q)) is
@@ -172,21 +171,20 @@ module _ (laws : Laws) (left : ℕ) (ram : ℕ → List ℕ) (size : ℕ → ℕ
       ∙ drawn_dot left (a % w * dots_of s.ula.control) q d (dots n) frame (omega arith) here long
 
   -- and it stays to the end of the frame
-  drawn_later : (n t a d colour : ℕ) → MakesFrames s.crtc →
-      Shows left ram size font s dots → IsClock s.crtc.registers n t a → d < dots_of s.ula.control →
+  drawn_later : (n t a d colour : ℕ) → IsClock s.crtc.registers n t a → d < dots_of s.ula.control →
       let p = a % line_characters s.crtc.registers * dots_of s.ula.control + d in
       let q = t % frame_clocks s.crtc.registers / line_characters s.crtc.registers in
       is_in_frame left p q ≡ true →
       slice_index (char_clocks ram size font (suc n) s).working (dot_index left p q) ≡ colour →
       (j : ℕ) → t % frame_clocks s.crtc.registers + suc j ≤ frame_clocks s.crtc.registers →
       slice_index (char_clocks ram size font (n + suc j) s).working (dot_index left p q) ≡ colour
-  drawn_later n t a d colour makes shows at within here first zero below =
+  drawn_later n t a d colour at within here first zero below =
       let w = line_characters s.crtc.registers in
       let p = a % w * dots_of s.ula.control + d in
       let q = t % frame_clocks s.crtc.registers / w in
       let e : n + suc 0 ≡ suc n = omega arith in
       ap (λ k. slice_index (char_clocks ram size font k s).working (dot_index left p q)) e ∙ first
-  drawn_later n t a d colour makes shows at within here first (suc j) below =
+  drawn_later n t a d colour at within here first (suc j) below =
       let w = line_characters s.crtc.registers in
       let f = frame_clocks s.crtc.registers in
       let u = t % f in
@@ -216,17 +214,17 @@ module _ (laws : Laws) (left : ℕ) (ram : ℕ → List ℕ) (size : ℕ → ℕ
       ∙ ap (λ xs. slice_index xs (dot_index left p q)) (shows.working m)
       ∙ stays_if b.shown left p q place.x place.y (dots m) (frame_at b x) i (λ is. apart_here)
       ∙ ap (λ k. slice_index (if k then black else x.working) (dot_index left p q)) runs
-      ∙ drawn_later n t a d colour makes shows at within here first j (omega arith)
+      ∙ drawn_later n t a d colour at within here first j (omega arith)
 
   -- A dot of a character that is shown is in the finished frame.
   pub finished_dot : (n d m : ℕ) →
       let r = s.crtc.registers in
       let x = beam_dot r (dots_of s.ula.control) n + d in
       let y = beam_line r n in
-      MakesFrames s.crtc → Shows left ram size font s dots → IsUnderWay r n → (tells n s.crtc).shown ≡ true → d < dots_of s.ula.control →
+      IsUnderWay r n → (tells n s.crtc).shown ≡ true → d < dots_of s.ula.control →
       is_in_frame left x y ≡ true → finish_clock r n < m → m ≤ finish_clock r n + frame_clocks r →
       slice_index (char_clocks ram size font m s).finished (640 * (y - 40) + (x - left)) ≡ slice_index (dots n) d
-  finished_dot n d m makes shows runs is within here after before =
+  finished_dot n d m runs is within here after before =
       let r = s.crtc.registers in
       let w = line_characters r in
       let f = frame_clocks r in
@@ -252,8 +250,8 @@ module _ (laws : Laws) (left : ℕ) (ram : ℕ → List ℕ) (size : ℕ → ℕ
       ∙ ap (λ xs. slice_index xs (dot_index left p q))
       (finished_stays laws ram size font s turns makes whole i (omega arith))
       ∙ ap (λ k. slice_index (char_clocks ram size font k s).working (dot_index left p q)) (sym last)
-      ∙ drawn_later n t a d _ makes shows at within here
-      (drawn_now n t a d makes shows at is within here) j (omega arith)
+      ∙ drawn_later n t a d _ at within here
+      (drawn_now n t a d at is within here) j (omega arith)
 
 -- ---- The dots of a character.
 
@@ -323,8 +321,8 @@ bytes_shown ram size font s off = record {
 pub frames_show_their_bytes : Laws → ShownAddressesCount → CharactersAreShown → FramesShowTheirBytes
 frames_show_their_bytes laws count characters ram size font s n d m makes off runs met within here after before =
     let is : (tells n s.crtc).shown ≡ true = characters.which s.crtc n makes.bits makes.begins ∙ met in
-    finished_dot laws 240 ram size font s (λ n. dots_at (ram n) (size n) (tells n s.crtc) (char_clocks ram size font n s)) n d m makes
-    (bytes_shown ram size font s off) runs is within here after before
+    finished_dot laws 240 ram size font s (λ n. dots_at (ram n) (size n) (tells n s.crtc) (char_clocks ram size font n s)) makes
+    (bytes_shown ram size font s off) n d m runs is within here after before
     ∙ colour_is count characters ram size font s n d makes runs.three is within
 
 black_dot : (left p q : ℕ) → Inside left p q → slice_index black (dot_index left p q) ≡ 0
@@ -351,94 +349,92 @@ IsFree s k x y =
 next_start : (s : State) (k : ℕ) → frame_start s.crtc.registers (k + 1) ≡ frame_start s.crtc.registers k + frame_clocks s.crtc.registers
 next_start s k = grind arith
 
--- one clock of the frame
-stays_black : Laws → CharactersAreShown → (left : ℕ) (ram : ℕ → List ℕ) (size : ℕ → ℕ) (font : Font) (s : State) (dots : ℕ → List ℕ) (k p q j : ℕ) →
-    MakesFrames s.crtc → Shows left ram size font s dots → s.crtc.registers.horizontal_sync_position ≤ frame_start s.crtc.registers k →
-    is_in_frame left p q ≡ true → IsFree s k p q → j < frame_clocks s.crtc.registers →
-    let n = frame_start s.crtc.registers k + j in
-    slice_index (char_clocks ram size font (suc n) s).working (dot_index left p q)
-    ≡ slice_index (frame_at (tells n s.crtc) (char_clocks ram size font n s)) (dot_index left p q)
-stays_black laws characters left ram size font s dots k p q j makes shows late here free below =
-    let r = s.crtc.registers in
-    let f = frame_clocks r in
-    let start = frame_start r k in
-    let n = start + j in
-    let wide = dots_of s.ula.control in
-    let i : Inside left p q = inside left p q here in
-    let bottom : q < 296 = i.bottom in
-    let b = tells n s.crtc in
-    let x = char_clocks ram size font n s in
-    let place = place_in ram size font s n in
-    let a = n - r.horizontal_sync_position in
-    let t = n - sync_clock r in
-    let vertical : sync_clock r + t ≡ n = omega arith in
-    let horizontal : r.horizontal_sync_position + a ≡ n = omega arith in
-    let column : place.x ≡ beam_dot r wide n =
-    ap (λ i. (place_in ram size font s i).x) (sym horizontal) ∙ column_walk laws ram size font s makes a in
-    let level : place.y ≡ min (beam_line r n) 1023 =
-    ap (λ i. (place_in ram size font s i).y) (sym vertical) ∙ line_walk laws ram size font s makes t in
-    let many : length (dots n) ≡ wide = shows.many n in
-    let next = next_start s k in
-    let none : (is_shown_at r n && has_dot r wide n p q) ≡ false = free n (omega arith) (omega arith) in
-    let apart : b.shown ≡ true → IsApart p q place.x place.y (length (dots n)) = λ is.
-    apart_at p q place.x place.y (beam_dot r wide n) (min (beam_line r n) 1023) _ column level
-    (rw many (elsewhere (beam_line r n) (beam_dot r wide n) p q wide bottom
-    (and_second (is_shown_at r n) (has_dot r wide n p q) none (sym (characters.which s.crtc n makes.bits makes.begins) ∙ is)))) in
-    ap (λ xs. slice_index xs (dot_index left p q)) (shows.working n)
-    ∙ stays_if b.shown left p q place.x place.y (dots n) (frame_at b x) i apart
+module _ (laws : Laws) (characters : CharactersAreShown) (left : ℕ) (ram : ℕ → List ℕ) (size : ℕ → ℕ) (font : Font) (s : State) (dots : ℕ → List ℕ) (k p q : ℕ)
+    (makes : MakesFrames s.crtc) (shows : Shows left ram size font s dots) (late : s.crtc.registers.horizontal_sync_position ≤ frame_start s.crtc.registers k)
+    (here : is_in_frame left p q ≡ true) (free : IsFree s k p q) where
+  -- one clock of the frame
+  stays_black : (j : ℕ) → j < frame_clocks s.crtc.registers →
+      let n = frame_start s.crtc.registers k + j in
+      slice_index (char_clocks ram size font (suc n) s).working (dot_index left p q)
+      ≡ slice_index (frame_at (tells n s.crtc) (char_clocks ram size font n s)) (dot_index left p q)
+  stays_black j below =
+      let r = s.crtc.registers in
+      let f = frame_clocks r in
+      let start = frame_start r k in
+      let n = start + j in
+      let wide = dots_of s.ula.control in
+      let i : Inside left p q = inside left p q here in
+      let bottom : q < 296 = i.bottom in
+      let b = tells n s.crtc in
+      let x = char_clocks ram size font n s in
+      let place = place_in ram size font s n in
+      let a = n - r.horizontal_sync_position in
+      let t = n - sync_clock r in
+      let vertical : sync_clock r + t ≡ n = omega arith in
+      let horizontal : r.horizontal_sync_position + a ≡ n = omega arith in
+      let column : place.x ≡ beam_dot r wide n =
+      ap (λ i. (place_in ram size font s i).x) (sym horizontal) ∙ column_walk laws ram size font s makes a in
+      let level : place.y ≡ min (beam_line r n) 1023 =
+      ap (λ i. (place_in ram size font s i).y) (sym vertical) ∙ line_walk laws ram size font s makes t in
+      let many : length (dots n) ≡ wide = shows.many n in
+      let next = next_start s k in
+      let none : (is_shown_at r n && has_dot r wide n p q) ≡ false = free n (omega arith) (omega arith) in
+      let apart : b.shown ≡ true → IsApart p q place.x place.y (length (dots n)) = λ is.
+      apart_at p q place.x place.y (beam_dot r wide n) (min (beam_line r n) 1023) _ column level
+      (rw many (elsewhere (beam_line r n) (beam_dot r wide n) p q wide bottom
+      (and_second (is_shown_at r n) (has_dot r wide n p q) none (sym (characters.which s.crtc n makes.bits makes.begins) ∙ is)))) in
+      ap (λ xs. slice_index xs (dot_index left p q)) (shows.working n)
+      ∙ stays_if b.shown left p q place.x place.y (dots n) (frame_at b x) i apart
 
-black_after : Laws → CharactersAreShown → (left : ℕ) (ram : ℕ → List ℕ) (size : ℕ → ℕ) (font : Font) (s : State) (dots : ℕ → List ℕ) (k p q j : ℕ) →
-    MakesFrames s.crtc → Shows left ram size font s dots → s.crtc.registers.horizontal_sync_position ≤ frame_start s.crtc.registers k →
-    is_in_frame left p q ≡ true → IsFree s k p q → j < frame_clocks s.crtc.registers →
-    slice_index (char_clocks ram size font (suc (frame_start s.crtc.registers k + j)) s).working (dot_index left p q) ≡ 0
-black_after laws characters left ram size font s dots k p q zero makes shows late here free below =
-    let r = s.crtc.registers in
-    let n = frame_start r k + 0 in
-    let e : sync_clock r + k * frame_clocks r ≡ n = omega arith in
-    let ends : (tells n s.crtc).frame_end ≡ true =
-    ap (λ i. (tells i s.crtc).frame_end) (sym e) ∙ frame_sync laws s.crtc makes (k * frame_clocks r)
-    ∙ test_true (k * frame_clocks r % frame_clocks r) 0 (mul-mod_left k (frame_clocks r)) in
-    stays_black laws characters left ram size font s dots k p q 0 makes shows late here free below
-    ∙ ap (λ i. slice_index (if i then black else (char_clocks ram size font n s).working) (dot_index left p q)) ends
-    ∙ black_dot left p q (inside left p q here)
-black_after laws characters left ram size font s dots k p q (suc j) makes shows late here free below =
-    let r = s.crtc.registers in
-    let f = frame_clocks r in
-    let n = frame_start r k + suc j in
-    let e : sync_clock r + (k * f + suc j) ≡ n = omega arith in
-    let g : suc (frame_start r k + j) ≡ n = omega arith in
-    let whole : k * f % f ≡ 0 = mul-mod_left k f in
-    let runs : (tells n s.crtc).frame_end ≡ false =
-    ap (λ i. (tells i s.crtc).frame_end) (sym e) ∙ (no_sync laws s (k * f) j makes (omega arith)).0 in
-    stays_black laws characters left ram size font s dots k p q (suc j) makes shows late here free below
-    ∙ ap (λ i. slice_index (if i then black else (char_clocks ram size font n s).working) (dot_index left p q)) runs
-    ∙ ap (λ i. slice_index (char_clocks ram size font i s).working (dot_index left p q)) (sym g)
-    ∙ black_after laws characters left ram size font s dots k p q j makes shows late here free (omega arith)
+  black_after : (j : ℕ) → j < frame_clocks s.crtc.registers →
+      slice_index (char_clocks ram size font (suc (frame_start s.crtc.registers k + j)) s).working (dot_index left p q) ≡ 0
+  black_after zero below =
+      let r = s.crtc.registers in
+      let n = frame_start r k + 0 in
+      let e : sync_clock r + k * frame_clocks r ≡ n = omega arith in
+      let ends : (tells n s.crtc).frame_end ≡ true =
+      ap (λ i. (tells i s.crtc).frame_end) (sym e) ∙ frame_sync laws s.crtc makes (k * frame_clocks r)
+      ∙ test_true (k * frame_clocks r % frame_clocks r) 0 (mul-mod_left k (frame_clocks r)) in
+      stays_black 0 below
+      ∙ ap (λ i. slice_index (if i then black else (char_clocks ram size font n s).working) (dot_index left p q)) ends
+      ∙ black_dot left p q (inside left p q here)
+  black_after (suc j) below =
+      let r = s.crtc.registers in
+      let f = frame_clocks r in
+      let n = frame_start r k + suc j in
+      let e : sync_clock r + (k * f + suc j) ≡ n = omega arith in
+      let g : suc (frame_start r k + j) ≡ n = omega arith in
+      let whole : k * f % f ≡ 0 = mul-mod_left k f in
+      let runs : (tells n s.crtc).frame_end ≡ false =
+      ap (λ i. (tells i s.crtc).frame_end) (sym e) ∙ (no_sync laws s (k * f) j makes (omega arith)).0 in
+      stays_black (suc j) below
+      ∙ ap (λ i. slice_index (if i then black else (char_clocks ram size font n s).working) (dot_index left p q)) runs
+      ∙ ap (λ i. slice_index (char_clocks ram size font i s).working (dot_index left p q)) (sym g)
+      ∙ black_after j (omega arith)
 
--- a dot that no character of a frame has is black in it
-pub free_is_black : Laws → CharactersAreShown → (left : ℕ) (ram : ℕ → List ℕ) (size : ℕ → ℕ) (font : Font) (s : State) (dots : ℕ → List ℕ) (k x y m : ℕ) →
-    let r = s.crtc.registers in
-    let finish = frame_start r (k + 1) in
-    MakesFrames s.crtc → Shows left ram size font s dots → r.horizontal_sync_position ≤ frame_start r k → is_in_frame left x y ≡ true → IsFree s k x y →
-    finish < m → m ≤ finish + frame_clocks r →
-    slice_index (char_clocks ram size font m s).finished (640 * (y - 40) + (x - left)) ≡ 0
-free_is_black laws characters left ram size font s dots k x y m makes shows late here free after before =
-    let r = s.crtc.registers in
-    let f = frame_clocks r in
-    let finish = frame_start r (k + 1) in
-    let early : sync_clock r < f = sync_in_frame s.crtc makes in
-    let next : finish ≡ frame_start r k + f = next_start s k in
-    let i = m - finish - 1 in
-    let j = f - 1 in
-    let last : suc (frame_start r k + j) ≡ finish = omega arith in
-    let now : finish + suc i ≡ m = omega arith in
-    ap (λ n. slice_index (char_clocks ram size font n s).finished (dot_index left x y)) (sym now)
-    ∙ ap (λ xs. slice_index xs (dot_index left x y))
-    (finished_stays laws ram size font s ((k + 1) * f) makes (mul-mod_left (k + 1) f) i (omega arith))
-    ∙ ap (λ n. slice_index (char_clocks ram size font n s).working (dot_index left x y)) (sym last)
-    ∙ black_after laws characters left ram size font s dots k x y j makes shows late here free (omega arith)
+  -- a dot that no character of a frame has is black in it
+  pub free_is_black : (m : ℕ) →
+      let r = s.crtc.registers in
+      let finish = frame_start r (k + 1) in
+      finish < m → m ≤ finish + frame_clocks r →
+      slice_index (char_clocks ram size font m s).finished (640 * (q - 40) + (p - left)) ≡ 0
+  free_is_black m after before =
+      let r = s.crtc.registers in
+      let f = frame_clocks r in
+      let finish = frame_start r (k + 1) in
+      let early : sync_clock r < f = sync_in_frame s.crtc makes in
+      let next : finish ≡ frame_start r k + f = next_start s k in
+      let i = m - finish - 1 in
+      let j = f - 1 in
+      let last : suc (frame_start r k + j) ≡ finish = omega arith in
+      let now : finish + suc i ≡ m = omega arith in
+      ap (λ n. slice_index (char_clocks ram size font n s).finished (dot_index left p q)) (sym now)
+      ∙ ap (λ xs. slice_index xs (dot_index left p q))
+      (finished_stays laws ram size font s ((k + 1) * f) makes (mul-mod_left (k + 1) f) i (omega arith))
+      ∙ ap (λ n. slice_index (char_clocks ram size font n s).working (dot_index left p q)) (sym last)
+      ∙ black_after j (omega arith)
 
 pub rest_is_black : Laws → CharactersAreShown → RestIsBlack
 rest_is_black laws characters ram size font s k x y m makes off late here free after before =
-    free_is_black laws characters 240 ram size font s (λ n. dots_at (ram n) (size n) (tells n s.crtc) (char_clocks ram size font n s)) k x y m makes
-    (bytes_shown ram size font s off) late here free after before
+    free_is_black laws characters 240 ram size font s (λ n. dots_at (ram n) (size n) (tells n s.crtc) (char_clocks ram size font n s)) k x y makes
+    (bytes_shown ram size font s off) late here free m after before

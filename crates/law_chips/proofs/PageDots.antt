@@ -204,11 +204,11 @@ colour_is one cells laws count characters ram size font s n d makes on three is 
 pub frames_show_their_cells : OneCodeMore → CellsShowTheirCodes → Laws → ShownAddressesCount → CharactersAreShown → FramesShowTheirCells
 frames_show_their_cells one cells laws count characters ram size font s n d m makes on runs met within here_is after before =
     let is : (tells n s.crtc).shown ≡ true = characters.which s.crtc n makes.bits makes.begins ∙ met in
-    finished_dot laws 208 ram size font s (λ n. told_dots (ram n) (size n) font (tells n s.crtc) (char_clocks ram size font n s)) n d m makes
-    (cells_shown ram size font s on) runs is within here_is after before
+    finished_dot laws 208 ram size font s (λ n. told_dots (ram n) (size n) font (tells n s.crtc) (char_clocks ram size font n s)) makes
+    (cells_shown ram size font s on) n d m runs is within here_is after before
     ∙ colour_is one cells laws count characters ram size font s n d makes on runs.three met within
 
 pub rest_of_page_is_black : Laws → CharactersAreShown → RestOfPageIsBlack
 rest_of_page_is_black laws characters ram size font s k x y m makes on late here_is free after before =
-    free_is_black laws characters 208 ram size font s (λ n. told_dots (ram n) (size n) font (tells n s.crtc) (char_clocks ram size font n s)) k x y m makes
-    (cells_shown ram size font s on) late here_is free after before
+    free_is_black laws characters 208 ram size font s (λ n. told_dots (ram n) (size n) font (tells n s.crtc) (char_clocks ram size font n s)) k x y makes
+    (cells_shown ram size font s on) late here_is free m after before
