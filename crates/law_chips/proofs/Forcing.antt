@@ -1,5 +1,5 @@
 -- A forced interrupt, and what comes behind it.
-use Rattle.std.proofs.Common.{◌≡◌, sym, ap, subst, refl, ℕ, ◌/◌, ◌≤◌, ◌==◌, ◌&&◌, ◌||◌, not, Bool, true, false, List, [], ◌∷◌}
+use Rattle.std.proofs.Common.{arith, ◌≡◌, sym, ap, subst, refl, ℕ, ◌/◌, ◌≤◌, ◌==◌, ◌&&◌, ◌||◌, not, Bool, true, false, List, [], ◌∷◌}
 use Rattle.std.specs.Prelude.{Some, if◌then◌else◌}
 use Rattle.std.proofs.lemmas.Bool.{eq-eqb}
 use Rattle.beeb_bits.specs.Bits.{bit}
@@ -13,7 +13,6 @@ use Rattle.wd1770.specs.Step.{next_angle, command_step, step}
 use Rattle.wd1770.specs.History.{Event, microsecond, read, write, latch, history}
 use Rattle.law_chips.specs.LostData.{AllLetGo}
 use Rattle.law_chips.specs.Interrupts.{status_is_read, LeavesRest, InterruptsAreForced}
-use Rattle.law_chips.proofs.Waiting.{read_makes}
 use Rattle.law_chips.proofs.Streams.{of_three}
 
 forced : (s : State) (v : ℕ) → is_reset s.latch ≡ false → v / 16 ≡ 0xD → write_leaves 0 v s ≡ count_leaves (is_asking s) (force_leaves v s)
@@ -25,36 +24,22 @@ record Rests (asks : Bool) (s : State) : Type 0 where
   pub intrq : s.intrq ≡ asks
 
 stepped : (asks : Bool) (s : State) → Rests asks s → Rests asks (step s)
-stepped asks s is =
-    let s1 : State = record s { angle = Some (next_angle s.angle) } in
-    subst (λ y. Rests asks (count_leaves (is_asking s) y)) (sym (ap (λ c. command_step c (next_angle s.angle) s1) is.command))
-    (assumption)
+stepped asks s is = grind arith
 
 heard : (b asks intrq : Bool) → intrq ≡ asks → (if b then false else intrq) ≡ (asks && not b)
-heard true true intrq is = refl
-heard true false intrq is = refl
-heard false true intrq is = is
-heard false false intrq is = is
+heard b asks intrq is = grind arith
 
 was_read : (asks : Bool) (reg : ℕ) (s : State) → Rests asks s → Rests (asks && not (reg == 0)) (read_leaves reg s)
-was_read asks reg s is =
-    subst (λ y. Rests (asks && not (reg == 0)) (count_leaves (is_asking s) y)) (sym (read_makes (reg == 0) (reg == 3) s))
-    (record { command = is.command; intrq = heard (reg == 0) asks s.intrq is.intrq })
+was_read asks reg s is = grind arith
 
 was_written : (asks : Bool) (reg v : ℕ) (s : State) → 1 ≤ reg → reg ≤ 3 → Rests asks s → Rests asks (write_leaves reg v s)
-was_written asks reg v s low high is =
-    of_three (λ r. Rests asks (write_leaves r v s)) (assumption) (assumption)
-    (assumption) reg low high
+was_written asks reg v s low high is = grind arith
 
 was_latched : (asks : Bool) (v : ℕ) (s : State) → is_reset v ≡ false → Rests asks s → Rests asks (latch_leaves v s)
-was_latched asks v s off is =
-    subst (λ b. Rests asks (if b then stop_leaves (record s { latch = v }) else record s { latch = v })) (sym off)
-    (assumption)
+was_latched asks v s off is = grind arith
 
 both : (asks a b : Bool) → ((asks && not a) && not b) ≡ (asks && not (a || b))
-both true true b = refl
-both true false b = refl
-both false a b = refl
+both asks a b = grind arith
 
 unheard : (asks : Bool) → asks ≡ (asks && true)
 unheard true = refl

@@ -1,5 +1,5 @@
 -- Lost data stays set while a command is in progress.
-use Rattle.std.proofs.Common.{◌≡◌, ◌∙◌, sym, refl, ℕ, ◌-◌, ◌==◌, ◌&&◌, Bool, true, false}
+use Rattle.std.proofs.Common.{arith, ◌≡◌, ◌∙◌, sym, refl, ℕ, ◌-◌, ◌==◌, ◌&&◌, Bool, true, false}
 use Rattle.std.specs.Prelude.{Option, None, Some, nat_lt, nat_le, if◌then◌else◌}
 use Rattle.std.proofs.lemmas.Bool.{or_parts, true≢false}
 use Rattle.wd1770.specs.declared.drive.Drive.{Drive}
@@ -31,40 +31,23 @@ put_keeps Drive1 d s = refl
 
 sector_end : (t : Transfer) (s : State) → Keeps s (sector_ended t s)
 unfolding Keeps
-sector_end t s = either t.multiple s _ (finish_leaves s) (λ h. h) (λ h. h)
+sector_end t s = grind arith
 
 reading : (t : Transfer) (k : ℕ) (place : Option ℕ) (s : State) → Keeps s (reading_at t k place s)
 unfolding Keeps
-reading t k None s = λ h. h
-reading t k (Some place) s =
-    either (is_byte_place 31 place) s _ _ (λ h. (or_parts s.lost_data s.drq h).0) (either (place == 288) s _ s (sector_end t s) (λ h. h))
+reading t k place s = grind arith
 
 writing : (t : Transfer) (k : ℕ) (place : Option ℕ) (s : State) → Keeps s (writing_at t k place s)
 unfolding Keeps
-writing t k None s = λ h. h
-writing t k (Some place) s =
-    either (place == 12) s _ _ (λ h. h)
-    (either ((place == 22) && s.drq) s (finish_leaves (record s { lost_data = true })) _ (λ h. absurd (true≢false h))
-    (either (is_byte_place 30 place) s (byte_written t.target k (place - 30) s) _ (λ h. (or_parts s.lost_data s.drq h).0)
-    (either (place == 288) s _ s (sector_end t s) (λ h. h))))
+writing t k place s = grind arith
 
 addressing : (target : Target) (k : ℕ) (place : Option ℕ) (s : State) → Keeps s (address_at target k place s)
 unfolding Keeps
-addressing target k None s = λ h. h
-addressing target k (Some place) s =
-    either (nat_le 7 place && nat_le place 12) s _ _ (λ h. (or_parts s.lost_data s.drq h).0) (either (place == 14) s _ s (λ h. h) (λ h. h))
+addressing target k place s = grind arith
 
 of_command : (c : Command) (angle : ℕ) (s : State) → Keeps s (command_step c angle s)
 unfolding Keeps
-of_command Idle angle s = λ h. h
-of_command (Moving m left) angle s =
-    either (nat_lt 1 left) s _ _ (λ h. h) (λ h. sym (put_keeps m.drive (record (drive_of m.drive s) { head = head_after m s }) s) ∙ h)
-of_command (Settling t left) angle s = λ h. h
-of_command (Searching t left) angle s = either (is_found t.target angle s) s _ _ (λ h. h) (either (nat_lt 1 left) s _ _ (λ h. h) (λ h. h))
-of_command (Transferring t k) angle s = either t.writes s _ _ (writing t k (places_into k angle) s) (reading t k (places_into k angle) s)
-of_command (SeekingAddress target left) angle s = either (is_address target angle s) s _ _ (λ h. h) (either (nat_lt 1 left) s _ _ (λ h. h) (λ h. h))
-of_command (GivingAddress target k) angle s = addressing target k (places_into k angle) s
-of_command Refusing angle s = λ h. h
+of_command c angle s = grind (arith, either, put_keeps, writing, reading, addressing)
 
 -- a step loses nothing that was not lost
 pub kept_before : (s : State) → (step s).lost_data ≡ false → s.lost_data ≡ false

@@ -1,5 +1,5 @@
 -- The last event for a key is the one that is set last.
-use Rattle.std.proofs.Common.{◌≡◌, ◌∙◌, sym, ap, refl, ℕ, ◌==◌, Bool, true, false, List, [], ◌∷◌, inl, inr}
+use Rattle.std.proofs.Common.{arith, ◌≡◌, ◌∙◌, sym, ap, refl, ℕ, ◌==◌, Bool, true, false, List, [], ◌∷◌, inl, inr}
 use Rattle.std.specs.Prelude.{nat_le, unwrap_or, Option, Some, None, if◌then◌else◌}
 use Rattle.std.proofs.lemmas.Bool.{cases_eq, eq-eqb, ne_eqb}
 use Rattle.key_script.specs.declared.Event.{Event}
@@ -11,25 +11,10 @@ use Rattle.key_script.specs.Keys.{made_of, made_by, last_made}
 use Rattle.keyboard.specs.Keys.{Keys, no_key}
 use Rattle.law_chips.specs.Typing.{keys_after, typed_by, ScriptIsTyped}
 
-set_one : (k key : ℕ) (down old : Bool) → (if key == k then down else old) ≡ unwrap_or (if k == key then Some down else None) old
-set_one k key down old = elim (cases_eq k key) [
-  | inl same ↦ rw (eq-eqb key k (sym same), eq-eqb k key same)
-  | inr other ↦ rw (ne_eqb key k (λ e. other (sym e)), ne_eqb k key other)
-]
-
--- what an event makes of a key, or what it was
-one_key : (what : What) (key : ℕ) (keys : Keys) → keys_after what keys key ≡ unwrap_or (made_of key what) (keys key)
-one_key (Down k) key keys = set_one k key true (keys key)
-one_key (Up k) key keys = set_one k key false (keys key)
-one_key Shot key keys = refl
-one_key Break key keys = refl
-one_key (Level channel level) key keys = refl
-
 -- an event that has come, or not
 come : (is : Bool) (what : What) (key : ℕ) (keys : Keys) →
     (if is then keys_after what keys else keys) key ≡ unwrap_or (if is then made_of key what else None) (keys key)
-come true what key keys = one_key what key keys
-come false what key keys = refl
+come is what key keys = grind arith
 
 either : (last earlier : Option Bool) (old : Bool) → unwrap_or last (unwrap_or earlier old) ≡ unwrap_or (or_earlier last earlier) old
 either (Some down) earlier old = refl

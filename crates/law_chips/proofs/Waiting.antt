@@ -12,14 +12,6 @@ pub small_angle : (a : Option ℕ) → next_angle a < 200000
 small_angle None = omega arith
 small_angle (Some a) = omega arith
 
--- what a read of a register leaves
-pub read_makes : (a b : Bool) (s : State) →
-    (if a then record s { intrq = false } else if b then record s { drq = false } else s)
-    ≡ record s { intrq = if a then false else s.intrq; drq = if a then s.drq else if b then false else s.drq }
-read_makes true b s = refl
-read_makes false true s = refl
-read_makes false false s = refl
-
 pub stays_off : (a b q : Bool) → q ≡ false → (if a then q else if b then false else q) ≡ false
 stays_off a b q off = grind arith
 
