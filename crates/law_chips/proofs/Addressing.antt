@@ -217,18 +217,12 @@ looks_on s0 target k n inside has next s m early w =
           let off : is_on_disc (disc_in target.drive s1) target number ≡ false =
           ap (λ o. is_on_disc o target number) (same_disc target.drive s1 s0 w.drive0 w.drive1) ∙ on_disc_so (disc_in target.drive s0) target number has
           ∙ le-ltb number 10 big in
-          ap (λ b. is_single_density s.latch && (angle % (64 * 312) == 0) && b) off ∙ and_false_twice (is_single_density s.latch) (angle % (64 * 312) == 0)
+          rw off (and_false_twice (is_single_density s.latch) (angle % (64 * 312) == 0))
       | inr other ↦
-          ap (λ b. is_single_density s.latch && b && is_on_disc (disc_in target.drive s1) target (angle / (64 * 312))) (ne_eqb (angle % (64 * 312)) 0 other)
-          ∙ and_false_between (is_single_density s.latch) (is_on_disc (disc_in target.drive s1) target (angle / (64 * 312)))
+          rw (ne_eqb (angle % (64 * 312)) 0 other) (and_false_between (is_single_density s.latch) _)
     ] in
     let less : 1000000 - m - 1 ≡ 1000000 - (m + 1) = omega arith in
-    ap (λ c. command_step c angle s1) w.command
-    ∙ ap (λ b. if b then record s1 { command = GivingAddress target (angle / (64 * 312)) }
-    else if nat_lt 1 (1000000 - m) then record s1 { command = SeekingAddress target (1000000 - m - 1) } else not_found s1) none
-    ∙ ap (λ b. if b then record s1 { command = SeekingAddress target (1000000 - m - 1) } else not_found s1)
-    (lt-ltb 1 (1000000 - m) (omega arith))
-    ∙ ap (λ k. record s1 { command = SeekingAddress target k }) less
+    ap (λ c. command_step c angle s1) w.command ∙ rw (none, lt-ltb 1 (1000000 - m) (omega arith), less)
 
 -- the step at which one begins
 finds : (s0 s : State) (target : Target) (k n : ℕ) → n < 200000 → is_single_density s0.latch ≡ true → is_on_disc (disc_in target.drive s0) target 0 ≡ true →
@@ -245,13 +239,9 @@ finds s0 s target k n inside density has off kept next w =
     ∙ on_disc_so (disc_in target.drive s0) target (angle / (64 * 312)) has ∙ ap (λ n. nat_lt n 10) which ∙ lt-ltb k 10 next.number in
     let found : is_address target angle s1 ≡ true =
     ap (λ l. is_single_density l && (angle % (64 * 312) == 0) && is_on_disc (disc_in target.drive s1) target (angle / (64 * 312))) w.latch
-    ∙ ap (λ b. b && (angle % (64 * 312) == 0) && is_on_disc (disc_in target.drive s1) target (angle / (64 * 312))) density
-    ∙ ap (λ b. b && is_on_disc (disc_in target.drive s1) target (angle / (64 * 312))) (eq-eqb (angle % (64 * 312)) 0 starts) ∙ on in
+    ∙ rw (density, eq-eqb (angle % (64 * 312)) 0 starts) on in
     let is : work_leaves s ≡ record s1 { command = GivingAddress target k } =
-    ap (λ c. command_step c angle s1) w.command
-    ∙ ap (λ b. if b then record s1 { command = GivingAddress target (angle / (64 * 312)) }
-    else if nat_lt 1 (1000000 - n) then record s1 { command = SeekingAddress target (1000000 - n - 1) } else not_found s1) found
-    ∙ ap (λ k. record s1 { command = GivingAddress target k }) which in
+    ap (λ c. command_step c angle s1) w.command ∙ rw (found, which) in
     subst (λ x. IsAtAddress (count_leaves (is_asking s) x) target k) (sym is)
     (record { command = refl; angle = ap (λ (n : ℕ). Some n) now; drq = w.drq off; lost = w.lost ∙ kept })
 

@@ -192,13 +192,13 @@ arrived s v waits m left low is moves some drive verifies end =
     let becomes : track_after m y1 ≡ track_changed m.track m.inward s.track = ap (track_changed m.track m.inward) track in
     let x_latch : x.latch ≡ s.latch = ap (λ (x : State). x.latch) is_x ∙ e.latch ∙ latch in (
       record {
-        over = ap (λ (x : State). x.command) is_x ∙ e.over;
-        asks = ap (λ (x : State). x.intrq) is_x ∙ e.asks;
+        over = cc;
+        asks = cc;
         head =
             ap (λ l. (drive_of (drive_or_0 (drive_selected l)) x).head) x_latch ∙ ap (λ n. (drive_of n x).head) (sym drive)
             ∙ ap (λ (x : State). (drive_of m.drive x).head) is_x ∙ renamed m.drive (count_leaves (is_asking y) (move_leaves m y1)) (move_leaves m y1) refl refl
             ∙ e.head ∙ head;
-        track = ap (λ (x : State). x.track) is_x ∙ e.track ∙ becomes;
+        track = cc;
         seek_error =
             ap (λ (x : State). x.record_not_found) is_x ∙ e.not_found
             ∙ ap (λ b. b || (m.verifies && not (track_after m y1 == head_after m y1))) (w.not_found ∙ ap (λ (x : State). x.record_not_found) written)

@@ -165,10 +165,7 @@ module _ (laws : Laws) (left : ℕ) (ram : ℕ → List ℕ) (size : ℕ → ℕ
       ∙ frame_length t in
       let many : length (dots n) ≡ dots_of s.ula.control = shows.many n in
       ap (λ xs. slice_index xs (dot_index left p q)) (shows.working n)
-      ∙ ap (λ k. slice_index (if k then dots_set left place.x place.y (dots n) frame else frame) (dot_index left p q)) is
-      ∙ ap (λ k. slice_index (dots_set left k place.y (dots n) frame) (dot_index left p q)) column
-      ∙ ap (λ k. slice_index (dots_set left (a % w * dots_of s.ula.control) k (dots n) frame) (dot_index left p q)) level
-      ∙ drawn_dot left (a % w * dots_of s.ula.control) q d (dots n) frame (omega arith) here long
+      ∙ rw (is, column, level) (drawn_dot left (a % w * dots_of s.ula.control) q d (dots n) frame (omega arith) here long)
 
   -- and it stays to the end of the frame
   drawn_later : (n t a d colour : ℕ) → IsClock s.crtc.registers n t a → d < dots_of s.ula.control →
