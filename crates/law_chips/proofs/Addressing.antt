@@ -10,7 +10,7 @@ use Rattle.wd1770.specs.declared.command.Command.{Command}
 use Rattle.wd1770.specs.declared.command.Command.TheVariants.{Idle, SeekingAddress, GivingAddress}
 use Rattle.wd1770.specs.State.{State}
 use Rattle.wd1770.specs.Select.{is_single_density, disc_in, target_selected}
-use Rattle.wd1770.specs.Ends.{is_asking, count_leaves, not_found}
+use Rattle.wd1770.specs.Ends.{is_asking, count_leaves}
 use Rattle.wd1770.specs.Sectors.{is_on_disc, places_into}
 use Rattle.wd1770.specs.Addresses.{address_of, is_address, address_bytes, address_at}
 use Rattle.wd1770.specs.Commands.{command_of}
@@ -256,10 +256,10 @@ next s v k n waits low high inside is comes =
     let command : s0.command ≡ SeekingAddress target (1000000 - 0) =
     ap (λ (x : State). x.command) written ∙ address_command v s low high ∙ ap (SeekingAddress target) all in
     let has : is_on_disc (disc_in target.drive s0) target 0 ≡ true =
-    ap (λ o. is_on_disc o target 0) (same_disc target.drive s0 s (ap (λ (x : State). x.drive0) written) (ap (λ (x : State). x.drive1) written)) ∙ is.on_disc in
+    ap (λ o. is_on_disc o target 0) (same_disc target.drive s0 s (cc) (cc)) ∙ is.on_disc in
     let w = waits_from (asked_for target) n s0 (looks_on s0 target k n inside has comes) waits is.wait (omega arith) command in
-    finds s0 (history waits s0) target k n inside (ap (λ (x : State). is_single_density x.latch) written ∙ is.density) has
-    (ap (λ (x : State). x.drq) written) (ap (λ (x : State). x.lost_data) written) comes
+    finds s0 (history waits s0) target k n inside (cc) has
+    (cc) (cc) comes
     (subst (λ i. Waited s0 (asked_for target i) (history waits s0) i) is.waited w)
 
 -- the next sector

@@ -79,16 +79,16 @@ starts s v settles waits low high is =
     let s2 = history settles s1 in
     let searches : s2.command ≡ search_of t = w.command ∙ ap (settling t (settle_time v)) is.settled ∙ over_is t (settle_time v) in
     let off : s2.drq ≡ false = w.drq (ap (λ (x : State). x.drq) written) in
-    let sector : s2.sector ≡ s.sector = w.sector ∙ ap (λ (x : State). x.sector) written in
-    let drive0 : s2.drive0 ≡ s.drive0 = w.drive0 ∙ ap (λ (x : State). x.drive0) written in
-    let drive1 : s2.drive1 ≡ s.drive1 = w.drive1 ∙ ap (λ (x : State). x.drive1) written in
+    let sector : s2.sector ≡ s.sector = cc in
+    let drive0 : s2.drive0 ≡ s.drive0 = cc in
+    let drive1 : s2.drive1 ≡ s.drive1 = cc in
     let has : has_match t s2 ≡ true =
-    same_match s s2 t (w.latch ∙ ap (λ (x : State). x.latch) written) (w.track ∙ ap (λ (x : State). x.track) written) sector drive0 drive1 ∙ is.has in
+    same_match s s2 t (cc) (cc) sector drive0 drive1 ∙ is.has in
     let waited = subst (λ n. count_steps waits ≡ steps_to (sector_angle n) s2) (sym sector) is.waited in
     let found = search_ends.found s2 t 1000001 waits searches (omega arith) has off is.wait waited in
     record {
       at = subst (λ n. IsAtSector (history waits s2) t n) sector found.0;
-      lost = found.2 ∙ w.lost ∙ ap (λ (x : State). x.lost_data) written;
+      lost = cc;
       disc = found.1 ∙ same_disc t.target.drive s2 s drive0 drive1;
       sector = found.3 ∙ sector;
     }
@@ -192,13 +192,13 @@ arrived s v waits m left low is moves some drive verifies end =
     let becomes : track_after m y1 ≡ track_changed m.track m.inward s.track = ap (track_changed m.track m.inward) track in
     let x_latch : x.latch ≡ s.latch = ap (λ (x : State). x.latch) is_x ∙ e.latch ∙ latch in (
       record {
-        over = cc;
-        asks = cc;
+        over = ap (λ (x : State). x.command) is_x ∙ e.over;
+        asks = ap (λ (x : State). x.intrq) is_x ∙ e.asks;
         head =
             ap (λ l. (drive_of (drive_or_0 (drive_selected l)) x).head) x_latch ∙ ap (λ n. (drive_of n x).head) (sym drive)
             ∙ ap (λ (x : State). (drive_of m.drive x).head) is_x ∙ renamed m.drive (count_leaves (is_asking y) (move_leaves m y1)) (move_leaves m y1) refl refl
             ∙ e.head ∙ head;
-        track = cc;
+        track = ap (λ (x : State). x.track) is_x ∙ e.track ∙ becomes;
         seek_error =
             ap (λ (x : State). x.record_not_found) is_x ∙ e.not_found
             ∙ ap (λ b. b || (m.verifies && not (track_after m y1 == head_after m y1))) (w.not_found ∙ ap (λ (x : State). x.record_not_found) written)
@@ -316,9 +316,8 @@ still s v waits m left low is moves some inside =
     let w = waited s v waits m left low is moves some inside in
     let y = history waits (write_leaves 0 v s) in (
       ap is_busy w.command,
-      same_head y s (w.latch ∙ ap (λ (x : State). x.latch) written) (w.drive0 ∙ ap (λ (x : State). x.drive0) written)
-          (w.drive1 ∙ ap (λ (x : State). x.drive1) written),
-      w.track ∙ ap (λ (x : State). x.track) written,
+      same_head y s (cc) (cc) (cc),
+      cc,
     )
 
 until : (s : State) (v : ℕ) (waits : List Event) → v < 0x80 → IsGiven s waits → count_steps waits < motion_time v s →

@@ -1,19 +1,18 @@
 -- A forced interrupt, and what comes behind it.
-use Rattle.std.proofs.Common.{arith, ◌≡◌, sym, ap, subst, refl, ℕ, ◌/◌, ◌≤◌, ◌==◌, ◌&&◌, ◌||◌, not, Bool, true, false, List, [], ◌∷◌}
-use Rattle.std.specs.Prelude.{Some, if◌then◌else◌}
+use Rattle.std.proofs.Common.{arith, ◌≡◌, sym, subst, refl, ℕ, ◌/◌, ◌≤◌, ◌==◌, ◌&&◌, ◌||◌, not, Bool, true, false, List, [], ◌∷◌}
+use Rattle.std.specs.Prelude.{if◌then◌else◌}
 use Rattle.std.proofs.lemmas.Bool.{eq-eqb}
 use Rattle.beeb_bits.specs.Bits.{bit}
 use Rattle.wd1770.specs.declared.command.Command.TheVariants.{Idle}
 use Rattle.wd1770.specs.State.{State}
 use Rattle.wd1770.specs.Select.{is_reset}
 use Rattle.wd1770.specs.Ends.{is_asking, count_leaves}
-use Rattle.wd1770.specs.Commands.{force_leaves, stop_leaves, latch_leaves}
+use Rattle.wd1770.specs.Commands.{force_leaves, latch_leaves}
 use Rattle.wd1770.specs.Registers.{read_leaves, write_leaves}
-use Rattle.wd1770.specs.Step.{next_angle, command_step, step}
+use Rattle.wd1770.specs.Step.{step}
 use Rattle.wd1770.specs.History.{Event, microsecond, read, write, latch, history}
 use Rattle.law_chips.specs.LostData.{AllLetGo}
 use Rattle.law_chips.specs.Interrupts.{status_is_read, LeavesRest, InterruptsAreForced}
-use Rattle.law_chips.proofs.Streams.{of_three}
 
 forced : (s : State) (v : ℕ) → is_reset s.latch ≡ false → v / 16 ≡ 0xD → write_leaves 0 v s ≡ count_leaves (is_asking s) (force_leaves v s)
 forced s v live is = rw (live, eq-eqb (v / 16) 0xD is)

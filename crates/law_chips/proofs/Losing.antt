@@ -1,20 +1,16 @@
 -- Lost data stays set while a command is in progress.
-use Rattle.std.proofs.Common.{arith, ◌≡◌, ◌∙◌, sym, refl, ℕ, ◌-◌, ◌==◌, ◌&&◌, Bool, true, false}
-use Rattle.std.specs.Prelude.{Option, None, Some, nat_lt, nat_le, if◌then◌else◌}
-use Rattle.std.proofs.lemmas.Bool.{or_parts, true≢false}
+use Rattle.std.proofs.Common.{arith, ◌≡◌, refl, ℕ, Bool, true, false}
+use Rattle.std.specs.Prelude.{Option, Some, if◌then◌else◌}
 use Rattle.wd1770.specs.declared.drive.Drive.{Drive}
 use Rattle.wd1770.specs.declared.drive.DriveNumber.{DriveNumber}
 use Rattle.wd1770.specs.declared.drive.DriveNumber.TheVariants.{Drive0, Drive1}
 use Rattle.wd1770.specs.declared.drive.Target.{Target}
 use Rattle.wd1770.specs.declared.command.Command.{Command}
-use Rattle.wd1770.specs.declared.command.Command.TheVariants.{Idle, Moving, Settling, Searching, Transferring, SeekingAddress, GivingAddress, Refusing}
 use Rattle.wd1770.specs.declared.command.Transfer.{Transfer}
 use Rattle.wd1770.specs.State.{State}
-use Rattle.wd1770.specs.Select.{drive_of, with_drive}
-use Rattle.wd1770.specs.Ends.{finish_leaves}
-use Rattle.wd1770.specs.Motion.{head_after}
-use Rattle.wd1770.specs.Sectors.{is_found, places_into, is_byte_place, sector_ended, reading_at, byte_written, writing_at}
-use Rattle.wd1770.specs.Addresses.{is_address, address_at}
+use Rattle.wd1770.specs.Select.{with_drive}
+use Rattle.wd1770.specs.Sectors.{sector_ended, reading_at, writing_at}
+use Rattle.wd1770.specs.Addresses.{address_at}
 use Rattle.wd1770.specs.Step.{next_angle, command_step, step}
 
 -- where x lost nothing, s had not either

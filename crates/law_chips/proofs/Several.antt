@@ -172,8 +172,8 @@ one s t d round is few timely =
         command = inside.over (omega arith) ∙ ap (λ b. if b then search_of t else Idle) is.multiple;
         reads = is.reads;
         multiple = is.multiple;
-        density = ap is_single_density (kept.latch ∙ found.latch) ∙ is.density;
-        track = is.track ∙ sym (kept.track ∙ found.track);
+        density = cc;
+        track = cc;
         disc = same_disc t.target.drive s2 s1 inside.drive0 inside.drive1 ∙ disc1;
         on_disc = is.on_disc;
         drq = end.off;
@@ -270,10 +270,6 @@ record Stored (s : State) (t : Transfer) (d : Image) (round : Round) : Type 0 wh
 same_sectors : (a b : Kind) (target : Target) → a ≡ b → has_sector b target.side target.head 0 ≡ true → has_sector a target.side target.head 0 ≡ true
 same_sectors a b target same is = grind arith
 
--- single density is still selected
-still_single : (a b c : ℕ) → a ≡ b → b ≡ c → is_single_density c ≡ true → is_single_density a ≡ true
-still_single a b c p q is = ap is_single_density (p ∙ q) ∙ is
-
 -- a disc is in the drive once
 of_disc : (o : Option Image) (a b : Image) (target : Target) (k : ℕ) (bytes : List ℕ) → o ≡ Some a → o ≡ Some b →
     sector_of a target.side target.head k ≡ Some bytes →
@@ -308,8 +304,8 @@ one_written back others s t d round is few timely =
         command = both.inside.over (omega arith) ∙ ap (λ b. if b then search_of t else Idle) is.multiple;
         writes = is.writes;
         multiple = is.multiple;
-        density = still_single s2.latch s1.latch s.latch both.kept.latch found.latch is.density;
-        track = is.track ∙ sym (both.kept.track ∙ found.track);
+        density = cc;
+        track = cc;
         disc = both.inside.disc;
         on_disc = same_sectors both.inside.now.kind d.kind t.target both.inside.kind is.on_disc;
         drq = off_at_end d t k s2 (bytes_given round.serves) both.inside;

@@ -1,10 +1,8 @@
 -- The last event for a key is the one that is set last.
-use Rattle.std.proofs.Common.{arith, ◌≡◌, ◌∙◌, sym, ap, refl, ℕ, ◌==◌, Bool, true, false, List, [], ◌∷◌, inl, inr}
+use Rattle.std.proofs.Common.{arith, ◌≡◌, ◌∙◌, sym, ap, refl, ℕ, Bool, List, [], ◌∷◌}
 use Rattle.std.specs.Prelude.{nat_le, unwrap_or, Option, Some, None, if◌then◌else◌}
-use Rattle.std.proofs.lemmas.Bool.{cases_eq, eq-eqb, ne_eqb}
 use Rattle.key_script.specs.declared.Event.{Event}
 use Rattle.key_script.specs.declared.What.{What}
-use Rattle.key_script.specs.declared.What.TheVariants.{Down, Up, Shot, Break, Level}
 use Rattle.key_script.specs.Events.{tick_of}
 use Rattle.key_script.specs.Last.{or_earlier}
 use Rattle.key_script.specs.Keys.{made_of, made_by, last_made}
