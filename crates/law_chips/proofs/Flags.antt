@@ -209,7 +209,10 @@ either false c x y p q = q
 
 -- such a write leaves the flags
 others_keep : (reg v : ℕ) (c : State) → IsOther reg → (write_leaves reg v c).flags ≡ c.flags
-others_keep reg v c o = grind arith
+others_keep reg v c o =
+    rw (o.orb, o.ora, o.t1_counter, o.t1_latch, o.t2_counter, o.sr, o.ifr)
+    (either (reg == 2) c _ _ refl (either (reg == 3) c _ _ refl (either (reg == 4) c _ _ refl (either (reg == 6) c _ _ refl
+    (either (reg == 8) c _ _ refl (either (reg == 11) c _ _ refl (either (reg == 12) c _ _ refl (either (reg == 14) c _ _ refl refl))))))))
 
 none_cleared : (reg v : ℕ) (c : State) → IsOther reg → (f : Flag) → is_cleared f (write reg v) c ≡ false
 none_cleared reg v c o f = grind arith
