@@ -18,18 +18,15 @@ use bus_plug::BusDevice;
 use cmd_stages::Leaves;
 use host_mach::HostMachine;
 use std::alloc::{AllocError, Global};
+use std::borrow::CowSlice;
 
 // The bytes of the disc in a drive of the host.
-fn disc_in<D: BusDevice>(
-    alloc: Global,
-    host: &Option<HostMachine<D>>,
-    drive: u8,
-) -> Result<Vec<u8>, AllocError>
-    ensures { IfOk result (λ v. v.items ≡ bytes_in (disc_bytes drive) (option_map (host_stepped D.plug) host.now)) }
+fn disc_in<D: BusDevice>(host: &Option<HostMachine<D>>, drive: u8) -> &[u8]
+    ensures { result.now ≡ bytes_in (disc_bytes drive) (option_map (host_stepped D.plug) host.now) }
 {
     match host {
-        Some(machine) => disc_bytes(machine, drive).to_vec(alloc),
-        None => Ok(Vec::new(alloc)),
+        Some(machine) => disc_bytes(machine, drive),
+        None => &[],
     }
 }
 
@@ -62,22 +59,22 @@ fn plug_in<D: BusDevice>(
 }
 
 // The trace of what is kept.
-fn trace_in(alloc: Global, kept: &Option<Kept>) -> Result<Vec<u8>, AllocError>
-    ensures { IfOk result (λ v. v.items ≡ bytes_in trace_text (option_map kept_seen kept.now)) }
+fn trace_in(kept: &Option<Kept>) -> &[u8]
+    ensures { result.now ≡ bytes_in trace_text (option_map kept_seen kept.now) }
 {
     match kept {
-        Some(kept) => kept.trace.to_vec(alloc),
-        None => Ok(Vec::new(alloc)),
+        Some(kept) => &kept.trace,
+        None => &[],
     }
 }
 
 // The session file of a run that is to be saved.
-fn session_in(alloc: Global, saved: &Option<Vec<u8>>) -> Result<Vec<u8>, AllocError>
-    ensures { IfOk result (λ v. v.items ≡ unwrap_or (option_map items saved.now) []) }
+fn session_in(saved: &Option<Vec<u8>>) -> &[u8]
+    ensures { result.now ≡ unwrap_or (option_map items saved.now) [] }
 {
     match saved {
-        Some(bytes) => bytes.to_vec(alloc),
-        None => Ok(Vec::new(alloc)),
+        Some(bytes) => bytes,
+        None => &[],
     }
 }
 
@@ -97,49 +94,55 @@ impl<'a, D: BusDevice> Leaves for Left<'a, D> {
 
     ghost file_of = { λ l. file_of (left_seen D.plug l) };
 
-    fn file(&self, alloc: Global, output: Output) -> Result<(String, Vec<u8>), AllocError>
+    fn file(&self, alloc: Global, output: Output) -> Result<(String, CowSlice<'_, u8>), AllocError>
         ensures { IfOk result (λ f. seen_file f ≡ file_of (left_seen D.plug self.now) output) }
     {
         let out = self.names.out;
         match output {
             Output::Report => Ok((
                 format!(in alloc; "{out}.report")?,
-                report_text(alloc, self)?,
+                CowSlice::Owned(report_text(alloc, self)?),
             )),
             Output::Memory(Side::Host) => Ok((
                 format!(in alloc; "{out}.host")?,
-                ram_of(self, Side::Host).to_vec(alloc)?,
+                CowSlice::Borrowed(ram_of(self, Side::Host)),
             )),
             Output::Memory(Side::Para) => Ok((
                 format!(in alloc; "{out}.para")?,
-                ram_of(self, Side::Para).to_vec(alloc)?,
+                CowSlice::Borrowed(ram_of(self, Side::Para)),
             )),
             Output::Disc(drive) => Ok((
                 format!(in alloc; "{out}.d{drive}")?,
-                disc_in(alloc, &self.host, drive)?,
+                CowSlice::Borrowed(disc_in(&self.host, drive)),
             )),
             Output::Frame(number) => Ok((
                 frame_name(alloc, out, number)?,
-                frame_in(alloc, &self.host, number)?,
+                CowSlice::Owned(frame_in(alloc, &self.host, number)?),
             )),
             Output::Trace => Ok((
                 format!(in alloc; "{out}.trace")?,
-                trace_in(alloc, &self.kept)?,
+                CowSlice::Borrowed(trace_in(&self.kept)),
             )),
             Output::Plug(number) => Ok((
                 format!(in alloc; "{out}.plug{number}")?,
-                plug_in(alloc, &self.host, number)?,
+                CowSlice::Owned(plug_in(alloc, &self.host, number)?),
             )),
             Output::Sound => Ok((
                 String::from_str(alloc, self.names.wav.unwrap_or(""))?,
-                sound_in(alloc, self)?,
+                CowSlice::Owned(sound_in(alloc, self)?),
             )),
             Output::Session => Ok((
                 String::from_str(alloc, self.names.save.unwrap_or(""))?,
-                session_in(alloc, &self.saved)?,
+                CowSlice::Borrowed(session_in(&self.saved)),
             )),
-            Output::Listing => Ok((format!(in alloc; "{out}.list")?, self.bytes.to_vec(alloc)?)),
-            Output::Bytes => Ok((String::from_str(alloc, out)?, self.bytes.to_vec(alloc)?)),
+            Output::Listing => Ok((
+                format!(in alloc; "{out}.list")?,
+                CowSlice::Borrowed(&self.bytes),
+            )),
+            Output::Bytes => Ok((
+                String::from_str(alloc, out)?,
+                CowSlice::Borrowed(&self.bytes),
+            )),
         }
     }
 }

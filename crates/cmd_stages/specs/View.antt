@@ -4,6 +4,8 @@ use Rattle.std.specs.declared.string.String.{String}
 use Rattle.std.specs.declared.vec.Vec.{Vec}
 use Rattle.std.specs.declared.alloc.Global.{Global}
 use Rattle.std.specs.Borrow.{Bor}
+use Rattle.std.specs.declared.borrow.CowSlice.{CowSlice}
+use Rattle.std.specs.Cow.{cow_slice_items}
 use Rattle.cmd_stages.specs.declared.stop.Refusal.{Refusal}
 use Rattle.cmd_stages.specs.declared.stop.Refusal.TheVariants.{Cause, NoMemory}
 use Rattle.cmd_stages.specs.declared.outcome.Outcome.{Outcome}
@@ -15,8 +17,8 @@ seen_want w = (w.0, w.1.now, w.2)
 abbrev pub seen_input : {K : Type 0} → K × Vec ℕ Global → K × List ℕ
 seen_input i = (i.0, i.1.items)
 
-abbrev pub seen_file : String Global × Vec ℕ Global → List ℕ × List ℕ
-seen_file f = (string_bytes f.0, f.1.items)
+abbrev pub seen_file : String Global × CowSlice ℕ Global → List ℕ × List ℕ
+seen_file f = (string_bytes f.0, cow_slice_items f.1)
 
 -- What a function answers, seen by view, is what the stage gives, but for want of memory.
 abbrev pub Gives : {X Y C : Type 0} → (X → Y) → Result X (Refusal C) → Result Y (Refusal C) → Type 0

@@ -3,16 +3,21 @@ ghost use Rattle.std.specs.Prelude.{◌≡◌, IfOk, List, ℕ};
 ghost use Rattle.cmd_stages.specs.View.{seen_file};
 
 use std::alloc::{AllocError, Global};
+use std::borrow::CowSlice;
 
-/// What a command leaves: of it the file of each output is made, when its turn comes.
+/// What a command leaves: of it the file of each output is made or lent, when its turn comes.
 pub trait Leaves: Drop {
     /// An output: which file it is, without its bytes.
     type Output: Copy;
 
     ghost file_of: { Self → Self.Output → List ℕ × List ℕ };
 
-    /// The name and the bytes of the file of an output.
-    fn file(&self, alloc: Global, output: Self::Output) -> Result<(String, Vec<u8>), AllocError>
+    /// The name and the bytes of the file of an output, which are lent where they stand already.
+    fn file(
+        &self,
+        alloc: Global,
+        output: Self::Output,
+    ) -> Result<(String, CowSlice<'_, u8>), AllocError>
         ensures { IfOk result (λ f. seen_file f ≡ file_of self.now output) };
 }
 

@@ -39,7 +39,7 @@ fn put_all<C: Drop, L: Leaves, O: Outlet>(
 {
     for output in outputs {
         let (name, bytes) = left.file(alloc, *output)?;
-        put(alloc, name.as_str(), &bytes, out)?;
+        put(alloc, name.as_str(), bytes.as_slice(), out)?;
     }
     Ok(())
 }

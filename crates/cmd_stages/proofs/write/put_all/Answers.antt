@@ -1,4 +1,5 @@
 use Rattle.std.proofs.Common.{◌≡◌, ◌<◌, ◌∙◌, sym, Ok, Err, List, ℕ, map, get_or, string_bytes, length}
+use Rattle.std.specs.Cow.{cow_slice_items}
 use Rattle.cmd_stages.specs.declared.stop.Stop.TheVariants.{NoMemory}
 use Rattle.cmd_stages.specs.View.{seen_file}
 use Rattle.cmd_stages.specs.Stages.{PutsOne}
@@ -21,9 +22,9 @@ returns-in_err-put-clause-puts g c =
     let f : List ℕ × List ℕ = seen_file (c.in_ok-name.name, c.in_ok-name.bytes) in
     let at : get_or fs c.loop-output.output-index f ≡ f =
     file_at g.L.Leaves.file_of c.args.left.now c.args.outputs.now c.loop-output.output-index c.output-item.result f c.loop-output-test.true c.output-item.is c.in_ok-name.ensures in
-    let one : PutsOne (string_bytes c.in_ok-name.name) c.in_ok-name.bytes.items (g.O.Outlet.outlet c.loop-output.out) (g.O.Outlet.outlet c.put.new.out) (Err c.in_err-put.field-0.0) =
+    let one : PutsOne (string_bytes c.in_ok-name.name) (cow_slice_items c.in_ok-name.bytes) (g.O.Outlet.outlet c.loop-output.out) (g.O.Outlet.outlet c.put.new.out) (Err c.in_err-put.field-0.0) =
     puts_named {C = g.row.C.Denot} _ _ _ _ (g.O.Outlet.outlet c.loop-output.out) (g.O.Outlet.outlet c.put.new.out) (Err c.in_err-put.field-0.0)
-    c.as_str.ensures.value c.deref.ensures.value c.in_err-put.ensures.puts in
+    c.as_str.ensures.value c.as_slice.ensures.value c.in_err-put.ensures.puts in
     rw (err_is c.from_residual-in_err-put.result c.in_err-put.field-0.0 c.from_residual-in_err-put.ensures.1)
     (puts_stopped fs c.loop-output.output-index f (g.O.Outlet.outlet c.args.out.now) (g.O.Outlet.outlet c.loop-output.out) (g.O.Outlet.outlet c.put.new.out) low at
     c.loop-output.invariant.0 c.loop-output.invariant.1 c.loop-output.invariant.2 c.in_err-put.field-0.0 one)
@@ -35,8 +36,8 @@ loop-output-preserved g c =
     let f : List ℕ × List ℕ = seen_file (c.in_ok-name.name, c.in_ok-name.bytes) in
     let at : get_or fs c.loop-output.output-index f ≡ f =
     file_at g.L.Leaves.file_of c.args.left.now c.args.outputs.now c.loop-output.output-index c.output-item.result f c.loop-output-test.true c.output-item.is c.in_ok-name.ensures in
-    let one : PutsOne {C = g.row.C.Denot} (string_bytes c.in_ok-name.name) c.in_ok-name.bytes.items (g.O.Outlet.outlet c.loop-output.out) (g.O.Outlet.outlet c.put.new.out) (Ok tt) =
-    puts_named {C = g.row.C.Denot} _ _ _ _ (g.O.Outlet.outlet c.loop-output.out) (g.O.Outlet.outlet c.put.new.out) (Ok tt) c.as_str.ensures.value c.deref.ensures.value c.in_ok-put.ensures.puts in (
+    let one : PutsOne {C = g.row.C.Denot} (string_bytes c.in_ok-name.name) (cow_slice_items c.in_ok-name.bytes) (g.O.Outlet.outlet c.loop-output.out) (g.O.Outlet.outlet c.put.new.out) (Ok tt) =
+    puts_named {C = g.row.C.Denot} _ _ _ _ (g.O.Outlet.outlet c.loop-output.out) (g.O.Outlet.outlet c.put.new.out) (Ok tt) c.as_str.ensures.value c.as_slice.ensures.value c.in_ok-put.ensures.puts in (
       one.0 ∙ rw c.loop-output.invariant.0 (sym (put_all-more fs c.loop-output.output-index f _ low at)),
       one.1 ∙ c.loop-output.invariant.1,
       no_count_fell _ (g.O.Outlet.outlet c.loop-output.out) _ c.loop-output.invariant.2 c.in_ok-put.ensures.counts,
