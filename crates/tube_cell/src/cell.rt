@@ -141,7 +141,7 @@ impl TubeCell {
         )
     }
 
-    /// The bell by which a side sleeps.
+    /// The bell by which a side waits.
     #[inline(always)]
     pub fn bell(&self, side: Side) -> &Bell {
         match side {
@@ -150,8 +150,8 @@ impl TubeCell {
         }
     }
 
-    // Wakes the other side, where it sleeps and may go on behind an exchange of these words for the next: they let its step on, or cut the trust, which it may
-    // wait for.
+    // Rings the other side's bell, where that hangs and the side may go on behind an exchange of these words for the next: they let its step on, or cut the
+    // trust, which it may wait for.
     #[inline(always)]
     fn ring(&self, side: Side, words: &[u64; 9], next: &[u64; 9]) {
         let other = match side {
