@@ -50,33 +50,6 @@ none_after t x (y ∷ xs) late rises =
 pub none_from : (t : ℕ) (x : Entry) (xs : List Entry) → t ≤ (x.tick).0 → Rises (events_of (x ∷ xs)) → below t (x ∷ xs) ≡ []
 none_from t x xs late rises = rw (not_below t x late) (none_after t x xs late rises)
 
--- one more
-pub one_below : (t : ℕ) (x : Entry) (xs : List Entry) → (x.tick).0 < t → below t (x ∷ xs) ≡ x ∷ below t xs
-one_below t x xs low = let is : nat_lt (x.tick).0 t ≡ true = grind (arith, nat_tests) in rw is refl
-
-one_more : (i : ℕ) → suc i ≡ i + 1
-one_more i = omega arith
-
-take_one : {A : Type 0} (i : ℕ) (xs : List A) (d : A) → i < length xs → take (suc i) xs ≡ take i xs ++ slice_index_or xs i d ∷ []
-take_one zero [] d h = absurd (omega (arith, h))
-take_one zero (x ∷ xs) d h = refl
-take_one (suc i) [] d h = absurd (omega (arith, h))
-take_one (suc i) (x ∷ xs) d h = ap (λ ys. x ∷ ys) (take_one i xs d (omega (arith, h)))
-
-app3 : {A : Type 0} (xs : List A) (x : A) (ys : List A) → (xs ++ x ∷ []) ++ ys ≡ xs ++ x ∷ ys
-app3 [] x ys = refl
-app3 (z ∷ xs) x ys = ap (λ zs. z ∷ zs) (app3 xs x ys)
-
-pub count_further : (t i : ℕ) (xs : List Entry) (d : Entry) → i < length xs → ((slice_index_or xs i d).tick).0 < t →
-    below t xs ≡ take i xs ++ below t (drop i xs) → below t xs ≡ take (i + 1) xs ++ below t (drop (i + 1) xs)
-count_further t i xs d h low is =
-    is
-    ∙ ap (λ ys. take i xs ++ below t ys) (drop_more xs i d h)
-    ∙ ap (λ ys. take i xs ++ ys) (one_below t (slice_index_or xs i d) (drop (i + 1) xs) low)
-    ∙ sym (app3 (take i xs) (slice_index_or xs i d) (below t (drop (i + 1) xs)))
-    ∙ ap (λ ys. ys ++ below t (drop (i + 1) xs)) (sym (take_one i xs d h))
-    ∙ ap (λ k. take k xs ++ below t (drop (i + 1) xs)) (one_more i)
-
 pub count_here : (t i : ℕ) (xs : List Entry) (d : Entry) → i < length xs → t ≤ ((slice_index_or xs i d).tick).0 → Rises (events_of xs) →
     below t xs ≡ take i xs ++ below t (drop i xs) → below t xs ≡ take i xs
 count_here t i xs d h late rises is =

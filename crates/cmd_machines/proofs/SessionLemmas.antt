@@ -1,14 +1,7 @@
 -- The parts of a session.
-use Rattle.std.proofs.Common.{◌≡◌, refl, ℕ, ◌+◌, ◌<◌, List, [], ◌∷◌, ◌++◌, drop, length, slice_index_or, Option, append_assoc, append-nil}
-use Rattle.std.proofs.lemmas.List.{drop_more}
+use Rattle.std.proofs.Common.{◌≡◌, refl, ℕ, List, [], ◌∷◌, ◌++◌, length, append-nil}
 use Rattle.cmd_words.specs.declared.keys.Slot.{Slot}
-use Rattle.cmd_machines.specs.Sessions.{if_there, there}
-
--- one part more
-pub there_more : (before after : List (Slot × List ℕ)) (slots : List Slot) (place : ℕ) (d : Slot) (part : Option (List ℕ)) (parts : List (Option (List ℕ))) →
-    place < length slots → after ≡ before ++ if_there (slice_index_or slots place d) part →
-    after ++ there (drop (place + 1) slots) parts ≡ before ++ there (drop place slots) (part ∷ parts)
-there_more before after slots place d part parts h is = rw (is, append_assoc, drop_more slots place d h) refl
+use Rattle.cmd_machines.specs.Sessions.{there}
 
 -- no part more
 there_none : (slots : List Slot) → there slots [] ≡ []

@@ -118,9 +118,6 @@ turns (suc q) m c f h first small =
 on_yes : (c : State) → 0 < c.sync_lines → is_in_sync c ≡ true
 on_yes c h = grind (arith, nat_tests)
 
-on_no : (c : State) → c.sync_lines ≡ 0 → is_in_sync c ≡ false
-on_no c h = grind (arith, nat_tests)
-
 on_always : (k : ℕ) (c : State) (s f : ℕ) → is_quiet c ≡ true → c.registers.vertical_sync_position ≡ 0 → 0 < s → is_in_sync (clocks k (timed c s f)) ≡ true
 on_always zero c s f h first on = on_yes (timed c s f) on
 on_always (suc k) c s f h first on =

@@ -1,11 +1,11 @@
 -- Which of the host's addresses are plain memory.
 use Rattle.std.specs.Prelude.{ℕ, zero, suc, length, Option, None, Some, MatchOption, ◌≡◌, ◌≤◌, ◌<◌, ◌+◌, ◌*◌, ◌/◌, ◌%◌}
-use Rattle.std.specs.Prelude.{◌==◌, max, nat_lt, nat_le, ◌&&◌, ◌||◌, ◌⊎◌, not, Bool, true, false, refl, slice_index, slice_set, List, if◌then◌else◌}
+use Rattle.std.specs.Prelude.{◌==◌, max, nat_lt, nat_le, ◌&&◌, ◌⊎◌, not, Bool, true, false, refl, slice_index, slice_set, List, if◌then◌else◌}
 use Rattle.std.proofs.Common.{arith, ap, ◌∙◌, sym, subst, inl, inr}
 use Rattle.std.proofs.lemmas.Bool.{ltb-true, lt-ltb, eq-eqb, cases_lt}
 use Rattle.std.proofs.lemmas.Grind.{common_steps}
 use Rattle.std.proofs.lemmas.List.{set-get_or}
-use Rattle.std.proofs.Math.Nat.{mul-le-mul_left, mul-add, mul-one}
+use Rattle.std.proofs.Math.Nat.{mul-le-mul_left, mul-one}
 use Rattle.op_table.specs.declared.names.Part.{Part}
 use Rattle.cpu_alu.specs.declared.Cycle.{Cycle}
 use Rattle.cpu_alu.specs.declared.Cycle.TheVariants.{Read, Write}
@@ -17,8 +17,7 @@ use Rattle.host_devices.specs.Map.{Place, Ram, PagedRom, OsRom, place_of, stretc
 use Rattle.host_bus.specs.Bus.{BusState, clock_of, bus_closed, closed_at, bus_irq, bus_nmis, answer_of, after_read_of, after_write_of, bus_answer, bus_after_read, bus_after_write}
 use Rattle.host_bus.specs.Closing.{closed-again, closed-still}
 use Rattle.tube_machine.specs.Whole.{reach_of, IsMemory, IsAtRest, StaysAtRest}
-use Rattle.cpu_whole.specs.Whole.{AreRead, Carried, is_plain, shows, leaves}
-use Rattle.cpu_alu.specs.Addresses.{wrap}
+use Rattle.cpu_whole.specs.Whole.{Carried, is_plain, shows, leaves}
 use Rattle.host_bus.specs.StoredLines.{irq-stored, nmis-stored}
 use Rattle.host_mach.specs.State.{HostBusState}
 use Rattle.host_mach.specs.SameClock.{access-same}
@@ -159,20 +158,9 @@ host_rests = record {
   tube = λ b l masks far c rest at some u near. subst (λ (x : BusState). AsksNothing (bus_closed x u) b.nmis l masks) (sym (tube-leaves b c at)) (rest some u near);
 }
 
--- an instruction below the devices
-pub runs-low : (pc : ℕ) → pc < 0xFBFE → AreRead (reach_of host_wiring plain_read plain_write) pc
-runs-low pc low = record {
-  first = lt-ltb pc 0xFC00 (omega (arith, low));
-  second = lt-ltb (wrap (pc + 1)) 0xFC00 (omega (arith, low));
-  third = lt-ltb (wrap (pc + 2)) 0xFC00 (omega (arith, low));
-}
-
 -- an instruction's cycles begin one after another, and each closes the bus no further than behind its first tick
 pub comes_later : (closed c t n k : ℕ) → closed ≤ t + max 1 (c * n) → n ≤ k → closed ≤ t + max 1 (c * k)
 comes_later closed c t n k low high = let more : c * n ≤ c * k = mul-le-mul_left c high in omega (arith, low, more)
-
-pub comes_next : (c t n : ℕ) → 1 < c → t + c * n + 1 ≤ t + max 1 (c * (n + 1))
-comes_next c t n some = let sum : c * (n + 1) ≡ c * n + c * 1 = mul-add c n 1 in let one : c * 1 ≡ c = mul-one c in omega (arith, sum, one, some)
 
 pub comes_behind : (c t n closed : ℕ) → 1 < c → 0 < n → closed ≤ t + max 1 (c * n) → closed ≤ t + c * n
 comes_behind c t n closed some more low = let least : c * 1 ≤ c * n = mul-le-mul_left c more in let one : c * 1 ≡ c = mul-one c in omega (arith, least, one, some, low)

@@ -4,7 +4,6 @@ use Rattle.std.proofs.lemmas.Bool.Decides.{nat_tests}
 use Rattle.std.proofs.lemmas.List.Elements.{All-push}
 use Rattle.std.proofs.lemmas.List.Sums.{sum_by-append}
 use Rattle.key_script.specs.declared.Event.{Event}
-use Rattle.key_script.specs.declared.ScriptError.{ScriptError}
 use Rattle.key_script.specs.declared.ScriptError.TheVariants.{BadLine, BadOrder, TooManyShots}
 use Rattle.key_script.specs.Events.{tick_of, is_shot, shots, last_tick_from, last_tick, NeverFallsFrom, IsEvent, IsScript}
 use Rattle.key_script.specs.Text.{fault, events_behind, events_of, BeginsBadly, script}
@@ -24,16 +23,6 @@ pub record ReadSoFar (text : List ℕ) (events : List Event) (last taken : ℕ) 
   pub taken_is : taken ≡ shots events
   pub rules : IsScript events
   pub size : length events + length rest ≤ length text
-
-pub read_none : (text : List ℕ) → ReadSoFar text [] 0 0 text
-unfolding script
-read_none text = record {
-  whole = refl;
-  last_is = refl;
-  taken_is = refl;
-  rules = record { order = tt; each = λ k d h. absurd (omega arith); few = omega arith };
-  size = omega arith;
-}
 
 falls : (line last taken : ℕ) (e : Event) → nat_lt (tick_of e) last ≡ true → fault line last taken e ≡ None → ⊥
 falls line last taken e h none = let no : Some (BadOrder line) ≡ None = rw h at none in cc

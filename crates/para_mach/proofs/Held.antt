@@ -1,9 +1,6 @@
 -- A machine that is held stands at a look, and goes past looks there; one that starts an instruction is not.
-use Rattle.std.proofs.Common.{◌≡◌, ◌∙◌, refl, sym, ap, subst, ℕ, zero, suc, ◌+◌, ◌<◌, ◌≤◌, ◌==◌, not, Bool, true, false, is_none, Option, None, Some, MatchOption, List, [], arith, if◌then◌else◌}
+use Rattle.std.proofs.Common.{◌≡◌, ◌∙◌, refl, sym, ap, subst, ℕ, zero, suc, ◌+◌, ◌<◌, ◌≤◌, ◌==◌, not, Bool, true, false, is_none, Option, None, Some, MatchOption, List, [], if◌then◌else◌}
 use Rattle.std.proofs.lemmas.Bool.{ne_eqb}
-use Rattle.beeb_bits.specs.declared.clock.Clock.{Clock}
-use Rattle.beeb_bits.specs.declared.clock.Clock.TheVariants.{Three, Four}
-use Rattle.beeb_bits.specs.Clock.{para}
 use Rattle.op_table.specs.declared.names.Part.TheVariants.{Cmos}
 use Rattle.cpu_alu.specs.declared.Cycle.{Cycle}
 use Rattle.cpu_alu.specs.declared.Regs.{Regs}
@@ -22,13 +19,12 @@ use Rattle.tube_party.specs.Steps.{look_last, looks_wider, silent_all, talks_on}
 use Rattle.tube_party.specs.declared.party.Ask.{Ask}
 use Rattle.tube_party.specs.declared.party.Ask.TheVariants.{Nothing, Access, Look}
 use Rattle.tube_machine.specs.Step.{asks_by, begin_leaves, after_held_cycle, after_step, closed_to, lines_in}
-use Rattle.tube_machine.specs.Exchange.{IsCramped}
 use Rattle.tube_machine.specs.declared.pass.Passing.{Passing}
 use Rattle.tube_machine.specs.Passing.{IsOver, ToLook, Passes, over_at}
 use Rattle.para_mach.specs.State.{ParaBusState, ParaState, shown_regs}
 use Rattle.para_mach.specs.Peek.{peek_of, para_peek}
 use Rattle.para_mach.specs.Step.{para_wiring, para_moves, next_state}
-use Rattle.para_mach.specs.CodeNotes.{LooksOn, IsHeldAtLook, IsNear, part_kept}
+use Rattle.para_mach.specs.CodeNotes.{LooksOn, IsHeldAtLook, part_kept}
 
 -- no step changes that
 look_by : (resets prst : Bool) (s held reset taken : ParaState) → (next_cycle held.cpu ≡ None) → (reset.bus.is_held ≡ false) → (taken.bus.is_held ≡ false) →
@@ -114,11 +110,6 @@ held_more n lines sure start s new so_far stands other low early is before =
     }
 
 -- ---- Room
-
--- a run that is near has room
-pub no_cramp : (c : Clock) (sure due from room near : ℕ) → IsNear c sure due room near → 16 ≤ room → due ≤ from → IsCramped (para c) near from room → ⊥
-no_cramp Three sure due from room near is some low cramped = omega (arith, is.1, some, low, cramped)
-no_cramp Four sure due from room near is some low cramped = omega (arith, is.1, some, low, cramped)
 
 -- the steps of a run, and what is asked then; its looks may be nearer than they need be
 module _ (n : ℕ) (lines : Lines) (near sure : ℕ) {D : Type 0} (answers : D → ℕ → Op → ℕ → D → Type 0) where

@@ -3,13 +3,11 @@ use Rattle.std.specs.Prelude.{ℕ, suc, ◌≡◌, ◌≤◌, ◌<◌, ◌+◌, 
 use Rattle.std.proofs.Common.{arith, ap, ◌∙◌, sym}
 use Rattle.std.proofs.lemmas.Bool.{and_left, ltb-true, lt-ltb, lt-leb, eq-eqb}
 use Rattle.std.proofs.lemmas.List.{set-set}
-use Rattle.std.proofs.Math.Nat.{mul-le-mul_left, mul-add, mul-one}
+use Rattle.std.proofs.Math.Nat.{mul-le-mul_left, mul-one}
 use Rattle.cpu_alu.specs.declared.Cycle.TheVariants.{Read}
 use Rattle.tube_chip.specs.declared.Lines.{Lines}
-use Rattle.cpu_whole.specs.Whole.{AreRead}
-use Rattle.cpu_alu.specs.Addresses.{wrap}
 use Rattle.beeb_bits.specs.Clock.{para}
-use Rattle.tube_machine.specs.Whole.{reach_of, IsMemory, IsAtRest, StaysAtRest}
+use Rattle.tube_machine.specs.Whole.{IsMemory, IsAtRest, StaysAtRest}
 use Rattle.para_mach.specs.State.{ParaBusState}
 use Rattle.para_mach.specs.Step.{is_tube, para_wiring}
 
@@ -97,28 +95,6 @@ para_rests = record {
   write = λ b l masks far at byte rest low. rest;
   tube = λ b l masks far c rest at. rest;
 }
-
--- an instruction below the Tube
-pub runs-low : (pc : ℕ) → pc < 0xFEF6 → AreRead (reach_of para_wiring plain_read plain_write) pc
-runs-low pc low = record {
-  first = lt-ltb pc 0xFEF8 (omega (arith, low));
-  second = lt-ltb (wrap (pc + 1)) 0xFEF8 (omega (arith, low));
-  third = lt-ltb (wrap (pc + 2)) 0xFEF8 (omega (arith, low));
-}
-
--- a write below the boot ROM
-pub put-low : (b : ParaBusState) (t n at byte : ℕ) → plain_write at ≡ true → b.closed ≤ t + max 1 (para b.clock * n) →
-    record b { ram = slice_set b.ram at byte; closed = t + para b.clock * n + 1 } ≡ (reach_of para_wiring plain_read plain_write).put b t n at byte
-put-low b t n at byte low before =
-    let u : ℕ = t + para b.clock * n + 1 in
-    let far : u ≡ max u b.closed = omega (arith, before) in
-    ap (λ (c : ℕ). record b { ram = slice_set b.ram at byte; closed = c }) far
-    ∙ ap (λ (i : Bool). record b { ram = slice_set b.ram at byte; rom_in = i; closed = max u b.closed }) (sym (and-true b.rom_in))
-    ∙ ap (λ (tube : Bool). record b { ram = (if tube then b.ram else slice_set b.ram at byte); rom_in = b.rom_in && not tube; closed = max u b.closed }) (sym (write-apart at low))
-
--- the next cycle comes behind it
-pub comes_next : (c t n : ℕ) → 1 < c → t + c * n + 1 ≤ t + max 1 (c * (n + 1))
-comes_next c t n some = let sum : c * (n + 1) ≡ c * n + c * 1 = mul-add c n 1 in let one : c * 1 ≡ c = mul-one c in omega (arith, sum, one, some)
 
 pub comes_behind : (c t n closed : ℕ) → 1 < c → 0 < n → closed ≤ t + max 1 (c * n) → closed ≤ t + c * n
 comes_behind c t n closed some more low = let least : c * 1 ≤ c * n = mul-le-mul_left c more in let one : c * 1 ≡ c = mul-one c in omega (arith, least, one, some, low)

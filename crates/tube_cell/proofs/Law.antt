@@ -19,11 +19,6 @@ gap Host Para = 0
 gap Host Host = 1
 gap Para s = 1
 
-gap_host : (s : Side) → gap s Host ≡ 1
-unfolding gap
-gap_host Host = refl
-gap_host Para = refl
-
 -- e comes after x
 abbrev pub Precedes : Event → Event → Type 0
 Precedes e x = x.tick + gap x.side e.side ≤ e.tick

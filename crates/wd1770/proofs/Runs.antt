@@ -1,5 +1,5 @@
 -- Steps one after the other.
-use Rattle.std.proofs.Common.{◌≡◌, ◌∙◌, sym, refl, ap, ℕ, zero, suc, ◌+◌, ◌-◌, ◌<◌, ◌&&◌, ◌||◌, nat_lt, Bool, true, false, not, if◌then◌else◌, Option, Some, add-one, arith}
+use Rattle.std.proofs.Common.{◌≡◌, ◌∙◌, sym, refl, ap, ℕ, zero, suc, ◌-◌, ◌<◌, ◌&&◌, nat_lt, Bool, true, false, not, if◌then◌else◌, Option, Some, arith}
 use Rattle.std.proofs.lemmas.Bool.{lt-ltb}
 use Rattle.std.proofs.lemmas.Grind.{common_steps}
 use Rattle.wd1770.specs.declared.command.Command.{Command}
@@ -12,11 +12,6 @@ use Rattle.wd1770.specs.Step.{next_angle, command_step, step, steps}
 pub no_steps : (s : State) → steps 0 s ≡ s
 unfolding steps
 no_steps s = refl
-
--- n + 1 steps are n steps and one more
-pub one_step_more : (n : ℕ) (s : State) → steps (n + 1) s ≡ step (steps n s)
-unfolding steps
-one_step_more n s = rw add-one refl
 
 no_rise : (b : Bool) (x y : ℕ) → (if b && not b then x else y) ≡ y
 no_rise true x y = refl
