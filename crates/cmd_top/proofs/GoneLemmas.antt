@@ -1,15 +1,14 @@
 -- The theorems of sessions and of listings follow from what each command promises.
-use Rattle.std.proofs.Common.{◌≡◌, ◌∙◌, refl, ap, ℕ, List, Option, Some, Result, Ok}
+use Rattle.std.proofs.Common.{◌≡◌, ◌∙◌, sym, refl, ap, ℕ, List, Option, Some, Result, Ok}
 use Rattle.beeb_bits.specs.declared.Side.{Side}
 use Rattle.beeb_bits.specs.declared.Side.TheVariants.{Host, Para}
 use Rattle.op_table.specs.declared.names.Part.{Part}
-use Rattle.cmd_words.specs.Command.{Command, check, asm, dis, replay, solo, run, resume, follow, gen}
+use Rattle.cmd_words.specs.Command.{Command, check, asm, dis, replay, solo, run, resume, follow, gen, ticks_of}
 use Rattle.cmd_words.specs.Given.{Values, clock_of}
 use Rattle.host_mach.specs.Step.{host_moves}
 use Rattle.para_mach.specs.Step.{para_moves}
 use Rattle.follow.specs.Machines.{host_sight, para_sight}
-use Rattle.cmd_replayed.specs.Host.{host_of}
-use Rattle.cmd_replayed.specs.Para.{para_of}
+use Rattle.cmd_replayed.specs.Made.{host_of, para_of}
 use Rattle.op_table.specs.declared.names.Part.TheVariants.{Nmos, Cmos}
 use Rattle.cmd_stages.specs.Plan.{Verdict, or_stop, ◌>>=◌}
 use Rattle.cmd_stages.specs.Promise.{World, CarriesOut, put_all}
@@ -30,31 +29,17 @@ use Rattle.tube_party.specs.Replay.{replay_of}
 use Rattle.follow.specs.declared.Choice.{Choice}
 use Rattle.follow.specs.Sight.{Sight}
 use Rattle.follow.specs.Listing.{ListingState, replay_listing}
-use Rattle.cmd_machines.specs.Inputs.{inputs_of}
+use Rattle.cmd_machines.specs.Inputs.{Inputs, inputs_of}
 use Rattle.cmd_machines.specs.Setup.{setup_of}
 use Rattle.cmd_outcome.specs.Names.{names_of}
 use Rattle.cmd_outcome.specs.Verdicts.{machine_verdict}
-use Rattle.cmd_replayed.specs.Replay.{unless_wrong}
 use Rattle.cmd_ended.specs.Kept.{kept_verdict}
-use Rattle.cmd_follow.specs.Follow.{listed_verdict, listed_by, listed_ended, follow_host_after, follow_para_after}
-use Rattle.cmd_top.specs.Plans.{plan, choice_of}
+use Rattle.cmd_follow.specs.Follow.{listed_verdict, listed_by, listed_ended, follow_after}
+use Rattle.cmd_top.specs.Plans.{after, plan, choice_of}
 use Rattle.cmd_top.specs.Commands.{EndsWith}
 use Rattle.cmd_top.specs.Gone.{IsResumed, IsListed, Gone}
 use Rattle.cmd_top.proofs.HeadlineLemmas.{say_nothing}
 use Rattle.cmd_top.proofs.HeardLemmas.{stage_ok, placed, session_done, was_read}
-
--- a listing that ended as it was asked
-listed_done : {S : Type 0} (m : Moves S) (sights : S → Sight) (part : Part) (side : Side) (ticks : ℕ) (choice : Choice) (out : List ℕ) (r : Result (List Entry × S) (Refusal Cause))
-    (v : Verdict Ending) → or_stop (r >>= λ x. Ok (unless_wrong (wrong x.0) (listed_ended m sights part side ticks choice out x.0 x.1))) ≡ Ok v → endings.Done ≡ v.ending →
-    (x : List Entry × S) × (r ≡ Ok x) × (v ≡ listed_verdict out (replay_listing m sights part side x.0 ticks choice x.1))
-unfolding listed_by
-listed_done m sights part side ticks choice out r v comes done =
-    let got = stage_ok r r (λ x. unless_wrong (wrong x.0) (listed_ended m sights part side ticks choice out x.0 x.1)) v refl comes in (
-      got.0,
-      got.1,
-      placed (λ (l : ListingState). listed_verdict out l) (replay_listing m sights part side got.0.0 ticks choice got.0.1)
-          (replay_of m side got.0.0 ticks got.0.1).place (wrong got.0.0) v got.2 done,
-    )
 
 module _ (plugs : List Plug) (old new : World) where
   abbrev Ends : Command → Type 0
@@ -77,40 +62,30 @@ module _ (plugs : List Plug) (old new : World) where
         said = c.ends.3.said ∙ ap (λ (v : Verdict Ending). say v.said old.outlet.said) got.4 ∙ say_nothing old.outlet.said;
       }
 
-  host_gone : (trace : List ℕ) (ticks : ℕ) (out : List ℕ) (given : Values) → Ends (follow Host trace ticks out given) →
-      IsListed (follow Host trace ticks out given) (host_of (setup_of given plugs)) host_moves host_sight Nmos Host (choice_of given) out old new
-  unfolding follow_host_after
-  host_gone trace ticks out given c =
-      let read = was_read (plan plugs (follow Host trace ticks out given)) old.shelf.files c.ends.0 c.ends.1.0 in
-      let got = listed_done host_moves host_sight Nmos Host ticks (choice_of given) out (host_of (setup_of given plugs) (inputs_of read.0)) c.ends.0 read.2 c.ends.2 in
+  -- a listing that ended as it was asked
+  listed_gone : {S : Type 0} (c : Command) (made_of : Inputs → Result (List Entry × S) (Refusal Cause)) (m : Moves S) (sights : S → Sight) (part : Part) (side : Side) (choice : Choice)
+      (out : List ℕ) → ((i : Inputs) → after plugs c i ≡ (made_of i >>= λ x. Ok (listed_ended m sights part side (ticks_of c) choice out x))) → Ends c →
+      IsListed c made_of m sights part side choice out old new
+  unfolding listed_by
+  listed_gone c made_of m sights part side choice out comes e =
+      let read = was_read (plan plugs c) old.shelf.files e.ends.0 e.ends.1.0 in
+      let i : Inputs = inputs_of read.0 in
+      let got = stage_ok (made_of i) (made_of i) (listed_ended m sights part side (ticks_of c) choice out) e.ends.0 refl (ap or_stop (sym (comes i)) ∙ read.2) in
+      let listing : ListingState = replay_listing m sights part side got.0.0 (ticks_of c) choice got.0.1 in
+      let is : e.ends.0 ≡ listed_verdict out listing =
+      placed (λ (l : ListingState). listed_verdict out l) listing (replay_of m side got.0.0 (ticks_of c) got.0.1).place (wrong got.0.0) e.ends.0 got.2 e.ends.2 in
       record {
         inputs = read.0;
         read = read.1;
         entries = got.0.0;
         machine = got.0.1;
         made = got.1;
-        written = c.ends.3.files ∙ ap (λ (v : Verdict Ending). put_all v.files old.outlet.files) got.2;
-        said = c.ends.3.said ∙ ap (λ (v : Verdict Ending). say v.said old.outlet.said) got.2;
-      }
-
-  para_gone : (trace : List ℕ) (ticks : ℕ) (out : List ℕ) (given : Values) → Ends (follow Para trace ticks out given) →
-      IsListed (follow Para trace ticks out given) (para_of (clock_of given)) para_moves para_sight Cmos Para (choice_of given) out old new
-  unfolding follow_para_after
-  para_gone trace ticks out given c =
-      let read = was_read (plan plugs (follow Para trace ticks out given)) old.shelf.files c.ends.0 c.ends.1.0 in
-      let got = listed_done para_moves para_sight Cmos Para ticks (choice_of given) out (para_of (clock_of given) (inputs_of read.0)) c.ends.0 read.2 c.ends.2 in
-      record {
-        inputs = read.0;
-        read = read.1;
-        entries = got.0.0;
-        machine = got.0.1;
-        made = got.1;
-        written = c.ends.3.files ∙ ap (λ (v : Verdict Ending). put_all v.files old.outlet.files) got.2;
-        said = c.ends.3.said ∙ ap (λ (v : Verdict Ending). say v.said old.outlet.said) got.2;
+        written = e.ends.3.files ∙ ap (λ (v : Verdict Ending). put_all v.files old.outlet.files) is;
+        said = e.ends.3.said ∙ ap (λ (v : Verdict Ending). say v.said old.outlet.said) is;
       }
 
 done_gone : (plugs : List Plug) (c : Command) (old new : World) → EndsWith plugs c old new Done → Gone plugs (Some c) old new
-unfolding EndsWith Gone
+unfolding EndsWith Gone follow_after
 done_gone plugs (check trace) old new e = tt
 done_gone plugs (asm part source out) old new e = tt
 done_gone plugs (dis part image origin out) old new e = tt
@@ -118,8 +93,10 @@ done_gone plugs (replay side trace ticks out given) old new e = tt
 done_gone plugs (solo ticks out keep given) old new e = tt
 done_gone plugs (run ticks out keep given) old new e = tt
 done_gone plugs (resume state ticks out keep given) old new e = resume_gone plugs old new state ticks keep out given e
-done_gone plugs (follow Host trace ticks out given) old new e = host_gone plugs old new trace ticks out given e
-done_gone plugs (follow Para trace ticks out given) old new e = para_gone plugs old new trace ticks out given e
+done_gone plugs (follow Host trace ticks out given) old new e =
+    listed_gone plugs old new (follow Host trace ticks out given) (host_of (setup_of given plugs)) host_moves host_sight Nmos Host (choice_of given) out (λ i. refl) e
+done_gone plugs (follow Para trace ticks out given) old new e =
+    listed_gone plugs old new (follow Para trace ticks out given) (para_of (clock_of given)) para_moves para_sight Cmos Para (choice_of given) out (λ i. refl) e
 done_gone plugs (gen seed) old new e = tt
 
 -- a command that was carried out as its status says

@@ -44,10 +44,9 @@ use Rattle.cmd_outcome.specs.Sound.{sound_bytes}
 use Rattle.cmd_outcome.specs.Files.{file_of, own_name}
 use Rattle.cmd_outcome.specs.Outputs.{if_there, of_host, discs, shots, spills, machine_outputs}
 use Rattle.cmd_outcome.specs.Verdicts.{machine_verdict, both_left, host_left}
-use Rattle.cmd_replay.specs.Replay.{side_count, verdict_of_end}
+use Rattle.cmd_replay.specs.Replay.{side_count, replayed, replay_after}
 use Rattle.cmd_replayed.specs.Replay.{verdict_of_place, unless_wrong}
-use Rattle.cmd_replayed.specs.Host.{host_of}
-use Rattle.cmd_replay.specs.Host.{host_ended, host_after}
+use Rattle.cmd_replayed.specs.Made.{host_of}
 use Rattle.cmd_ended.specs.Kept.{kept_of, saved_file, kept_verdict}
 use Rattle.cmd_pair.specs.Solo.{solo_after}
 use Rattle.cmd_session.specs.Session.{state_of, place_of, session_ended, session_after}
@@ -207,20 +206,19 @@ module _ (plugs : List Plug) (ticks : ℕ) (out : List ℕ) (given : Values) (na
             w.host name old new refl wav differ (is ∙ ap (λ (x : Verdict Ending). put_all x.files old) got.4),
       )
 
-  replay_heard : or_stop (host_after (setup_of given plugs) ticks (names_of out given) i) ≡ Ok v → endings.Done ≡ v.ending → Hears (replayed_host plugs ticks given i)
-  unfolding host_after host_ended
+  replay_heard : or_stop (replay_after (setup_of given plugs) Host ticks (names_of out given) i) ≡ Ok v → endings.Done ≡ v.ending → Hears (replayed_host plugs ticks given i)
+  unfolding replay_after replayed
   replay_heard comes done =
       let left : ℕ → HostState → Left = λ tube s. host_left (clock_of given) ticks tube (names_of out given) s in
-      let after : List Entry → HostState → Verdict Ending = λ entries s. machine_verdict (left (side_count Host ticks entries) s) in
-      let whole : List Entry × HostState → Verdict Ending = λ m. unless_wrong (wrong m.0) (verdict_of_end (after m.0) (replay_of host_moves Host m.0 ticks m.1)) in
-      let got = stage_ok (host_of (setup_of given plugs) i) (host_of (setup_of given plugs) i) whole v refl comes in
-      let e : Ended HostState = replay_of host_moves Host got.0.0 ticks got.0.1 in (
+      let got = stage_ok (host_of (setup_of given plugs) i) (host_of (setup_of given plugs) i) (replayed host_moves Host ticks left) v refl comes in
+      let e : Ended HostState = replay_of host_moves Host got.0.0 ticks got.0.1 in
+      let count : ℕ = side_count Host ticks got.0.0 in (
         clock_of given,
         e.machine,
         ap (λ (r : Result (List Entry × HostState) (Refusal Cause)). r >>= λ m. Ok (clock_of given, (replay_of host_moves Host m.0 ticks m.1).machine)) got.1,
         λ differ.
-            left_heard (left (side_count Host ticks got.0.0) e.machine) e.machine name old new refl wav differ
-            (is ∙ ap (λ (x : Verdict Ending). put_all x.files old) (placed (after got.0.0) e.machine e.place (wrong got.0.0) v got.2 done)),
+            left_heard (left count e.machine) e.machine name old new refl wav differ
+            (is ∙ ap (λ (x : Verdict Ending). put_all x.files old) (placed (λ (s : HostState). machine_verdict (left count s)) e.machine e.place (wrong got.0.0) v got.2 done)),
       )
 
 -- ---- from the promise of a command

@@ -31,8 +31,7 @@ use Rattle.cmd_machines.specs.Setup.{setup_of}
 use Rattle.cmd_machines.specs.Machines.{machines_of}
 use Rattle.cmd_machines.specs.Sessions.{setup_in, inputs_in, begun_if}
 use Rattle.cmd_outcome.specs.Names.{names_of}
-use Rattle.cmd_replayed.specs.Host.{host_of}
-use Rattle.cmd_replayed.specs.Para.{para_of}
+use Rattle.cmd_replayed.specs.Made.{host_of, para_of}
 use Rattle.cmd_ended.specs.Kept.{kept_verdict}
 use Rattle.cmd_session.specs.Session.{state_of}
 use Rattle.cmd_follow.specs.Follow.{listed_text}

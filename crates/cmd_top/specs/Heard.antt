@@ -23,7 +23,7 @@ use Rattle.cmd_machines.specs.Setup.{setup_of}
 use Rattle.cmd_machines.specs.Machines.{machines_of}
 use Rattle.cmd_machines.specs.Sessions.{setup_in, inputs_in}
 use Rattle.cmd_outcome.specs.Sound.{sound_bytes}
-use Rattle.cmd_replayed.specs.Host.{host_of}
+use Rattle.cmd_replayed.specs.Made.{host_of}
 use Rattle.cmd_session.specs.Session.{state_of}
 
 -- the host of the reference run of both machines from power-on, where it ended, and its clock

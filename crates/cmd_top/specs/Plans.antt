@@ -1,5 +1,5 @@
 -- What each command reads and comes to. A new command has its line in `after`.
-use Rattle.std.specs.Prelude.{ℕ, List, Result}
+use Rattle.std.specs.Prelude.{List, Result}
 use Rattle.cmd_stages.specs.Plan.{Verdict, Plan}
 use Rattle.cmd_stages.specs.declared.stop.Refusal.{Refusal}
 use Rattle.cmd_words.specs.declared.keys.Slot.{Slot}
@@ -10,31 +10,20 @@ use Rattle.follow.specs.declared.Choice.{Choice}
 use Rattle.cmd_status.specs.declared.status.Ending.{Ending}
 use Rattle.cmd_status.specs.declared.status.Cause.{Cause}
 use Rattle.cmd_machines.specs.Inputs.{Inputs, inputs_of}
-use Rattle.cmd_machines.specs.Setup.{Setup, setup_of}
-use Rattle.cmd_outcome.specs.Names.{Names, names_of}
+use Rattle.cmd_machines.specs.Setup.{setup_of}
+use Rattle.cmd_outcome.specs.Names.{names_of}
 use Rattle.cmd_tools.specs.Check.{check_after}
 use Rattle.cmd_tools.specs.Asm.{asm_after, dis_after}
-use Rattle.cmd_replay.specs.Para.{para_after}
-use Rattle.cmd_replay.specs.Host.{host_after}
+use Rattle.cmd_replay.specs.Replay.{replay_after}
 use Rattle.cmd_pair.specs.Solo.{solo_after}
 use Rattle.cmd_pair.specs.Gen.{gen_after}
 use Rattle.cmd_session.specs.Session.{session_after}
-use Rattle.cmd_follow.specs.Follow.{follow_host_after, follow_para_after}
+use Rattle.cmd_follow.specs.Follow.{follow_after}
 use Rattle.bus_plug.specs.Plug.{Plug}
-use Rattle.beeb_bits.specs.declared.Side.{Side}
-use Rattle.beeb_bits.specs.declared.Side.TheVariants.{Host, Para}
-
-abbrev pub replay_after : Setup → Side → ℕ → Names → Inputs → Result (Verdict Ending) (Refusal Cause)
-replay_after set Host ticks names i = host_after set ticks names i
-replay_after set Para ticks names i = para_after set.clock ticks names i
 
 -- which instructions are listed
 abbrev pub choice_of : Values → Choice
 choice_of given = record { from = from_of given; at = at_of given; watch = watch_of given }
-
-abbrev pub follow_after : Setup → Side → ℕ → Choice → List ℕ → Inputs → Result (Verdict Ending) (Refusal Cause)
-follow_after set Host ticks choice out i = follow_host_after set ticks choice out i
-follow_after set Para ticks choice out i = follow_para_after set.clock ticks choice out i
 
 -- what a command comes to by what it read, where these devices are handed in
 abbrev pub after : List Plug → Command → Inputs → Result (Verdict Ending) (Refusal Cause)

@@ -1,5 +1,5 @@
 //! The work of each command, by what it read.
-ghost use Rattle.std.specs.Prelude.{◌≡◌, ◌<◌, ◌≤◌, All, map, true, false};
+ghost use Rattle.std.specs.Prelude.{◌≡◌, map, true, false};
 ghost use Rattle.cmd_stages.specs.Plan.{AreWithin};
 ghost use Rattle.cmd_stages.specs.Promise.{IsCrewAfter};
 ghost use Rattle.cmd_stages.specs.View.{Gives, seen_input};
@@ -9,18 +9,16 @@ ghost use Rattle.cmd_words.specs.Reads.{IsWithin, reads};
 ghost use Rattle.cmd_words.specs.View.{seen_command, seen_given};
 ghost use Rattle.cmd_machines.specs.Inputs.{inputs_of};
 ghost use Rattle.cmd_machines.specs.Setup.{setup_of};
-ghost use Rattle.cmd_machines.specs.View.{seen_inputs, seen_setup};
-ghost use Rattle.cmd_outcome.specs.View.{names_seen, verdict_of};
-ghost use Rattle.cmd_top.specs.Plans.{replay_after, choice_of, follow_after, after};
+ghost use Rattle.cmd_outcome.specs.View.{verdict_of};
+ghost use Rattle.cmd_top.specs.Plans.{choice_of, after};
 
-use beeb_bits::Side;
 use beeb_files::Crew;
 use bus_plug::BusDevice;
-use cmd_follow::{follow_host, follow_para};
+use cmd_follow::follow_outcome;
 use cmd_machines::{Inputs, Setup};
 use cmd_outcome::{Names, Outcome};
 use cmd_pair::{gen_outcome, run_outcome, solo_outcome};
-use cmd_replay::{host_outcome, para_outcome};
+use cmd_replay::replay_outcome;
 use cmd_session::session_outcome;
 use cmd_stages::{Refusal, Stop};
 use cmd_status::Cause;
@@ -30,28 +28,6 @@ use follow::Choice;
 use std::alloc::Global;
 use std::sync::Wait;
 use std::thread::Threads;
-use tube_party::MOST;
-
-// What comes of a replay of a side, by what the words say of the machines.
-fn cmd_replayed<'a, D: BusDevice>(
-    alloc: Global,
-    side: Side,
-    ticks: u64,
-    names: Names<'a>,
-    setup: Setup<D>,
-    inputs: Inputs,
-) -> Result<Outcome<'a, D>, Refusal<Cause>>
-    requires ticks { ticks ≤ MOST }
-    requires slots { All (λ slot. slot.0 < 16) inputs.roms.items }
-    ensures { let names = names_seen names.entry in
-        let after = replay_after (seen_setup D.plug setup) side ticks names (seen_inputs inputs) in
-        Gives (verdict_of D.plug) result after }
-{
-    match side {
-        Side::Host => host_outcome(alloc, setup, ticks, names, inputs),
-        Side::Para => para_outcome(alloc, setup.clock, ticks, names, inputs),
-    }
-}
 
 // Which instructions are listed.
 fn choice_of(given: &Given<'_>) -> Choice
@@ -61,27 +37,6 @@ fn choice_of(given: &Given<'_>) -> Choice
         from: given.from(),
         at: given.at(),
         watch: given.watch(),
-    }
-}
-
-// What comes of a replay of a side whose instructions are listed, by what the words say of the machines.
-fn follow_outcome<'a, D: BusDevice>(
-    alloc: Global,
-    side: Side,
-    ticks: u64,
-    choice: Choice,
-    out: &'a str,
-    setup: Setup<D>,
-    inputs: Inputs,
-) -> Result<Outcome<'a, D>, Refusal<Cause>>
-    requires ticks { ticks ≤ MOST }
-    requires slots { All (λ slot. slot.0 < 16) inputs.roms.items }
-    ensures { let after = follow_after (seen_setup D.plug setup) side ticks choice out.now (seen_inputs inputs) in
-        Gives (verdict_of D.plug) result after }
-{
-    match side {
-        Side::Host => follow_host(alloc, setup, ticks, choice, out, inputs),
-        Side::Para => follow_para(alloc, setup.clock, ticks, choice, out, inputs),
     }
 }
 
@@ -117,7 +72,7 @@ pub(crate) fn single_outcome<'a, D: BusDevice>(
         } => {
             let setup = Setup::of(&given, plugs);
             let names = Names::of(out, &given);
-            cmd_replayed(alloc, side, ticks, names, setup, inputs)
+            replay_outcome(alloc, setup, side, ticks, names, inputs)
         }
         Command::Solo {
             ticks,
@@ -148,7 +103,7 @@ pub(crate) fn single_outcome<'a, D: BusDevice>(
         } => {
             let choice = choice_of(&given);
             let setup = Setup::of(&given, plugs);
-            follow_outcome(alloc, side, ticks, choice, out, setup, inputs)
+            follow_outcome(alloc, setup, side, ticks, choice, out, inputs)
         }
         Command::Gen { seed } => gen_outcome(alloc, seed),
         Command::Run { .. } => unreachable!(),

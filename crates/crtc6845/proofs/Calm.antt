@@ -32,21 +32,21 @@ step_down a b w h =
     omega arith
 
 -- the lines before sync of a row, where so many of it are left, and whether its rasters meet the last
-abbrev before : (v total w row left : ℕ) → Bool → ℕ
-before v total w row left met =
-    if nat_lt row v then left + (v - row - 1) * w
-    else if nat_le row total && (not (row == v) || met) then left + (total - row) * w + v * w
+abbrev before : (v total w at left : ℕ) → Bool → ℕ
+before v total w at left met =
+    if nat_lt at v then left + (v - at - 1) * w
+    else if nat_le at total && (not (at == v) || met) then left + (total - at) * w + v * w
     else 1
 
-raster_before : (v total w row next left less : ℕ) (met more : Bool) → left ≤ less + 1 → (met ≡ true → (more ≡ true) × (next ≢ 0)) → 2 ≤ before v total w row left met →
-    ((row == v && next == 0) ≡ false) × (before v total w row left met ≤ before v total w row less more + 1)
-raster_before v total w row next left less met more few same two = grind (arith, nat_tests)
+raster_before : (v total w at next left less : ℕ) (met more : Bool) → left ≤ less + 1 → (met ≡ true → (more ≡ true) × (next ≢ 0)) → 2 ≤ before v total w at left met →
+    ((at == v && next == 0) ≡ false) × (before v total w at left met ≤ before v total w at less more + 1)
+raster_before v total w at next left less met more few same two = grind (arith, nat_tests)
 
-row_before : (v total w row : ℕ) (more : Bool) → row ≢ total → 2 ≤ before v total w row 1 true →
-    ((row + 1 == v && 0 == 0) ≡ false) × (before v total w row 1 true ≤ before v total w (row + 1) w more + 1)
-row_before v total w row more apart two =
-    let up = step_down (v - row - 1) (v - (row + 1) - 1) w (omega arith) in
-    let down = step_down (total - row) (total - (row + 1)) w (omega arith) in
+row_before : (v total w at : ℕ) (more : Bool) → at ≢ total → 2 ≤ before v total w at 1 true →
+    ((at + 1 == v && 0 == 0) ≡ false) × (before v total w at 1 true ≤ before v total w (at + 1) w more + 1)
+row_before v total w at more apart two =
+    let up = step_down (v - at - 1) (v - (at + 1) - 1) w (omega arith) in
+    let down = step_down (total - at) (total - (at + 1)) w (omega arith) in
     grind (arith, nat_tests)
 
 frame_before : (v total w n : ℕ) (met : Bool) → 2 ≤ n → n ≤ v * w + 1 → ((0 == v && 0 == 0) ≡ false) × (n ≤ before v total w 0 w met + 1)
@@ -54,9 +54,9 @@ frame_before v total w n met two most =
     let up = step_down v (v - 0 - 1) w (omega arith) in
     grind (arith, nat_tests)
 
-last_before : (v total w row : ℕ) → row ≡ total → before v total w row 1 true ≤ v * w + 1
-last_before v total w row last =
-    let most : (v - row - 1) * w ≤ v * w = mul-le-mul_right w (omega arith) in
+last_before : (v total w at : ℕ) → at ≡ total → before v total w at 1 true ≤ v * w + 1
+last_before v total w at last =
+    let most : (v - at - 1) * w ≤ v * w = mul-le-mul_right w (omega arith) in
     grind (arith, nat_tests)
 
 -- a line's end leads no nearer to vertical sync than by one

@@ -67,21 +67,18 @@ use Rattle.cmd_outcome.specs.Names.{Names, names_of}
 use Rattle.cmd_outcome.specs.Trace.{refusal_of, trace_of, is_same, if_same, entries_of}
 use Rattle.cmd_outcome.specs.Verdicts.{machine_verdict, file_verdict, host_left, para_left}
 use Rattle.cmd_ended.specs.Kept.{kept_verdict}
-use Rattle.cmd_replayed.specs.Host as replayed
-use Rattle.cmd_replayed.specs.Host.{host_of}
-use Rattle.cmd_replayed.specs.Para.{para_of}
+use Rattle.cmd_replayed.specs.Made as machines
+use Rattle.cmd_replayed.specs.Made.{host_of, para_of}
 use Rattle.cmd_replayed.specs.Replay.{verdict_of_place, unless_wrong}
-use Rattle.cmd_replay.specs.Replay.{side_count}
-use Rattle.cmd_replay.specs.Host.{host_ended, host_after}
-use Rattle.cmd_replay.specs.Para.{para_ended, para_after}
-use Rattle.cmd_follow.specs.Follow.{listed_verdict, listed_by, listed_ended, follow_host_after, follow_para_after}
+use Rattle.cmd_replay.specs.Replay.{side_count, replayed, replay_after}
+use Rattle.cmd_follow.specs.Follow.{listed_verdict, listed_by, listed_ended, follow_after}
 use Rattle.cmd_pair.specs.Solo.{solo_after}
 use Rattle.cmd_session.specs.Session.{state_of, state_refusal, place_of, session_ended, session_after}
 use Rattle.cmd_tools.specs.Asm as tools
 use Rattle.cmd_tools.specs.Check.{check_after, ok_text}
 use Rattle.cmd_tools.specs.Check as tools_check
 use Rattle.follow.specs.declared.Choice.{Choice}
-use Rattle.cmd_top.specs.Plans.{plan, after, choice_of, replay_after, follow_after}
+use Rattle.cmd_top.specs.Plans.{plan, after, choice_of}
 use Rattle.cmd_top.specs.Commands.{EndsWith}
 use Rattle.law_sessions.specs.Refusals.{first_of, unread_by, unread, misfit, bad_trace, other_clock, bad_script_by, bad_script, bad_state, bad_source, wrong_by, differs_at, held, entries_in, entries_at, events_by, events_in, host_at, trace_causes, entry_causes, replay_causes, pair_causes, session_causes, read_causes, causes, IsAnswer, NoFault, ComesToWriting, RefusesInOrder, RefusalsInOrder}
 
@@ -151,8 +148,8 @@ module _ (clock : Clock) (g : List Entry → Result (Verdict Ending) (Refusal Ca
   unfolding entries_of trace_of
   para_trace bytes says = traced_by (trace bytes) says
 
-  host_trace : (tube : Bool) (bytes : List ℕ) → Says (g (entries_at tube bytes)) list → Says (replayed.entries_at tube clock bytes >>= g) (trace_causes tube clock bytes ++ list)
-  unfolding replayed.entries_at
+  host_trace : (tube : Bool) (bytes : List ℕ) → Says (g (entries_at tube bytes)) list → Says (machines.entries_at tube clock bytes >>= g) (trace_causes tube clock bytes ++ list)
+  unfolding machines.entries_at
   host_trace true bytes says = para_trace bytes says
   host_trace false [] says = says
   host_trace false (b ∷ bytes) says = refl
@@ -209,7 +206,7 @@ module _ (lengths : LengthsComeFirst) where
       let from_script : Roms → Option Image × Option Image → List Entry → Result (List Entry × host.HostState) (Refusal Cause) =
       λ roms discs entries. script_of i.keys >>= λ events. Ok (entries, made roms discs events) in
       let from_trace : Roms → Option Image × Option Image → Result (List Entry × host.HostState) (Refusal Cause) =
-      λ roms discs. replayed.entries_at set.tube set.clock i.trace >>= from_script roms discs in
+      λ roms discs. machines.entries_at set.tube set.clock i.trace >>= from_script roms discs in
       let roms : Roms = roms_in i in
       let discs : Option Image × Option Image = (disc_in set.kinds.0 i.disc0, disc_in set.kinds.1 i.disc1) in
       let entries : List Entry = entries_at set.tube i.trace in
@@ -217,9 +214,9 @@ module _ (lengths : LengthsComeFirst) where
       let script_told : Says (from_script roms discs entries >>= g) (bad_script i.keys ∷ last) =
       scripted (λ events. Ok (entries, made roms discs events)) g last i.keys says in
       let trace_told : Says (from_trace roms discs >>= g) (trace_causes set.tube set.clock i.trace ++ bad_script i.keys ∷ last) =
-      put (from_trace roms discs >>= g) (replayed.entries_at set.tube set.clock i.trace >>= λ (es : List Entry). from_script roms discs es >>= g)
+      put (from_trace roms discs >>= g) (machines.entries_at set.tube set.clock i.trace >>= λ (es : List Entry). from_script roms discs es >>= g)
       (trace_causes set.tube set.clock i.trace ++ bad_script i.keys ∷ last)
-      (bound (replayed.entries_at set.tube set.clock i.trace) (from_script roms discs) g)
+      (bound (machines.entries_at set.tube set.clock i.trace) (from_script roms discs) g)
       (host_trace set.clock (λ (es : List Entry). from_script roms discs es >>= g) (bad_script i.keys ∷ last) set.tube i.trace script_told) in
       put (host_of set i >>= g) (if_fit (host_images set.kinds i) (from_trace roms discs >>= g))
       (map misfit (host_images set.kinds i) ++ (trace_causes set.tube set.clock i.trace ++ bad_script i.keys ∷ last))
@@ -260,32 +257,30 @@ module _ (lengths : LengthsComeFirst) where
   -- ---- each command, by what it read
 
   replay_told : (set : Setup) (side : Side) (ticks : ℕ) (names : Names) (i : Inputs) → Says (replay_after set side ticks names i) (replay_causes set side ticks i)
-  unfolding host_after host_ended para_after para_ended machine_verdict
+  unfolding replay_after replayed machine_verdict
   replay_told set Host ticks names i =
       let entries : List Entry = entries_at set.tube i.trace in
       let end : Ended host.HostState = replay_of host_moves Host entries ticks (host.with_tube set.tube (host_at set i)) in
-      host_told set i end.place (λ (m : List Entry × host.HostState). Ok (unless_wrong (wrong m.0) (host_ended set.clock ticks names m.0 m.1)))
+      host_told set i end.place (λ m. Ok (replayed host_moves Host ticks (λ tube. host_left set.clock ticks tube names) m))
       (ends_by (wrong entries) end.place (λ e. machine_verdict (host_left set.clock ticks (side_count Host ticks entries) names e)) end.machine refl)
   replay_told set Para ticks names i =
       let entries : List Entry = entries_at true i.trace in
       let end : Ended para.ParaState = replay_of para_moves Para entries ticks (para.power_on set.clock i.tube) in
-      para_told set.clock i end.place (λ (m : List Entry × para.ParaState). Ok (unless_wrong (wrong m.0) (para_ended set.clock ticks names m.0 m.1)))
+      para_told set.clock i end.place (λ m. Ok (replayed para_moves Para ticks (λ tube. para_left set.clock ticks tube names) m))
       (ends_by (wrong entries) end.place (λ e. machine_verdict (para_left set.clock ticks (side_count Para ticks entries) names e)) end.machine refl)
 
   follow_told : (set : Setup) (side : Side) (ticks : ℕ) (choice : Choice) (out : List ℕ) (i : Inputs) → Says (follow_after set side ticks choice out i) (replay_causes set side ticks i)
-  unfolding follow_host_after follow_para_after listed_by
+  unfolding follow_after listed_by
   follow_told set Host ticks choice out i =
       let entries : List Entry = entries_at set.tube i.trace in
       let start : host.HostState = host.with_tube set.tube (host_at set i) in
-      host_told set i (replay_of host_moves Host entries ticks start).place
-      (λ (m : List Entry × host.HostState). Ok (unless_wrong (wrong m.0) (listed_ended host_moves host_sight Nmos Host ticks choice out m.0 m.1)))
+      host_told set i (replay_of host_moves Host entries ticks start).place (λ m. Ok (listed_ended host_moves host_sight Nmos Host ticks choice out m))
       (ends_by (wrong entries) (replay_of host_moves Host entries ticks start).place (λ (l : ListingState). listed_verdict out l)
       (replay_listing host_moves host_sight Nmos Host entries ticks choice start) refl)
   follow_told set Para ticks choice out i =
       let entries : List Entry = entries_at true i.trace in
       let start : para.ParaState = para.power_on set.clock i.tube in
-      para_told set.clock i (replay_of para_moves Para entries ticks start).place
-      (λ (m : List Entry × para.ParaState). Ok (unless_wrong (wrong m.0) (listed_ended para_moves para_sight Cmos Para ticks choice out m.0 m.1)))
+      para_told set.clock i (replay_of para_moves Para entries ticks start).place (λ m. Ok (listed_ended para_moves para_sight Cmos Para ticks choice out m))
       (ends_by (wrong entries) (replay_of para_moves Para entries ticks start).place (λ (l : ListingState). listed_verdict out l)
       (replay_listing para_moves para_sight Cmos Para entries ticks choice start) refl)
 

@@ -10,14 +10,16 @@ use Rattle.cmd_words.specs.Reads.{reads}
 use Rattle.cmd_words.specs.View.{seen_command, seen_given}
 use Rattle.cmd_machines.specs.Inputs.{Inputs}
 use Rattle.cmd_machines.specs.Setup.{setup_of}
-use Rattle.cmd_top.specs.Plans.{replay_after, choice_of, follow_after}
+use Rattle.cmd_replay.specs.Replay.{replay_after}
+use Rattle.cmd_follow.specs.Follow.{follow_after}
+use Rattle.cmd_top.specs.Plans.{choice_of}
 use Rattle.cmd_session.specs.Session.{session_after}
 use Rattle.cmd_top.proofs.SlotLemmas.{slots_below, keys_short}
 use Rattle.cmd_top.proofs.WorkLemmas.{both_after}
 use Rattle.cmd_top.proofs.work.single_outcome.Goals as goal
 
-pub cmd_replayed-requires-clause-slots : goal.cmd_replayed-requires-clause-slots
-cmd_replayed-requires-clause-slots g c =
+pub replay_outcome-requires-clause-slots : goal.replay_outcome-requires-clause-slots
+replay_outcome-requires-clause-slots g c =
     slots_below (reads (seen_command c.args.command)) (map seen_input c.args.inputs.items) c.in_ok-inputs.inputs c.requires.inputs c.requires.within.roms c.in_ok-inputs.ensures
 
 pub solo_outcome-requires-clause-slots : goal.solo_outcome-requires-clause-slots
@@ -42,10 +44,10 @@ returns-in-Solo g c =
 pub returns-in-Replay : goal.returns-in-Replay
 returns-in-Replay g c =
     rw c.in-Replay.is
-    (subst (λ (i : Inputs). Gives (verdict_of g.D.BusDevice.plug) c.cmd_replayed.result
+    (subst (λ (i : Inputs). Gives (verdict_of g.D.BusDevice.plug) c.replay_outcome.result
     (replay_after (setup_of (seen_given c.in-Replay.given) (map g.D.BusDevice.plug c.args.plugs.items)) c.in-Replay.side c.in-Replay.ticks
     (names_of c.in-Replay.out.now (seen_given c.in-Replay.given)) i))
-    c.in_ok-inputs.ensures (rw (c.of-setup.ensures, c.of-names.ensures) at c.cmd_replayed.ensures))
+    c.in_ok-inputs.ensures (rw (c.of-setup.ensures, c.of-names.ensures) at c.replay_outcome.ensures))
 
 pub returns-in-Resume : goal.returns-in-Resume
 returns-in-Resume g c =
