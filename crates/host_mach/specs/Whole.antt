@@ -1,6 +1,6 @@
 -- Which of the host's addresses are plain memory.
 use Rattle.std.specs.Prelude.{ℕ, zero, suc, length, Option, None, Some, MatchOption, ◌≡◌, ◌≤◌, ◌<◌, ◌+◌, ◌*◌, ◌/◌, ◌%◌}
-use Rattle.std.specs.Prelude.{◌==◌, max, nat_lt, nat_le, ◌&&◌, ◌⊎◌, not, Bool, true, false, refl, slice_index, slice_set, List, if◌then◌else◌}
+use Rattle.std.specs.Prelude.{◌==◌, max, nat_lt, nat_le, ◌&&◌, ◌||◌, ◌⊎◌, not, Bool, true, false, refl, slice_index, slice_set, List, if◌then◌else◌}
 use Rattle.std.proofs.Common.{arith, ap, ◌∙◌, sym, subst, inl, inr}
 use Rattle.std.proofs.lemmas.Bool.{ltb-true, lt-ltb, eq-eqb, cases_lt}
 use Rattle.std.proofs.lemmas.Grind.{common_steps}
