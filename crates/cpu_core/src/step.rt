@@ -391,8 +391,8 @@ impl Progress {
                 self.work.move_stack(3);
                 self.jump(word(self.low, byte));
             }
-            Phase::Halted => {}
-            _ => unreachable!(),
+            // Halted
+            _ => {}
         }
     }
 
@@ -415,15 +415,15 @@ impl Progress {
                         self.work.move_stack(255);
                         self.phase = Phase::Over;
                     }
-                    Phase::Pull => self.read_stack(Phase::PullStack, 0),
-                    _ => unreachable!(),
+                    // Pull
+                    _ => self.read_stack(Phase::PullStack, 0),
                 }
             } else if (self.phase as u8) < Phase::CallLow as u8 {
                 match self.phase {
                     Phase::PullStack => self.read_stack(Phase::PullByte, 1),
                     Phase::PullByte => self.after_pull_byte(part, byte),
-                    Phase::Accumulator => self.after_accumulator(part, byte),
-                    _ => unreachable!(),
+                    // Accumulator
+                    _ => self.after_accumulator(part, byte),
                 }
             } else {
                 match self.phase {
@@ -435,11 +435,11 @@ impl Progress {
                         let high = (self.work.place(2) / 256) as u8;
                         self.write_stack(Phase::CallPushHigh, 0, high);
                     }
-                    Phase::CallPushHigh => {
+                    // CallPushHigh
+                    _ => {
                         let low = (self.work.place(2) % 256) as u8;
                         self.write_stack(Phase::CallPushLow, 255, low);
                     }
-                    _ => unreachable!(),
                 }
             }
         } else if (self.phase as u8) < Phase::ReturnTarget as u8 {
@@ -450,8 +450,8 @@ impl Progress {
                         self.work.move_stack(254);
                         self.jump(word(self.low, byte));
                     }
-                    Phase::Return => self.read_stack(Phase::ReturnStack, 0),
-                    _ => unreachable!(),
+                    // Return
+                    _ => self.read_stack(Phase::ReturnStack, 0),
                 }
             } else {
                 match self.phase {
@@ -460,8 +460,8 @@ impl Progress {
                         self.low = byte;
                         self.read_stack(Phase::ReturnHigh, 2);
                     }
-                    Phase::ReturnHigh => self.read(Phase::ReturnTarget, word(self.low, byte)),
-                    _ => unreachable!(),
+                    // ReturnHigh
+                    _ => self.read(Phase::ReturnTarget, word(self.low, byte)),
                 }
             }
         } else if (self.phase as u8) < Phase::ModifyAgain as u8 {
@@ -475,8 +475,8 @@ impl Progress {
                         self.low = byte;
                         self.read_place(Phase::JumpHigh, 2);
                     }
-                    Phase::JumpHigh => self.jump(word(self.low, byte)),
-                    _ => unreachable!(),
+                    // JumpHigh
+                    _ => self.jump(word(self.low, byte)),
                 }
             } else {
                 match self.phase {
@@ -488,20 +488,20 @@ impl Progress {
                         self.read(Phase::IndexedPointerHigh, in_zero_page(self.low, 1));
                         self.low = byte;
                     }
-                    Phase::IndexedPointerHigh => self.after_indexed_pointer_high(part, byte),
-                    _ => unreachable!(),
+                    // IndexedPointerHigh
+                    _ => self.after_indexed_pointer_high(part, byte),
                 }
             }
         } else if (self.phase as u8) < Phase::BranchCrossed as u8 {
             match self.phase {
                 Phase::ModifyAgain => self.after_modify_again(part, byte),
                 Phase::ModifyWrite => self.after_modify_write(part, byte),
-                Phase::ZeroPageBase => {
+                // ZeroPageBase
+                _ => {
                     self.to = in_zero_page(byte, self.index_of() as u16);
                     let at = idle(part, byte as u16, self.work.place(1));
                     self.read(Phase::IndexAdded, at);
                 }
-                _ => unreachable!(),
             }
         } else {
             self.step_rare(part, byte)
@@ -519,8 +519,8 @@ impl Progress {
         if (self.phase as u8) < Phase::ZeroPage as u8 {
             match self.phase {
                 Phase::Opcode => self.decode(part, byte),
-                Phase::Operand => self.after_operand(part, byte),
-                _ => unreachable!(),
+                // Operand
+                _ => self.after_operand(part, byte),
             }
         } else if (self.phase as u8) < Phase::Implied as u8 {
             match self.phase {
@@ -529,15 +529,15 @@ impl Progress {
                     self.low = byte;
                     self.read_place(Phase::AddressHigh, 2);
                 }
-                Phase::AddressHigh => self.reach(word(self.low, byte)),
-                _ => unreachable!(),
+                // AddressHigh
+                _ => self.reach(word(self.low, byte)),
             }
         } else if (self.phase as u8) < Phase::IndexedLow as u8 {
             match self.phase {
                 Phase::Implied => self.after_implied(part, byte),
                 Phase::Branch => self.after_branch(part, byte),
-                Phase::BranchTaken => self.after_branch_taken(part, byte),
-                _ => unreachable!(),
+                // BranchTaken
+                _ => self.after_branch_taken(part, byte),
             }
         } else if (self.phase as u8) < Phase::Push as u8 {
             match self.phase {
@@ -546,8 +546,8 @@ impl Progress {
                     self.read_place(Phase::IndexedHigh, 2);
                 }
                 Phase::IndexedHigh => self.after_indexed_high(part, byte),
-                Phase::IndexAdded => self.reach(self.to),
-                _ => unreachable!(),
+                // IndexAdded
+                _ => self.reach(self.to),
             }
         } else {
             self.step_later(part, byte)

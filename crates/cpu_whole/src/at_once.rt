@@ -121,16 +121,8 @@ fn carry_out<N, M: Plain<N>, L>(
         match uses {
             BusUse::Reads => load::<N, M, L>(part, row_of(part, op, known), r, memory, first),
             BusUse::Implied => implied::<N, M, L>(part, row_of(part, op, known), r, memory),
-            BusUse::Stores => store::<N, M, L>(
-                part,
-                row_of(part, op, known),
-                r,
-                memory,
-                first,
-                t,
-                notes,
-            ),
-            _ => unreachable!(),
+            // Stores
+            _ => store::<N, M, L>(part, row_of(part, op, known), r, memory, first, t, notes),
         }
     } else if (uses as u8) < BusUse::Pushes as u8 {
         let row = row_of(part, op, known);
@@ -140,8 +132,8 @@ fn carry_out<N, M: Plain<N>, L>(
         match uses {
             BusUse::Branches => branch::<N, M, L>(part, row_of(part, op, known), r, memory, first),
             BusUse::Pushes => push::<N, M, L>(part, row_of(part, op, known), r, memory, t, notes),
-            BusUse::Pulls => pull::<N, M, L>(part, row_of(part, op, known), r, memory),
-            _ => unreachable!(),
+            // Pulls
+            _ => pull::<N, M, L>(part, row_of(part, op, known), r, memory),
         }
     } else if (uses as u8) < BusUse::Resumes as u8 {
         match uses {
@@ -155,8 +147,8 @@ fn carry_out<N, M: Plain<N>, L>(
                 notes,
             ),
             BusUse::Returns => go_back::<N, M, L>(part, row_of(part, op, known), r, memory),
-            BusUse::Jumps => jump::<N, M, L>(part, row_of(part, op, known), r, memory, first),
-            _ => unreachable!(),
+            // Jumps
+            _ => jump::<N, M, L>(part, row_of(part, op, known), r, memory, first),
         }
     } else {
         0

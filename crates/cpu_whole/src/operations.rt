@@ -65,15 +65,15 @@ pub(crate) fn read(part: Part, mnemonic: Mnemonic, mode: Mode, r: &mut Regs, m: 
             match mnemonic {
                 Mnemonic::Adc => return add(part, r, m),
                 Mnemonic::And => r.do_read(part, Mnemonic::And, mode, m),
-                Mnemonic::Bit => r.do_read(part, Mnemonic::Bit, mode, m),
-                _ => unreachable!(),
+                // Bit
+                _ => r.do_read(part, Mnemonic::Bit, mode, m),
             }
         } else if (mnemonic as u8) < Mnemonic::Eor as u8 {
             match mnemonic {
                 Mnemonic::Cmp => r.do_read(part, Mnemonic::Cmp, mode, m),
                 Mnemonic::Cpx => r.do_read(part, Mnemonic::Cpx, mode, m),
-                Mnemonic::Cpy => r.do_read(part, Mnemonic::Cpy, mode, m),
-                _ => unreachable!(),
+                // Cpy
+                _ => r.do_read(part, Mnemonic::Cpy, mode, m),
             }
         } else {
             r.do_read(part, Mnemonic::Eor, mode, m);
@@ -82,14 +82,14 @@ pub(crate) fn read(part: Part, mnemonic: Mnemonic, mode: Mode, r: &mut Regs, m: 
         match mnemonic {
             Mnemonic::Lda => r.do_read(part, Mnemonic::Lda, mode, m),
             Mnemonic::Ldx => r.do_read(part, Mnemonic::Ldx, mode, m),
-            Mnemonic::Ldy => r.do_read(part, Mnemonic::Ldy, mode, m),
-            _ => unreachable!(),
+            // Ldy
+            _ => r.do_read(part, Mnemonic::Ldy, mode, m),
         }
     } else {
         match mnemonic {
             Mnemonic::Ora => r.do_read(part, Mnemonic::Ora, mode, m),
-            Mnemonic::Sbc => return subtract(part, r, m),
-            _ => unreachable!(),
+            // Sbc
+            _ => return subtract(part, r, m),
         }
     }
     true
@@ -107,8 +107,8 @@ pub(crate) fn stored(mnemonic: Mnemonic, r: &Regs) -> u8
         match mnemonic {
             Mnemonic::Stx => r.stored(Mnemonic::Stx),
             Mnemonic::Sty => r.stored(Mnemonic::Sty),
-            Mnemonic::Stz => 0,
-            _ => unreachable!(),
+            // Stz
+            _ => 0,
         }
     }
 }
@@ -125,8 +125,8 @@ pub(crate) fn pushed(mnemonic: Mnemonic, r: &Regs) -> u8
         match mnemonic {
             Mnemonic::Phx => r.pushed(Mnemonic::Phx),
             Mnemonic::Phy => r.pushed(Mnemonic::Phy),
-            Mnemonic::Php => r.pushed(Mnemonic::Php),
-            _ => unreachable!(),
+            // Php
+            _ => r.pushed(Mnemonic::Php),
         }
     }
 }
@@ -141,22 +141,22 @@ pub(crate) fn takes(branch: Mnemonic, r: &Regs) -> bool
         match branch {
             Mnemonic::Bcc => r.takes(Mnemonic::Bcc),
             Mnemonic::Bcs => r.takes(Mnemonic::Bcs),
-            Mnemonic::Beq => r.takes(Mnemonic::Beq),
-            _ => unreachable!(),
+            // Beq
+            _ => r.takes(Mnemonic::Beq),
         }
     } else if (branch as u8) < Mnemonic::Bra as u8 {
         match branch {
             Mnemonic::Bmi => r.takes(Mnemonic::Bmi),
             Mnemonic::Bne => r.takes(Mnemonic::Bne),
-            Mnemonic::Bpl => r.takes(Mnemonic::Bpl),
-            _ => unreachable!(),
+            // Bpl
+            _ => r.takes(Mnemonic::Bpl),
         }
     } else {
         match branch {
             Mnemonic::Bvc => r.takes(Mnemonic::Bvc),
             Mnemonic::Bvs => r.takes(Mnemonic::Bvs),
-            Mnemonic::Bra => true,
-            _ => unreachable!(),
+            // Bra
+            _ => true,
         }
     }
 }
@@ -189,21 +189,21 @@ pub(crate) fn change<W, N, M: Plain<N>, L>(
         match mnemonic {
             Mnemonic::Inc => change_by(Mnemonic::Inc, mode, r, m),
             Mnemonic::Dec => change_by(Mnemonic::Dec, mode, r, m),
-            Mnemonic::Asl => change_by(Mnemonic::Asl, mode, r, m),
-            _ => unreachable!(),
+            // Asl
+            _ => change_by(Mnemonic::Asl, mode, r, m),
         }
     } else if (mnemonic as u8) < Mnemonic::Ror as u8 {
         match mnemonic {
             Mnemonic::Lsr => change_by(Mnemonic::Lsr, mode, r, m),
-            Mnemonic::Rol => change_by(Mnemonic::Rol, mode, r, m),
-            _ => unreachable!(),
+            // Rol
+            _ => change_by(Mnemonic::Rol, mode, r, m),
         }
     } else {
         match mnemonic {
             Mnemonic::Ror => change_by(Mnemonic::Ror, mode, r, m),
             Mnemonic::Trb => change_by(Mnemonic::Trb, mode, r, m),
-            Mnemonic::Tsb => change_by(Mnemonic::Tsb, mode, r, m),
-            _ => unreachable!(),
+            // Tsb
+            _ => change_by(Mnemonic::Tsb, mode, r, m),
         }
     }
 }
@@ -219,15 +219,15 @@ pub(crate) fn implied(mnemonic: Mnemonic, r: &mut Regs)
             match mnemonic {
                 Mnemonic::Clc => r.do_implied(Mnemonic::Clc),
                 Mnemonic::Cld => r.do_implied(Mnemonic::Cld),
-                Mnemonic::Cli => r.do_implied(Mnemonic::Cli),
-                _ => unreachable!(),
+                // Cli
+                _ => r.do_implied(Mnemonic::Cli),
             }
         } else {
             match mnemonic {
                 Mnemonic::Clv => r.do_implied(Mnemonic::Clv),
                 Mnemonic::Dex => r.do_implied(Mnemonic::Dex),
-                Mnemonic::Dey => r.do_implied(Mnemonic::Dey),
-                _ => unreachable!(),
+                // Dey
+                _ => r.do_implied(Mnemonic::Dey),
             }
         }
     } else if (mnemonic as u8) < Mnemonic::Tax as u8 {
@@ -235,30 +235,30 @@ pub(crate) fn implied(mnemonic: Mnemonic, r: &mut Regs)
             match mnemonic {
                 Mnemonic::Inx => r.do_implied(Mnemonic::Inx),
                 Mnemonic::Iny => r.do_implied(Mnemonic::Iny),
-                Mnemonic::Nop => {}
-                _ => unreachable!(),
+                // Nop
+                _ => {}
             }
         } else {
             match mnemonic {
                 Mnemonic::Sec => r.do_implied(Mnemonic::Sec),
                 Mnemonic::Sed => r.do_implied(Mnemonic::Sed),
-                Mnemonic::Sei => r.do_implied(Mnemonic::Sei),
-                _ => unreachable!(),
+                // Sei
+                _ => r.do_implied(Mnemonic::Sei),
             }
         }
     } else if (mnemonic as u8) < Mnemonic::Txa as u8 {
         match mnemonic {
             Mnemonic::Tax => r.do_implied(Mnemonic::Tax),
             Mnemonic::Tay => r.do_implied(Mnemonic::Tay),
-            Mnemonic::Tsx => r.do_implied(Mnemonic::Tsx),
-            _ => unreachable!(),
+            // Tsx
+            _ => r.do_implied(Mnemonic::Tsx),
         }
     } else {
         match mnemonic {
             Mnemonic::Txa => r.do_implied(Mnemonic::Txa),
             Mnemonic::Txs => r.do_implied(Mnemonic::Txs),
-            Mnemonic::Tya => r.do_implied(Mnemonic::Tya),
-            _ => unreachable!(),
+            // Tya
+            _ => r.do_implied(Mnemonic::Tya),
         }
     }
 }
@@ -272,14 +272,14 @@ pub(crate) fn pull(mnemonic: Mnemonic, r: &mut Regs, m: u8)
     if (mnemonic as u8) < Mnemonic::Plx as u8 {
         match mnemonic {
             Mnemonic::Pla => r.do_pull(Mnemonic::Pla, m),
-            Mnemonic::Plp => r.do_pull(Mnemonic::Plp, m),
-            _ => unreachable!(),
+            // Plp
+            _ => r.do_pull(Mnemonic::Plp, m),
         }
     } else {
         match mnemonic {
             Mnemonic::Plx => r.do_pull(Mnemonic::Plx, m),
-            Mnemonic::Ply => r.do_pull(Mnemonic::Ply, m),
-            _ => unreachable!(),
+            // Ply
+            _ => r.do_pull(Mnemonic::Ply, m),
         }
     }
 }

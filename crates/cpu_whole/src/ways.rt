@@ -278,29 +278,29 @@ pub(crate) fn find<N, M: Plain<N>, L>(
         if (mode as u8) < Mode::ZpX as u8 {
             match mode {
                 Mode::Zp => zero_page::<N, M, L>(part, always, r, memory, first),
-                // Immediate, or none of the modes that read or write memory.
+                // Imm
                 _ => immediate::<N, M, L>(part, mode, always, r, memory),
             }
         } else {
             match mode {
                 Mode::ZpX => zero_page_x::<N, M, L>(part, always, r, memory, first),
-                Mode::ZpY => zero_page_y::<N, M, L>(part, always, r, memory, first),
-                _ => unreachable!(),
+                // ZpY
+                _ => zero_page_y::<N, M, L>(part, always, r, memory, first),
             }
         }
     } else if (mode as u8) < Mode::IndX as u8 {
         match mode {
             Mode::Abs => absolute::<N, M, L>(part, always, r, memory, first),
             Mode::AbsX => absolute_x::<N, M, L>(part, always, r, memory, first),
-            Mode::AbsY => absolute_y::<N, M, L>(part, always, r, memory, first),
-            _ => unreachable!(),
+            // AbsY
+            _ => absolute_y::<N, M, L>(part, always, r, memory, first),
         }
     } else if (mode as u8) < Mode::Rel as u8 {
         match mode {
             Mode::IndY => pointer_y::<N, M, L>(part, always, r, memory, first),
             Mode::IndZp => pointer::<N, M, L>(part, always, r, memory, first),
-            Mode::IndX => pointer_x::<N, M, L>(part, always, r, memory, first),
-            _ => unreachable!(),
+            // IndX
+            _ => pointer_x::<N, M, L>(part, always, r, memory, first),
         }
     } else {
         immediate::<N, M, L>(part, mode, always, r, memory)

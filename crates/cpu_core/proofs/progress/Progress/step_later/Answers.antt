@@ -1,0 +1,9 @@
+use Rattle.std.proofs.Common.{arith}
+use Rattle.cpu_core.proofs.Going.{steps-below}
+use Rattle.cpu_core.proofs.progress.Progress.step_later.Goals as goal
+
+pub returns-in_default-phase : goal.returns-in_default-phase
+returns-in_default-phase c = steps-below c.args.part c.args.self.now c.after_accumulator.new.self c.args.byte _ c.if-self.true (omega arith) c.after_accumulator.ensures
+
+pub returns-in_default-phase-6 : goal.returns-in_default-phase-6
+returns-in_default-phase-6 c = steps-below c.args.part c.args.self.now c.after_indexed_pointer_high.new.self c.args.byte _ c.if-self-6.true (omega arith) c.after_indexed_pointer_high.ensures
