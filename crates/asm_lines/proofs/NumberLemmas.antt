@@ -1,7 +1,10 @@
 -- The bounds of hexadecimal numbers.
-use Rattle.std.proofs.Common.{ℕ, ◌^◌, ◌<◌, ◌≤◌, arith, lit<}
+use Rattle.std.proofs.Common.{ℕ, ◌^◌, ◌≤◌, lit<}
 use Rattle.std.proofs.Math.Nat.{pow-le-pow_right}
 
--- a number of so many digits, or fewer
-pub below_digits : (value i most : ℕ) → value < 16 ^ i → i ≤ most → value < 16 ^ most
-below_digits value i most h le = let p : 16 ^ i ≤ 16 ^ most = pow-le-pow_right {n = 16} (lit< tt) le in omega arith
+-- two digits or fewer, and four
+pub two : (i : ℕ) → i ≤ 2 → 16 ^ i ≤ 16 ^ 2
+two i le = pow-le-pow_right {n = 16} (lit< tt) le
+
+pub four : (i : ℕ) → i ≤ 4 → 16 ^ i ≤ 16 ^ 4
+four i le = pow-le-pow_right {n = 16} (lit< tt) le

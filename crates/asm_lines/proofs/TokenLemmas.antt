@@ -1,20 +1,15 @@
 -- The run at the front of code, and the tokens behind it.
-use Rattle.std.proofs.Common.{◌≡◌, ◌∙◌, sym, refl, ap, ℕ, ◌+◌, ◌-◌, ◌<◌, ◌≤◌, List, [], ◌∷◌, length, take, drop, not, Bool, true, false, ◌==◌, arith, one-add}
+use Rattle.std.proofs.Common.{◌≡◌, refl, ap, ℕ, ◌-◌, ◌<◌, ◌≤◌, List, [], ◌∷◌, length, take, drop, Bool, true, false, arith, one-add}
 use Rattle.std.specs.List.{prefix_len}
-use Rattle.std.proofs.lemmas.List.{take_all, drop_all, length-drop}
-use Rattle.asm_lines.specs.Tokens.{Cut, cut_of, cut_with, tokens_of_cut, tokens_of, is_word_byte, is_blank}
+use Rattle.std.proofs.lemmas.List.{take_all, length-drop}
+use Rattle.asm_lines.specs.Tokens.{Cut, cut_of, cut_with, tokens_of_cut, tokens_of, is_word_byte}
 
 -- a byte of no run ends it
 no_run : (b : ℕ) (c : Cut) → is_word_byte b ≡ false → (cut_with b c).run ≡ []
-no_run b c e = by_tests (b == 38) (is_blank b) refl refl
-  where
-    by_tests : (h k : Bool) → (b == 38) ≡ h → is_blank b ≡ k → (cut_with b c).run ≡ []
-    by_tests true k p q = rw (e, p) refl
-    by_tests false true p q = rw (e, p, q) refl
-    by_tests false false p q = rw (e, p, q) refl
+no_run b c e = grind arith
 
 no_word : (c : Cut) → c.run ≡ [] → c.tokens ≡ tokens_of_cut c
-no_word c e = rw e refl
+no_word c e = rw e
 
 -- the run is the longest that stands in front, and the other tokens are those of what is behind it
 abbrev RunIs : List ℕ → ℕ → Type 0
@@ -24,7 +19,7 @@ run_in : (b : ℕ) (code : List ℕ) (t : Bool) → is_word_byte b ≡ t → Run
     → RunIs (b ∷ code) (prefix_len is_word_byte (b ∷ code))
 run_in b code true e rest = rw (e, one-add (prefix_len is_word_byte code)) (ap (λ run. b ∷ run) rest.0, rest.1)
 run_in b code false e rest =
-    let none : prefix_len is_word_byte (b ∷ code) ≡ 0 = rw e refl in
+    let none : prefix_len is_word_byte (b ∷ code) ≡ 0 = rw e in
     rw none (no_run b (cut_of code) e, no_word (cut_with b (cut_of code)) (no_run b (cut_of code) e))
 
 pub run_is : (code : List ℕ) (n : ℕ) → n ≡ prefix_len is_word_byte code → RunIs code n
@@ -42,7 +37,4 @@ run_rest code n e within =
 
 -- the run of a word has a byte
 pub word_has_byte : (first : ℕ) (behind code run : List ℕ) → code ≡ first ∷ behind → true ≡ is_word_byte first → (cut_of code).run ≡ run → 0 < length run
-word_has_byte first behind code run e is r =
-    let begins : (cut_of code).run ≡ first ∷ (cut_of behind).run = rw (e, sym is) refl in
-    let front : run ≡ first ∷ (cut_of behind).run = sym r ∙ begins in
-    rw front (omega arith)
+word_has_byte first behind code run e is r = rw (← r, e, ← is) (omega arith)

@@ -1,5 +1,5 @@
 -- A list of values by its first one, and a line by its label.
-use Rattle.std.proofs.Common.{◌≡◌, ◌∙◌, sym, refl, ap, ℕ, Bool, true, false, List, [], ◌∷◌, map, Option, Some, None, option_map, if◌then◌else◌, is_some}
+use Rattle.std.proofs.Common.{◌≡◌, ◌∙◌, sym, refl, ap, ℕ, true, List, [], ◌∷◌, map, Option, Some, None, option_map, if◌then◌else◌, is_some, arith}
 use Rattle.asm_lines.specs.Tokens.{Token, word, hex, colon, comma, low, high, plus}
 use Rattle.asm_lines.specs.Syntax as syntax
 use Rattle.asm_lines.specs.Code.{label_in_front, values_until, values_of_list}
@@ -33,7 +33,7 @@ groups_by_front : (ts : List Token) → syntax.groups_of ts ≡ front ts ∷ beh
 unfolding front behind
 groups_by_front [] = refl
 groups_by_front (comma ∷ ts) = refl
-groups_by_front (t ∷ ts) = rw (groups_by_front ts) refl
+groups_by_front (t ∷ ts) = rw (groups_by_front ts)
 
 -- What is read at the front of tokens ends before the first comma.
 abbrev fronted : {X : Type 0} → Option (X × List Token) → Option (X × List Token)
@@ -50,8 +50,7 @@ InFront read in_front groups = (fronted read ≡ in_front) × SameBehind read gr
 
 beyond_front : (name : List ℕ) (ts : List Token) (o : Option syntax.Number)
     → InFront (option_map (λ n. (syntax.beyond name n, ts)) o) (option_map (λ n. (syntax.beyond name n, front ts)) o) (behind ts)
-beyond_front name ts None = (refl, tt)
-beyond_front name ts (Some n) = (refl, refl)
+beyond_front name ts o = grind arith
 
 label_front : (name : List ℕ) (ts : List Token) → InFront (syntax.label_at name ts) (syntax.label_at name (front ts)) (behind ts)
 unfolding front behind
@@ -63,17 +62,11 @@ label_front name (plus ∷ t ∷ ts) = (refl, tt)
 label_front name (t ∷ ts) = (refl, refl)
 
 word_front : (run : List ℕ) (ts : List Token) (o : Option syntax.Number) → InFront (syntax.word_at run ts o) (syntax.word_at run (front ts) o) (behind ts)
-word_front run ts (Some n) = (refl, refl)
-word_front run ts None = by_test (syntax.is_label run)
-  where
-    by_test : (b : Bool) → InFront (if b then syntax.label_at run ts else None) (if b then syntax.label_at run (front ts) else None) (behind ts)
-    by_test true = label_front run ts
-    by_test false = (refl, tt)
+word_front run ts o = grind (arith, label_front run ts)
 
 hex_front : (ts : List Token) (o : Option syntax.Number)
     → InFront (option_map (λ n. (syntax.number n, ts)) o) (option_map (λ n. (syntax.number n, front ts)) o) (behind ts)
-hex_front ts None = (refl, tt)
-hex_front ts (Some n) = (refl, refl)
+hex_front ts o = grind arith
 
 base_front : (ts : List Token) → InFront (syntax.base_at ts) (syntax.base_at (front ts)) (behind ts)
 unfolding front behind
@@ -84,8 +77,7 @@ base_front (t ∷ ts) = (refl, tt)
 
 portion_front : (portion : syntax.Portion) (read in_front : Option (syntax.Base × List Token)) (groups : List (List Token))
     → InFront read in_front groups → InFront (syntax.portion_of portion read) (syntax.portion_of portion in_front) groups
-portion_front portion None in_front groups h = (ap (syntax.portion_of portion) h.0, tt)
-portion_front portion (Some r) in_front groups h = (ap (syntax.portion_of portion) h.0, h.1)
+portion_front portion read in_front groups h = grind arith
 
 value_front : (ts : List Token) → InFront (syntax.value_at ts) (syntax.value_at (front ts)) (behind ts)
 unfolding front behind
@@ -120,8 +112,8 @@ read_first : (ts : List Token) (o : Option (syntax.Value × List Token)) → Sam
     → syntax.only_value (fronted o) ∷ read_behind ts ≡ by_first ts (first_of o)
 unfolding front behind
 read_first ts None h = refl
-read_first ts (Some (v, [])) h = ap (λ (groups : List (List Token)). Some v ∷ map (λ group. syntax.only_value (syntax.value_at group)) groups) (sym h)
-read_first ts (Some (v, comma ∷ rest)) h = ap (λ (groups : List (List Token)). Some v ∷ map (λ group. syntax.only_value (syntax.value_at group)) groups) (sym h)
+read_first ts (Some (v, [])) h = rw (← h)
+read_first ts (Some (v, comma ∷ rest)) h = rw (← h)
 read_first ts (Some (v, t ∷ rest)) h = refl
 
 read_by_first : (ts : List Token) → read ts ≡ by_first ts (first_of (syntax.value_at ts))
@@ -139,9 +131,7 @@ unfolding values_of_list
 listed_first ts = ap values_until (read_by_first ts) ∙ by_cases (first_of (syntax.value_at ts))
   where
     by_cases : (o : Option (syntax.Value × Option (List Token))) → values_until (by_first ts o) ≡ listed_by o
-    by_cases None = refl
-    by_cases (Some (v, None)) = refl
-    by_cases (Some (v, Some rest)) = refl
+    by_cases o = grind arith
 
 abbrev pub values_by : Option (syntax.Value × Option (List Token)) → Option (List syntax.Value)
 values_by None = None
@@ -152,21 +142,14 @@ pub values_first : (ts : List Token) → syntax.values_of ts ≡ values_by (firs
 values_first ts = ap syntax.all_of (read_by_first ts) ∙ by_cases (first_of (syntax.value_at ts))
   where
     by_cases : (o : Option (syntax.Value × Option (List Token))) → syntax.all_of (by_first ts o) ≡ values_by o
-    by_cases None = refl
-    by_cases (Some (v, None)) = refl
-    by_cases (Some (v, Some rest)) = refl
+    by_cases o = grind arith
 
 -- ---- a whole list
 
 until_all : (os : List (Option syntax.Value)) → is_some (syntax.all_of os) ≡ true → syntax.all_of os ≡ Some (values_until os)
 until_all [] e = refl
-until_all (None ∷ os) e = cc
-until_all (Some v ∷ os) e = more (syntax.all_of os) e (until_all os)
-  where
-    more : (o : Option (List syntax.Value)) → is_some (option_map (λ vs. v ∷ vs) o) ≡ true → (is_some o ≡ true → o ≡ Some (values_until os))
-        → option_map (λ vs. v ∷ vs) o ≡ Some (v ∷ values_until os)
-    more None e h = cc
-    more (Some vs) e h = ap (option_map (λ ws. v ∷ ws)) (h refl)
+until_all (None ∷ os) e = absurd cc
+until_all (Some v ∷ os) e = grind (arith, until_all os)
 
 pub listed_all : (ts : List Token) → is_some (syntax.values_of ts) ≡ true → syntax.values_of ts ≡ Some (values_of_list ts)
 unfolding values_of_list

@@ -4,8 +4,11 @@ ghost use Rattle.std.specs.List.{list_all};
 ghost use Rattle.op_table.specs.Names.{mnemonic_of};
 ghost use Rattle.digits.specs.Hexadecimal.{is_hex_any_case, hex_number as hex_value};
 ghost use Rattle.asm_lines.specs.Tokens.{comma, right, word, tokens_of};
-ghost use Rattle.asm_lines.specs.Syntax.{decimal_number, hex_number, number_of, is_named, is_register, begins_name, is_label, label_at, word_at, base_at, portion_of, value_at, opening_of, from_value, closing_of, value_and_closing, operand_of, values_of, org_of, instruction_of, rest_of, line_of, parsed_text};
-ghost use Rattle.asm_lines.specs.Code.{seen_token, seen_number, seen_base_and_rest, seen_portion, seen_value_and_rest, seen_opening, seen_closing, seen_value_and_closing, seen_operand, values_of_list, length_left, seen_list, seen_first, seen_next_value, values_by_first, seen_statement, seen_line, seen_label_and_rest, word_statement, label_in_front};
+ghost use Rattle.asm_lines.specs.Syntax.{decimal_number, hex_number, number_of, is_named, is_register, begins_name, is_label, label_at, word_at, base_at, portion_of, value_at, opening_of, from_value};
+ghost use Rattle.asm_lines.specs.Syntax.{closing_of, value_and_closing, operand_of, values_of, org_of, instruction_of, rest_of, line_of, parsed_text};
+ghost use Rattle.asm_lines.specs.Code.{seen_token, seen_number, seen_base_and_rest, seen_portion, seen_value_and_rest, seen_opening, seen_closing, seen_value_and_closing, seen_operand};
+ghost use Rattle.asm_lines.specs.Code.{values_of_list, length_left, seen_list, seen_first, seen_next_value, values_by_first, seen_statement, seen_line, seen_label_and_rest, word_statement};
+ghost use Rattle.asm_lines.specs.Code.{label_in_front};
 
 use crate::tokens::{Token, code_of, next_token};
 use digits::{all_digits, all_hex_any_case, decimal_value, first_line};
@@ -168,6 +171,7 @@ fn decimal_number(run: &[u8]) -> Option<Number>
 }
 
 // The number of one to four hexadecimal digits, which is byte-sized with one or two.
+#[tactic(auto, using(crate::proofs::NumberLemmas::two, crate::proofs::NumberLemmas::four))]
 fn hex_of_digits(digits: &[u8]) -> Number
     requires few { length digits.now ≤ 4 }
     requires hexadecimal { IsTrue (list_all is_hex_any_case digits.now) }

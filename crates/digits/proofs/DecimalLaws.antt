@@ -1,5 +1,5 @@
 -- Decimal digits, written and read.
-use Rattle.std.proofs.Common.{◌≡◌, ◌≢◌, ◌∙◌, sym, refl, ap, ℕ, zero, suc, ◌^◌, ◌<◌, length, get_or, List, [], ◌∷◌, Bool, true, false, ◌&&◌, ◌==◌, not, IsTrue, cond, Some, None, nat_le, arith, rules}
+use Rattle.std.proofs.Common.{◌≡◌, ◌≢◌, sym, refl, ℕ, zero, suc, ◌^◌, ◌<◌, length, get_or, List, [], ◌∷◌, Bool, true, ◌&&◌, ◌==◌, not, IsTrue, cond, Some, None, nat_le, arith, rules}
 use Rattle.std.specs.List.{list_all}
 use Rattle.std.specs.Fmt.{decimal}
 use Rattle.std.proofs.lemmas.Bool.Decides.{nat_tests}
@@ -7,7 +7,6 @@ use Rattle.std.proofs.lemmas.Fmt.{decimal_digit, decimal_nonempty, first_decimal
 use Rattle.std.proofs.lemmas.Str.Parse.{IsNumeralModel, numerals_by_fold}
 use Rattle.digits.specs.Decimal.{is_digit, is_decimal, decimal_value, decimal_value_after}
 use Rattle.digits.specs.Laws.{DecimalReadsBack, OnlyDecimalReads}
-use Rattle.digits.proofs.HexLemmas.{and_left, and_right}
 
 own : IsNumeralModel (λ text. list_all is_digit text ≡ true) decimal_value
 own = numerals_by_fold _ (search rules) decimal_value_after (search rules)
@@ -20,24 +19,24 @@ record IsNumeral (text : List ℕ) : Type 0 where
 
 is_decimal-true : (text : List ℕ) → IsNumeral text → IsTrue (is_decimal text)
 is_decimal-true [] h = absurd (omega (arith, h.some))
-is_decimal-true (b ∷ []) h = and_left _ _ h.digits
-is_decimal-true (b ∷ c ∷ text) h =
-    let first : is_digit b ≡ true = and_left (is_digit b) (list_all is_digit (c ∷ text)) h.digits in
-    let rest : list_all is_digit (c ∷ text) ≡ true = and_right (is_digit b) (list_all is_digit (c ∷ text)) h.digits in
-    let other : b ≢ 48 = λ e. let one : suc (suc (length text)) ≡ 1 = h.alone e in absurd (omega arith) in
-    let test : not (b == 48) ≡ true = grind (arith, nat_tests) in
-    rw (first, test) rest
+is_decimal-true (b ∷ []) h = by b h.digits
+  where
+    by : (b : ℕ) → list_all is_digit (b ∷ []) ≡ true → IsTrue (is_digit b)
+    by b all = grind arith
+is_decimal-true (b ∷ c ∷ text) h = by b (list_all is_digit (c ∷ text)) h.digits (λ e. let one : suc (suc (length text)) ≡ 1 = h.alone e in absurd (omega arith))
+  where
+    by : (b : ℕ) (rest : Bool) → is_digit b && rest ≡ true → b ≢ 48 → is_digit b && not (b == 48) && rest ≡ true
+    by b rest all other = grind (arith, nat_tests)
 
 numeral_of : (text : List ℕ) → IsTrue (is_decimal text) → IsNumeral text
-numeral_of [] h = cc
-numeral_of (b ∷ []) h = record { digits = rw h refl; some = omega arith; alone = λ e. refl }
+numeral_of [] h = absurd cc
+numeral_of (b ∷ []) h = record { digits = rw h; some = omega arith; alone = λ e. refl }
 numeral_of (b ∷ c ∷ text) h =
-    let front : IsTrue (is_digit b && not (b == 48)) = and_left (is_digit b && not (b == 48)) (list_all is_digit (c ∷ text)) h in
-    record {
-      digits = let first : is_digit b ≡ true = and_left (is_digit b) (not (b == 48)) front in rw first (and_right _ _ h);
-      some = omega arith;
-      alone = λ e. let test : IsTrue (not (b == 48)) = and_right (is_digit b) (not (b == 48)) front in absurd (grind (arith, nat_tests));
-    }
+    let parts = by b (list_all is_digit (c ∷ text)) h in
+    record { digits = parts.0; some = omega arith; alone = λ e. absurd (parts.1 e) }
+  where
+    by : (b : ℕ) (rest : Bool) → is_digit b && not (b == 48) && rest ≡ true → (is_digit b && rest ≡ true) × (b ≢ 48)
+    by b rest h = (grind arith, λ e. grind (arith, nat_tests))
 
 written : (n : ℕ) → n < 2 ^ 64 → IsNumeral (decimal n)
 written zero h = rw (decimal_digit zero (omega arith)) (record { digits = refl; some = omega arith; alone = λ e. refl })
@@ -49,27 +48,18 @@ written (suc n) h = record {
 
 pub reads_back : DecimalReadsBack
 reads_back most n small h =
-    let whole : is_decimal (decimal n) ≡ true = is_decimal-true (decimal n) (written n small) in
-    let value : decimal_value (decimal n) ≡ n = digits_value-decimal own n small in
     let within : nat_le n most ≡ true = grind (arith, nat_tests) in
-    rw (whole, value, within) refl
+    rw (is_decimal-true (decimal n) (written n small), digits_value-decimal own n small, within)
 
 -- the two tests, and the number
-record IsRead (a b : Bool) (value n : ℕ) : Type 0 where
-  whole : IsTrue a
-  within : IsTrue b
-  same : value ≡ n
-
-read_when : (a b : Bool) (value n : ℕ) → cond (a && b) (Some value) None ≡ Some n → IsRead a b value n
-read_when true true value n h = record { whole = refl; within = refl; same = cc }
-read_when true false value n h = cc
-read_when false b value n h = cc
+read_when : (a b : Bool) (value n : ℕ) → cond (a && b) (Some value) None ≡ Some n → IsTrue a × IsTrue b × (value ≡ n)
+read_when a b value n h = grind arith
 
 pub only_decimal : OnlyDecimalReads
 only_decimal most n text small h =
     let read = read_when (is_decimal text) (nat_le (decimal_value text) most) (decimal_value text) n h in
-    let parts = numeral_of text read.whole in
-    let same : decimal_value text ≡ n = read.same in
-    let spelled : decimal (decimal_value text) ≡ text = decimal-digits_value own text parts.digits parts.some parts.alone (rw same small) in
-    let test : IsTrue (nat_le (decimal_value text) most) = read.within in
-    (sym spelled ∙ ap decimal same, grind (arith, nat_tests))
+    let parts = numeral_of text read.0 in
+    let same : decimal_value text ≡ n = read.2 in
+    let spelled = decimal-digits_value own text parts.digits parts.some parts.alone (rw same small) in
+    let test : IsTrue (nat_le (decimal_value text) most) = read.1 in
+    (sym (rw same at spelled), grind (arith, nat_tests))

@@ -7,7 +7,6 @@ use Rattle.std.proofs.lemmas.Nat.{div-add-mod', mod_below, mod-mul-add, div-mul-
 use Rattle.std.proofs.Math.Nat.{pow-succ', mod-eq_of_lt}
 use Rattle.digits.specs.Hexadecimal.{hex_digit, hex_digits, is_hex, hex_value, hex_number, hex_number_after}
 use Rattle.digits.specs.Laws.{HexDigitsAreHex, HexReadsBack, OnlyHexDigitsRead}
-use Rattle.digits.proofs.HexLemmas.{and_left, and_right}
 
 digit_is_hex : (d : ℕ) → d < 16 → is_hex (hex_digit d) ≡ true
 digit_is_hex d h = agree_below_at (λ k. is_hex (hex_digit k)) (λ _. true) 16 d refl h
@@ -15,11 +14,8 @@ digit_is_hex d h = agree_below_at (λ k. is_hex (hex_digit k)) (λ _. true) 16 d
 digit_value : (d : ℕ) → d < 16 → hex_value (hex_digit d) ≡ d
 digit_value d h = eqb-true _ _ (agree_below_at (λ k. eqb (hex_value (hex_digit k)) k) (λ _. true) 16 d refl h)
 
-value_digit : (b : ℕ) → IsTrue (is_hex b) → hex_digit (hex_value b) ≡ b
-value_digit b h = grind (arith, nat_tests)
-
-value_below : (b : ℕ) → IsTrue (is_hex b) → hex_value b < 16
-value_below b h = grind (arith, nat_tests)
+value_of : (b : ℕ) → IsTrue (is_hex b) → (hex_digit (hex_value b) ≡ b) × (hex_value b < 16)
+value_of b h = grind (arith, nat_tests)
 
 -- ---- written
 
@@ -50,11 +46,9 @@ one_digit : (m n p : ℕ) → 0 < p → (16 * m + n / p % 16) * p + n % p ≡ m 
 one_digit m n p pos =
     let d : ℕ = n / p % 16 in
     let a : ℕ = n / p / 16 in
-    let whole : n / p * p + n % p ≡ n = div-add-mod' n p in
     let parts : n / p ≡ a * 16 + d = omega arith in
-    let low : n % p < p = mod_below n p pos in
-    let small : d * p + n % p < p * 16 = mul-add-lt d p (n % p) 16 (omega arith) low in
-    let split : n ≡ a * (16 * p) + (d * p + n % p) = sym whole ∙ split_at (n / p) a d p (n % p) parts in
+    let small : d * p + n % p < p * 16 = mul-add-lt d p (n % p) 16 (omega arith) (mod_below n p pos) in
+    let split : n ≡ a * (16 * p) + (d * p + n % p) = sym (div-add-mod' n p) ∙ split_at (n / p) a d p (n % p) parts in
     let left : n % (16 * p) ≡ d * p + n % p = ap (λ x. x % (16 * p)) split ∙ mod-mul-add a (16 * p) (d * p + n % p) (omega arith) in
     rw left (omega arith)
 
@@ -63,50 +57,40 @@ unfolding hex_digits
 read-after zero n m = omega arith
 read-after (suc k) n m =
     let d = n / 16 ^ k % 16 in
-    let small : d < 16 = omega arith in
-    ap (λ (x : ℕ). hex_number_after (16 * m + x) (hex_digits k n)) (digit_value d small)
-    ∙ read-after k n (16 * m + d)
-    ∙ one_digit m n (16 ^ k) (pow_pos k)
-    ∙ ap (λ (x : ℕ). m * x + n % x) (sym (pow-succ' 16 k))
+    ap (λ (x : ℕ). hex_number_after (16 * m + x) (hex_digits k n)) (digit_value d (omega arith))
+    ∙ (rw (read-after k n (16 * m + d), pow-succ' 16 k) (one_digit m n (16 ^ k) (pow_pos k)))
 
 pub reads_back : HexReadsBack
 reads_back k n h = read-after k n 0 ∙ omega (arith, mod-eq_of_lt h)
 
 -- ---- read and written
 
--- digits behind a number, and their bound
-after : (text : List ℕ) (m : ℕ) → IsTrue (list_all is_hex text) → hex_number_after m text ≡ m * 16 ^ length text + hex_number text
-after [] m all = omega arith
-after (b ∷ text) m all =
-    let rest : IsTrue (list_all is_hex text) = and_right (is_hex b) (list_all is_hex text) all in
-    let p = 16 ^ length text in
-    let here : hex_number_after (16 * m + hex_value b) text ≡ (16 * m + hex_value b) * p + hex_number text = after text (16 * m + hex_value b) rest in
-    let alone : hex_number_after (16 * 0 + hex_value b) text ≡ (16 * 0 + hex_value b) * p + hex_number text = after text (16 * 0 + hex_value b) rest in
-    let more : 16 ^ suc (length text) ≡ 16 * p = pow-succ' 16 (length text) in
-    rw (here, alone, more) (omega arith)
+-- digits behind a number
+pub number_after : (text : List ℕ) (m : ℕ) → hex_number_after m text ≡ m * 16 ^ length text + hex_number text
+number_after [] m = omega arith
+number_after (b ∷ text) m = rw (number_after text (16 * m + hex_value b), number_after text (16 * 0 + hex_value b), pow-succ' 16 (length text)) (omega arith)
+
+first : (b : ℕ) (text : List ℕ) → IsTrue (list_all is_hex (b ∷ text)) → IsTrue (is_hex b) × IsTrue (list_all is_hex text)
+first b text all = grind arith
 
 below : (text : List ℕ) → IsTrue (list_all is_hex text) → hex_number text < 16 ^ length text
 below [] all = omega arith
 below (b ∷ text) all =
-    let rest : IsTrue (list_all is_hex text) = and_right (is_hex b) (list_all is_hex text) all in
-    let low : hex_value b < 16 = value_below b (and_left (is_hex b) (list_all is_hex text) all) in
-    let fits : hex_value b * 16 ^ length text + hex_number text < 16 ^ length text * 16 = mul-add-lt (hex_value b) (16 ^ length text) (hex_number text) 16 low (below text rest) in
-    rw (after text (16 * 0 + hex_value b) rest, pow-succ' 16 (length text)) (omega arith)
+    let is = first b text all in
+    let fits = mul-add-lt (hex_value b) (16 ^ length text) (hex_number text) 16 (value_of b is.0).1 (below text is.1) in
+    rw (number_after text (16 * 0 + hex_value b), pow-succ' 16 (length text)) (omega (arith, fits))
 
 again : (text : List ℕ) (m : ℕ) → IsTrue (list_all is_hex text) → hex_digits (length text) (hex_number_after m text) ≡ text
 unfolding hex_digits
 again [] m all = refl
 again (b ∷ text) m all =
-    let rest : IsTrue (list_all is_hex text) = and_right (is_hex b) (list_all is_hex text) all in
+    let is = first b text all in
     let v = hex_value b in
     let p = 16 ^ length text in
-    let low : v < 16 = value_below b (and_left (is_hex b) (list_all is_hex text) all) in
-    let whole : hex_number_after (16 * m + v) text ≡ (16 * m + v) * p + hex_number text = after text (16 * m + v) rest in
-    let front : hex_number_after (16 * m + v) text / p ≡ 16 * m + v = ap (λ x. x / p) whole ∙ div-mul-add (16 * m + v) p (hex_number text) (below text rest) in
-    let here : hex_number_after (16 * m + v) text / p % 16 ≡ v = rw front (omega arith) in
-    ap (λ (x : ℕ). hex_digit x ∷ hex_digits (length text) (hex_number_after (16 * m + v) text)) here
-    ∙ ap (λ (x : ℕ). x ∷ hex_digits (length text) (hex_number_after (16 * m + v) text)) (value_digit b (and_left (is_hex b) (list_all is_hex text) all))
-    ∙ ap (λ (x : List ℕ). b ∷ x) (again text (16 * m + v) rest)
+    let value = value_of b is.0 in
+    let front : hex_number_after (16 * m + v) text / p ≡ 16 * m + v = rw (number_after text (16 * m + v)) (div-mul-add (16 * m + v) p (hex_number text) (below text is.1)) in
+    let here : hex_number_after (16 * m + v) text / p % 16 ≡ v = rw front (omega (arith, value.1)) in
+    rw (here, value.0, again text (16 * m + v) is.1)
 
 pub only_digits : OnlyHexDigitsRead
 only_digits text all = (again text 0 all, below text all)

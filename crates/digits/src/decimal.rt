@@ -31,6 +31,7 @@ fn is_decimal(text: &[u8]) -> bool
 
 /// The value of at most nineteen digits, the highest first, which may be zeros.
 #[inline]
+#[tactic(auto, using(crate::proofs::DecimalLemmas::eighteen))]
 pub fn decimal_value(digits: &[u8]) -> u64
     requires few { length digits.now ≤ 19 }
     requires decimal { IsTrue (list_all is_digit digits.now) }

@@ -1,5 +1,6 @@
 -- A rising list, put together again from its two sides.
-use Rattle.std.proofs.Common.{◌≡◌, ◌∙◌, refl, ap, ℕ, ◌+◌, ◌≤◌, List, [], ◌∷◌, true, false, IsTrue, nat_lt, cond, arith}
+use Rattle.std.proofs.Common.{◌≡◌, ◌∙◌, refl, ap, ℕ, ◌+◌, ◌≤◌, List, [], ◌∷◌, true, false, IsTrue, cond, arith}
+use Rattle.std.proofs.lemmas.Bool.{lt-ltb, le-ltb}
 use Rattle.std.proofs.lemmas.Bool.Decides.{nat_tests}
 use Rattle.beeb_bits.specs.Order.{before}
 use Rattle.beeb_bits.specs.declared.Side.{Side}
@@ -8,39 +9,26 @@ use Rattle.tube_chip.specs.Events.{Event, Rises, RisesAfter, merge, put_in, of_s
 use Rattle.tube_chip.specs.Laws.{RisingListIsMerge}
 
 -- no event lies below the tick n
-AllFrom : ℕ → List Event → Type 0
+abbrev AllFrom : ℕ → List Event → Type 0
 AllFrom n [] = Unit {0}
 AllFrom n (e ∷ events) = (n ≤ e.tick) × AllFrom n events
 
 AllFrom-lower : (m n : ℕ) (events : List Event) → m ≤ n → AllFrom n events → AllFrom m events
-unfolding AllFrom
 AllFrom-lower m n [] h all = tt
 AllFrom-lower m n (e ∷ events) h all = (let t : n ≤ e.tick = all.0 in omega arith, AllFrom-lower m n events h all.1)
 
-before-le : (a b : ℕ) (x y : Side) → IsTrue (before a x b y) → a ≤ b
-before-le a b x y h = grind (arith, nat_tests)
-
-before-lt : (a b : ℕ) (y : Side) → IsTrue (before a Para b y) → a + 1 ≤ b
-before-lt a b Host h = grind (arith, nat_tests)
-before-lt a b Para h = grind (arith, nat_tests)
-
 -- what comes after a host's event lies at its tick or above, and after a parasite's above
-first_tick : Side → ℕ → ℕ
+abbrev first_tick : Side → ℕ → ℕ
 first_tick Host tick = tick
 first_tick Para tick = tick + 1
 
 before-first : (a b : ℕ) (x y : Side) → IsTrue (before a x b y) → first_tick x a ≤ b
-unfolding first_tick
-before-first a b Host y h = before-le a b Host y h
-before-first a b Para y h = before-lt a b y h
+before-first a b x y h = grind (arith, nat_tests)
 
 first-le : (x : Side) (a b : ℕ) → a ≤ b → a ≤ first_tick x b
-unfolding first_tick
-first-le Host a b h = h
-first-le Para a b h = omega arith
+first-le x a b h = grind arith
 
 RisesAfter-first : (e : Event) (events : List Event) → RisesAfter e events → AllFrom (first_tick e.side e.tick) events
-unfolding AllFrom
 RisesAfter-first e [] rises = tt
 RisesAfter-first e (f ∷ events) rises =
     let here : first_tick e.side e.tick ≤ f.tick = before-first e.tick f.tick e.side f.side rises.0 in
@@ -51,7 +39,6 @@ RisesAfter-Rises e [] rises = tt
 RisesAfter-Rises e (f ∷ events) rises = rises.1
 
 AllFrom-side : (n : ℕ) (side : Side) (events : List Event) → AllFrom n events → AllFrom n (of_side side events)
-unfolding AllFrom
 AllFrom-side n side [] all = tt
 AllFrom-side n side (e ∷ events) all =
     elim (is_side side e.side) as (λ b. AllFrom n (cond b (e ∷ of_side side events) (of_side side events))) [
@@ -59,36 +46,26 @@ AllFrom-side n side (e ∷ events) all =
       | false ↦ AllFrom-side n side events all.1
     ]
 
-nat_lt-false : (m n : ℕ) → n ≤ m → nat_lt m n ≡ false
-nat_lt-false m n h = grind (arith, nat_tests)
-
-nat_lt-true : (m n : ℕ) → m + 1 ≤ n → nat_lt m n ≡ true
-nat_lt-true m n h = grind (arith, nat_tests)
-
 -- a host's event that no parasite's precedes stands first
 put_in-first : (a : Event) (rest : List Event → List Event) (para : List Event) → AllFrom a.tick para → put_in a rest para ≡ a ∷ rest para
-unfolding AllFrom
 put_in-first a rest [] all = refl
-put_in-first a rest (b ∷ para) all = rw (nat_lt-false b.tick a.tick all.0) refl
+put_in-first a rest (b ∷ para) all = rw (le-ltb b.tick a.tick all.0)
 
 -- so does a parasite's event that no host's precedes
 merge-para : (e : Event) (host para : List Event) → AllFrom (e.tick + 1) host → merge host (e ∷ para) ≡ e ∷ merge host para
-unfolding AllFrom
 merge-para e [] para all = refl
-merge-para e (a ∷ host) para all = rw (nat_lt-true e.tick a.tick all.0) refl
+merge-para e (a ∷ host) para all = rw (lt-ltb e.tick a.tick (omega (arith, all.0)))
 
-both_sides : Event → Side → List Event → List Event
+abbrev both_sides : Event → Side → List Event → List Event
 both_sides e side events =
     merge (cond (is_side Host side) (e ∷ of_side Host events) (of_side Host events)) (cond (is_side Para side) (e ∷ of_side Para events) (of_side Para events))
 
 merge-cons : (e : Event) (side : Side) (events : List Event) → AllFrom (first_tick side e.tick) events →
     both_sides e side events ≡ e ∷ merge (of_side Host events) (of_side Para events)
-unfolding both_sides first_tick
 merge-cons e Host events all = put_in-first e (merge (of_side Host events)) (of_side Para events) (AllFrom-side e.tick Para events all)
 merge-cons e Para events all = merge-para e (of_side Host events) (of_side Para events) (AllFrom-side (e.tick + 1) Host events all)
 
 pub merge-sides : RisingListIsMerge
-unfolding both_sides
 merge-sides [] rises = refl
 merge-sides (e ∷ events) rises =
     merge-cons e e.side events (RisesAfter-first e events rises)

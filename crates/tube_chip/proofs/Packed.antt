@@ -1,44 +1,44 @@
 -- A chip is read back from its words.
 use Rattle.std.proofs.Common.{◌≡◌, ◌∙◌, refl, sym, ap, subst, ℕ, zero, suc, ◌+◌, ◌*◌, ◌/◌, ◌%◌, ◌^◌, ◌<◌, ◌≤◌, List, [], ◌∷◌, ◌++◌, map, take}
-use Rattle.std.proofs.Common.{length, get_or, slice_index, length-take-le, ◌==◌, Bool, true, false, All, arith}
+use Rattle.std.proofs.Common.{length, get_or, slice_index, length-take-le, ◌==◌, Bool, All, arith}
 use Rattle.std.specs.List.{range_with_len}
 use Rattle.std.specs.Int.{w64, to_le_bytes}
+use Rattle.std.proofs.lemmas.Bool.Decides.{nat_tests}
 use Rattle.std.proofs.lemmas.Nat.{le_bytes_8}
 use Rattle.std.proofs.lemmas.List.Elements.{All-nil, All-cons, All-head, All-tail, All-take}
 use Rattle.tube_chip.specs.Register.{Register, empty, holds, count, register_of}
-use Rattle.tube_chip.specs.State.{State, Flags}
+use Rattle.tube_chip.specs.State.{State, Flags, Bank}
 use Rattle.beeb_bits.specs.Bits.{bit}
 use Rattle.beeb_bits.specs.Bits.{weight}
 use Rattle.tube_chip.specs.Act.{flags_byte}
-use Rattle.tube_chip.specs.Packing.{shown_bytes, IsRegister, IsChip, place, places, word, counts, host_bytes, para_bytes, packed_words}
+use Rattle.tube_chip.specs.Packing.{shown_bytes, IsRegister, IsBank, IsChip, place, places, word, counts, host_bytes, para_bytes, packed_words}
 use Rattle.tube_chip.specs.Packing.{PackingIsOneToOne, flags_from, register_from, host_from, para_from, unpacked_chip}
 
 -- ---- bytes
 
-byte_at : (xs : List ℕ) (i : ℕ) → All (λ b. b < 256) xs → get_or xs i 0 < 256
-byte_at [] i all = omega arith
-byte_at (x ∷ xs) zero all = All-head (λ b. b < 256) x xs all
-byte_at (x ∷ xs) (suc i) all = byte_at xs i (All-tail (λ b. b < 256) x xs all)
+abbrev IsByte : ℕ → Type 0
+IsByte b = b < 256
 
 pub place-byte : (room : ℕ) (r : Register) (i : ℕ) → IsRegister room r → place r i < 256
-place-byte room r i well = byte_at (shown_bytes r) i well.bytes
-
--- eight bytes, each below 256
-bytes_8 : (a b c d e f g h : ℕ) → a < 256 → b < 256 → c < 256 → d < 256 → e < 256 → f < 256 → g < 256 → h < 256
-    → to_le_bytes w64 (word (a ∷ b ∷ c ∷ d ∷ e ∷ f ∷ g ∷ h ∷ [])) ≡ a ∷ b ∷ c ∷ d ∷ e ∷ f ∷ g ∷ h ∷ []
-bytes_8 a b c d e f g h la lb lc ld le lf lg lh =
-    le_bytes_8 (a ∷ b ∷ c ∷ d ∷ e ∷ f ∷ g ∷ h ∷ []) _ refl each refl
+place-byte room r i well = by (shown_bytes r) i well.bytes
   where
-    each : (i : ℕ) → get_or (a ∷ b ∷ c ∷ d ∷ e ∷ f ∷ g ∷ h ∷ []) i 0 < 256
-    each zero = la
-    each (suc zero) = lb
-    each (suc (suc zero)) = lc
-    each (suc (suc (suc zero))) = ld
-    each (suc (suc (suc (suc zero)))) = le
-    each (suc (suc (suc (suc (suc zero))))) = lf
-    each (suc (suc (suc (suc (suc (suc zero)))))) = lg
-    each (suc (suc (suc (suc (suc (suc (suc zero))))))) = lh
-    each (suc (suc (suc (suc (suc (suc (suc (suc i)))))))) = omega arith
+    by : (xs : List ℕ) (i : ℕ) → All IsByte xs → get_or xs i 0 < 256
+    by [] i all = omega arith
+    by (x ∷ xs) zero all = All-head IsByte x xs all
+    by (x ∷ xs) (suc i) all = by xs i (All-tail IsByte x xs all)
+
+-- each below 256
+abbrev Are : List ℕ → Type 0
+Are [] = Unit {0}
+Are (b ∷ bytes) = (b < 256) × Are bytes
+
+bytes_8 : (bytes : List ℕ) → length bytes ≡ 8 → Are bytes → to_le_bytes w64 (word bytes) ≡ bytes
+bytes_8 bytes long are = le_bytes_8 bytes _ long (each bytes are) refl
+  where
+    each : (xs : List ℕ) → Are xs → (i : ℕ) → get_or xs i 0 < 256
+    each [] all i = omega arith
+    each (x ∷ xs) all zero = all.0
+    each (x ∷ xs) all (suc i) = each xs all.1 i
 
 -- ---- registers
 
@@ -71,29 +71,26 @@ two_back (holds b (x ∷ [])) well = refl
 two_back (holds b (x ∷ y ∷ xs)) well = let f = well.fits in absurd (omega arith)
 
 -- a register of so many bytes below 256 is within its bounds
-pub sound : (room held : ℕ) (bytes : List ℕ) → 0 < room → held ≤ room → length bytes ≡ room → All (λ b. b < 256) bytes → IsRegister room (register_of (take held bytes) (slice_index bytes 0))
+pub sound : (room held : ℕ) (bytes : List ℕ) → 0 < room → held ≤ room → length bytes ≡ room → All IsByte bytes → IsRegister room (register_of (take held bytes) (slice_index bytes 0))
 sound room held [] some le len all = absurd (omega arith)
 sound room zero (b ∷ bs) some le len all =
-    record { fits = omega arith; bytes = All-cons (λ n. n < 256) b [] (All-head (λ n. n < 256) b bs all) (All-nil (λ n. n < 256)) }
+    record { fits = omega arith; bytes = All-cons IsByte b [] (All-head IsByte b bs all) (All-nil IsByte) }
 sound room (suc held) (b ∷ bs) some le len all = record {
   fits = let l = length-take-le held bs (omega arith) in omega arith;
-  bytes = All-cons (λ n. n < 256) b (take held bs) (All-head (λ n. n < 256) b bs all) (All-take (λ n. n < 256) held bs (All-tail (λ n. n < 256) b bs all));
+  bytes = All-cons IsByte b (take held bs) (All-head IsByte b bs all) (All-take IsByte held bs (All-tail IsByte b bs all));
 }
 
 -- ---- flags and counts
 
 -- the sum of six flags by their weights has each of them as a bit
 weight_is : (n : ℕ) (b : Bool) → weight n b ≡ n * weight 1 b
-weight_is n true = omega arith
-weight_is n false = omega arith
+weight_is n b = grind arith
 
 weight_le : (b : Bool) → weight 1 b ≤ 1
-weight_le true = omega arith
-weight_le false = omega arith
+weight_le b = grind arith
 
 is_one : (b : Bool) (n : ℕ) → n ≡ weight 1 b → (n == 1) ≡ b
-is_one true n is = rw is refl
-is_one false n is = rw is refl
+is_one b n is = grind (arith, nat_tests)
 
 flags_back : (f : Flags) → flags_from (flags_byte f) ≡ f
 flags_back f =
@@ -120,60 +117,68 @@ flags_below f =
 -- ---- the whole
 
 places_back : (r : Register) (first : ℕ) → IsRegister 24 r → to_le_bytes w64 (word (places r first)) ≡ places r first
-places_back r first well =
-    bytes_8 _ _ _ _ _ _ _ _ (b _) (b _) (b _) (b _) (b _) (b _) (b _) (b _)
+places_back r first well = bytes_8 (places r first) refl (b _, (b _, (b _, (b _, (b _, (b _, (b _, (b _, tt))))))))
   where
     b : (i : ℕ) → place r i < 256
     b i = place-byte 24 r i well
 
+-- the bytes of registers 2 to 4, and what their counts are bounded by
+record Short (bank : Bank) : Type 0 where
+  second : place bank.r2 0 < 256
+  third : place bank.r3 0 < 256
+  third_next : place bank.r3 1 < 256
+  fourth : place bank.r4 0 < 256
+  two : count bank.r2 ≤ 1
+  three : count bank.r3 ≤ 2
+  four : count bank.r4 ≤ 1
+
+short : {room : ℕ} (bank : Bank) → IsBank room bank → Short bank
+short bank well = record {
+  second = place-byte 1 bank.r2 0 well.second;
+  third = place-byte 2 bank.r3 0 well.third;
+  third_next = place-byte 2 bank.r3 1 well.third;
+  fourth = place-byte 1 bank.r4 0 well.fourth;
+  two = well.second.fits;
+  three = well.third.fits;
+  four = well.fourth.fits;
+}
+
 host_back : (c : State) → IsChip c → to_le_bytes w64 (word (host_bytes c.flags c.to_host)) ≡ host_bytes c.flags c.to_host
 host_back c well =
-    let f1 = well.to_host.first.fits in
-    let f2 = well.to_host.second.fits in
-    let f3 = well.to_host.third.fits in
-    let f4 = well.to_host.fourth.fits in
-    bytes_8 _ _ _ _ _ _ _ _ (flags_below c.flags) (omega arith) (omega arith) (place-byte 1 _ 0 well.to_host.second)
-    (place-byte 2 _ 0 well.to_host.third) (place-byte 2 _ 1 well.to_host.third) (place-byte 1 _ 0 well.to_host.fourth) (omega arith)
+    bytes_8 (host_bytes c.flags c.to_host) refl (omega (arith, flags_below c.flags, short c.to_host well.to_host, well.to_host.first.fits))
 
 para_back : (c : State) → IsChip c → to_le_bytes w64 (word (para_bytes c.to_para)) ≡ para_bytes c.to_para
 para_back c well =
-    let f1 = well.to_para.first.fits in
-    let f2 = well.to_para.second.fits in
-    let f3 = well.to_para.third.fits in
-    let f4 = well.to_para.fourth.fits in
-    bytes_8 _ _ _ _ _ _ _ _ (omega arith) (place-byte 1 _ 0 well.to_para.first) (place-byte 1 _ 0 well.to_para.second)
-    (place-byte 2 _ 0 well.to_para.third) (place-byte 2 _ 1 well.to_para.third) (place-byte 1 _ 0 well.to_para.fourth) (omega arith) (omega arith)
+    bytes_8 (para_bytes c.to_para) refl (omega (arith, place-byte 1 _ 0 well.to_para.first, short c.to_para well.to_para, well.to_para.first.fits))
+
+-- registers 2 to 4 are read back from their places and their counts, beside the count of the first
+short_back : {room : ℕ} (bank : Bank) (n : ℕ) → n < 4 → IsBank room bank → let all : ℕ = counts n (count bank.r2) (count bank.r3) (count bank.r4) in
+    (register_from (place bank.r2 0 ∷ []) (all / 4 % 4) ≡ bank.r2)
+    × (register_from (place bank.r3 0 ∷ place bank.r3 1 ∷ []) (all / 16 % 4) ≡ bank.r3)
+    × (register_from (place bank.r4 0 ∷ []) (all / 64) ≡ bank.r4)
+short_back bank n low well =
+    let is : Short bank = short bank well in
+    let all : ℕ = counts n (count bank.r2) (count bank.r3) (count bank.r4) in
+    let k2 : all / 4 % 4 ≡ count bank.r2 = omega arith in
+    let k3 : all / 16 % 4 ≡ count bank.r3 = omega arith in
+    let k4 : all / 64 ≡ count bank.r4 = omega arith in
+    (rw k2 (one_back bank.r2 well.second), rw k3 (two_back bank.r3 well.third), rw k4 (one_back bank.r4 well.fourth))
 
 host_bank : (c : State) → IsChip c → host_from (places c.to_host.r1 0 ++ places c.to_host.r1 8 ++ places c.to_host.r1 16) (host_bytes c.flags c.to_host) ≡ c.to_host
 host_bank c well =
-    let f2 = well.to_host.second.fits in
-    let f3 = well.to_host.third.fits in
-    let f4 = well.to_host.fourth.fits in
-    let k2 : counts 0 (count c.to_host.r2) (count c.to_host.r3) (count c.to_host.r4) / 4 % 4 ≡ count c.to_host.r2 = omega arith in
-    let k3 : counts 0 (count c.to_host.r2) (count c.to_host.r3) (count c.to_host.r4) / 16 % 4 ≡ count c.to_host.r3 = omega arith in
-    let k4 : counts 0 (count c.to_host.r2) (count c.to_host.r3) (count c.to_host.r4) / 64 ≡ count c.to_host.r4 = omega arith in
     let r1 = queue_back c.to_host.r1 well.to_host.first in
-    let r2 = ap (register_from (place c.to_host.r2 0 ∷ [])) k2 ∙ one_back c.to_host.r2 well.to_host.second in
-    let r3 = ap (register_from (place c.to_host.r3 0 ∷ place c.to_host.r3 1 ∷ [])) k3 ∙ two_back c.to_host.r3 well.to_host.third in
-    let r4 = ap (register_from (place c.to_host.r4 0 ∷ [])) k4 ∙ one_back c.to_host.r4 well.to_host.fourth in
-    λ i. record { r1 = r1 i; r2 = r2 i; r3 = r3 i; r4 = r4 i }
+    let others = short_back c.to_host 0 (omega arith) well.to_host in
+    λ i. record { r1 = r1 i; r2 = others.0 i; r3 = others.1 i; r4 = others.2 i }
 
 para_bank : (c : State) → IsChip c → para_from (para_bytes c.to_para) ≡ c.to_para
 para_bank c well =
-    let f1 = well.to_para.first.fits in
-    let f2 = well.to_para.second.fits in
-    let f3 = well.to_para.third.fits in
-    let f4 = well.to_para.fourth.fits in
-    let all = counts (count c.to_para.r1) (count c.to_para.r2) (count c.to_para.r3) (count c.to_para.r4) in
-    let k1 : all % 4 ≡ count c.to_para.r1 = omega arith in
-    let k2 : all / 4 % 4 ≡ count c.to_para.r2 = omega arith in
-    let k3 : all / 16 % 4 ≡ count c.to_para.r3 = omega arith in
-    let k4 : all / 64 ≡ count c.to_para.r4 = omega arith in
-    let r1 = ap (register_from (place c.to_para.r1 0 ∷ [])) k1 ∙ one_back c.to_para.r1 well.to_para.first in
-    let r2 = ap (register_from (place c.to_para.r2 0 ∷ [])) k2 ∙ one_back c.to_para.r2 well.to_para.second in
-    let r3 = ap (register_from (place c.to_para.r3 0 ∷ place c.to_para.r3 1 ∷ [])) k3 ∙ two_back c.to_para.r3 well.to_para.third in
-    let r4 = ap (register_from (place c.to_para.r4 0 ∷ [])) k4 ∙ one_back c.to_para.r4 well.to_para.fourth in
-    λ i. record { r1 = r1 i; r2 = r2 i; r3 = r3 i; r4 = r4 i }
+    let bank : Bank = c.to_para in
+    let one = well.to_para.first.fits in
+    let is : Short bank = short bank well.to_para in
+    let k1 : counts (count bank.r1) (count bank.r2) (count bank.r3) (count bank.r4) % 4 ≡ count bank.r1 = omega arith in
+    let r1 = ap (register_from (place bank.r1 0 ∷ [])) k1 ∙ one_back bank.r1 well.to_para.first in
+    let others = short_back bank (count bank.r1) (omega arith) well.to_para in
+    λ i. record { r1 = r1 i; r2 = others.0 i; r3 = others.1 i; r4 = others.2 i }
 
 -- the state of the lists of bytes that stand in the words
 from_bytes : ℕ → List ℕ → List ℕ → List ℕ → List ℕ → List ℕ → State

@@ -1,5 +1,6 @@
 -- The tables of digits are the definitions, byte by byte.
-use Rattle.std.proofs.Common.{if◌then◌else◌, ◌≡◌, ◌∙◌, sym, refl, ap, subst, ℕ, ◌+◌, ◌*◌, ◌/◌, ◌%◌, ◌^◌, ◌<◌, ◌≤◌, List, [], ◌∷◌, map, length, Bool, true, false, cond, slice_index_or, get_or, drop, Some, None, arith, lit<}
+use Rattle.std.proofs.Common.{if◌then◌else◌, ◌≡◌, ◌∙◌, sym, refl, ap, ℕ, ◌+◌, ◌*◌, ◌/◌, ◌%◌, ◌^◌, ◌<◌, ◌≤◌, List, [], ◌∷◌, map, length, Bool, true, false, ◌&&◌, slice_index_or, get_or, drop, Some}
+use Rattle.std.proofs.Common.{None, arith, lit<}
 use Rattle.std.specs.List.{list_all, range_with_len}
 use Rattle.std.proofs.lemmas.List.FromFn.{get_or-map-range_with_len}
 use Rattle.std.proofs.lemmas.List.{drop_more}
@@ -8,7 +9,7 @@ use Rattle.std.proofs.lemmas.Bool.Decides.{nat_tests}
 use Rattle.std.proofs.Math.Nat.{pow-le-pow_right}
 use Rattle.std.proofs.lemmas.Grind.{pow_more}
 use Rattle.digits.specs.Hexadecimal.{hex_digits, is_hex, hex_value, hex_number, hex_number_after}
-use Rattle.tube_trace.proofs.LineLemmas.{and_left, and_right}
+use Rattle.digits.proofs.HexLaws.{only_digits}
 use Rattle.tube_trace.specs.declared.hex.TheConstants.{PAIRS, VALUES}
 
 PAIRS_is : PAIRS ≡ map (hex_digits 2) (range_with_len 0 256)
@@ -48,53 +49,27 @@ sum_after n (b ∷ bytes) = sum_after (16 * n + value b) bytes
 pub sum_fits : (n b i : ℕ) → n + 1048576 ≤ 1048576 * 16 ^ i → 16 * n + value b + 1048576 ≤ 1048576 * 16 ^ (i + 1)
 sum_fits n b i h = let v : value b ≤ 1048576 = value_fits b in rw pow_more (omega arith)
 
-pub sum_small : (n i : ℕ) → n + 1048576 ≤ 1048576 * 16 ^ i → i ≤ 5 → n < 16 ^ 10
-sum_small n i h le = let p : 16 ^ i ≤ 16 ^ 5 = pow-le-pow_right {n = 16} (lit< tt) le in omega arith
+pub five : (i : ℕ) → i ≤ 5 → 16 ^ i ≤ 16 ^ 5
+five i le = pow-le-pow_right {n = 16} (lit< tt) le
 
 -- a byte that is no digit makes the sum too large
 too_large : (bytes : List ℕ) (n : ℕ) → 1048576 ≤ n → 1048576 ≤ sum_after n bytes
 too_large [] n h = h
 too_large (b ∷ bytes) n h = too_large bytes (16 * n + value b) (omega arith)
 
-value_when : (b : ℕ) (t : Bool) → is_hex b ≡ t → value b ≡ cond t (hex_value b) 1048576
-value_when b t e = rw e refl
+-- digits sum up to their number
+abbrev Tells : Bool → List ℕ → ℕ → Type 0
+Tells true bytes n = sum_after n bytes ≡ hex_number_after n bytes
+Tells false bytes n = 1048576 ≤ sum_after n bytes
 
-sum_other : (bytes : List ℕ) (n : ℕ) → list_all is_hex bytes ≡ false → 1048576 ≤ sum_after n bytes
-sum_other [] n h = cc
-sum_other (b ∷ bytes) n h =
-    elim (is_hex b) as (λ t. is_hex b ≡ t → 1048576 ≤ sum_after n (b ∷ bytes)) [
-      | true ↦ λ e. sum_other bytes (16 * n + value b) (rw e at h)
-      | false ↦ λ e. let v : value b ≡ 1048576 = value_when b false e in too_large bytes (16 * n + value b) (omega arith)
-    ] refl
-
--- digits sum up to their number, which has a bound
-sum_digits : (bytes : List ℕ) (n : ℕ) → list_all is_hex bytes ≡ true → sum_after n bytes ≡ hex_number_after n bytes
-sum_digits [] n h = refl
-sum_digits (b ∷ bytes) n h =
-    elim (is_hex b) as (λ t. is_hex b ≡ t → sum_after n (b ∷ bytes) ≡ hex_number_after n (b ∷ bytes)) [
-      | true ↦ λ e. let v : value b ≡ hex_value b = value_when b true e in rw v (sum_digits bytes (16 * n + hex_value b) (rw e at h))
-      | false ↦ λ e. let none : false ≡ true = rw e at h in cc
-    ] refl
-
--- what a sum of at most five bytes tells
-small_sum : (bytes : List ℕ) → sum_after 0 bytes < 1048576 → list_all is_hex bytes ≡ true
-small_sum bytes h =
-    elim (list_all is_hex bytes) as (λ t. list_all is_hex bytes ≡ t → t ≡ true) [
-      | true ↦ λ e. refl
-      | false ↦ λ e. let large : 1048576 ≤ sum_after 0 bytes = sum_other bytes 0 e in absurd (omega arith)
-    ] refl
-
-digit_more : (n b i : ℕ) → is_hex b ≡ true → n < 16 ^ i → 16 * n + hex_value b < 16 ^ (i + 1)
-digit_more n b i e h = let v : hex_value b < 16 = grind (arith, nat_tests) in rw pow_more (omega arith)
-
-digits_below : (bytes : List ℕ) (n i : ℕ) → list_all is_hex bytes ≡ true → n < 16 ^ i → hex_number_after n bytes < 16 ^ (i + length bytes)
-digits_below [] n i all h = let e : i + 0 ≡ i = omega arith in rw e h
-digits_below (b ∷ bytes) n i all h =
-    let e : i + length (b ∷ bytes) ≡ i + 1 + length bytes = omega arith in
-    rw e (digits_below bytes (16 * n + hex_value b) (i + 1) (and_right _ _ all) (digit_more n b i (and_left _ _ all) h))
-
-number_below : (bytes : List ℕ) → list_all is_hex bytes ≡ true → hex_number bytes < 16 ^ length bytes
-number_below bytes all = let e : 0 + length bytes ≡ length bytes = omega arith in rw e at (digits_below bytes 0 0 all (lit< tt))
+sum_tells : (bytes : List ℕ) (n : ℕ) → Tells (list_all is_hex bytes) bytes n
+sum_tells [] n = refl
+sum_tells (b ∷ bytes) n = by (is_hex b) (list_all is_hex bytes) refl (λ m. sum_tells bytes m)
+  where
+    by : (t u : Bool) → is_hex b ≡ t → ((m : ℕ) → Tells u bytes m) → Tells (t && u) (b ∷ bytes) n
+    by true true e on = rw e (on (16 * n + hex_value b))
+    by true false e on = rw e (on (16 * n + hex_value b))
+    by false u e on = rw e (too_large bytes (16 * n + 1048576) (omega arith))
 
 -- ---- the sum of a loop over the bytes
 
@@ -102,29 +77,30 @@ pub sum_step : (bytes : List ℕ) (n i : ℕ) → i < length bytes → sum_after
 sum_step bytes n i h = rw (drop_more bytes i 0 h) refl
 
 pub sum_end : (bytes : List ℕ) (n i : ℕ) → length bytes ≤ i → sum_after 0 bytes ≡ sum_after n (drop i bytes) → sum_after 0 bytes ≡ n
-sum_end bytes n i h so_far = so_far ∙ ap (sum_after n) (drop_of_length-le bytes h)
+sum_end bytes n i h so_far = rw (drop_of_length-le bytes h) at so_far
 
-sum_all : (bytes : List ℕ) (n : ℕ) → sum_after 0 bytes ≡ n → n < 1048576 → list_all is_hex bytes ≡ true
-sum_all bytes n is h = small_sum bytes (omega arith)
+-- what a sum of at most five bytes tells
+pub record Summed (bytes : List ℕ) (n : ℕ) : Type 0 where
+  pub all : list_all is_hex bytes ≡ true
+  pub is : hex_number bytes ≡ n
+  pub bound : n < 16 ^ length bytes
 
-pub sum_some : (bytes : List ℕ) (n : ℕ) → sum_after 0 bytes ≡ n → n < 1048576 → Some n ≡ (if list_all is_hex bytes then Some (hex_number bytes) else None)
-sum_some bytes n is h =
-    let all : list_all is_hex bytes ≡ true = sum_all bytes n is h in
-    rw all (ap Some (sym is ∙ sum_digits bytes 0 all))
+summed : (bytes : List ℕ) (n : ℕ) → sum_after 0 bytes ≡ n → list_all is_hex bytes ≡ true → Summed bytes n
+summed bytes n is all =
+    let told : sum_after 0 bytes ≡ hex_number bytes = rw all at (sum_tells bytes 0) in
+    let same : hex_number bytes ≡ n = sym told ∙ is in
+    record { all = all; is = same; bound = rw same at (only_digits bytes all).1 }
 
-pub sum_bound : (bytes : List ℕ) (n : ℕ) → sum_after 0 bytes ≡ n → n < 1048576 → n < 16 ^ length bytes
-sum_bound bytes n is h =
-    let all : list_all is_hex bytes ≡ true = sum_all bytes n is h in
-    let same : hex_number bytes ≡ n = sym (sum_digits bytes 0 all) ∙ is in
-    subst (λ (x : ℕ). x < 16 ^ length bytes) same (number_below bytes all)
+pub sum_small_is : (bytes : List ℕ) (n : ℕ) → sum_after 0 bytes ≡ n → n < 1048576 → Summed bytes n
+sum_small_is bytes n is h = summed bytes n is (by (list_all is_hex bytes) (sum_tells bytes 0))
+  where
+    by : (t : Bool) → Tells t bytes 0 → t ≡ true
+    by true tells = refl
+    by false tells = absurd (omega arith)
 
 pub sum_none : (bytes : List ℕ) (n : ℕ) → length bytes ≤ 5 → sum_after 0 bytes ≡ n → 1048576 ≤ n → None ≡ (if list_all is_hex bytes then Some (hex_number bytes) else None)
-sum_none bytes n few is h =
-    elim (list_all is_hex bytes) as (λ t. list_all is_hex bytes ≡ t → None ≡ (if t then Some (hex_number bytes) else None)) [
-      | true ↦ λ all.
-          let same : hex_number bytes ≡ n = sym (sum_digits bytes 0 all) ∙ is in
-          let low : hex_number bytes < 16 ^ length bytes = number_below bytes all in
-          let p : 16 ^ length bytes ≤ 16 ^ 5 = pow-le-pow_right {n = 16} (lit< tt) few in
-          absurd (omega arith)
-      | false ↦ λ other. refl
-    ] refl
+sum_none bytes n few is h = by (list_all is_hex bytes) refl
+  where
+    by : (t : Bool) → list_all is_hex bytes ≡ t → None ≡ (if t then Some (hex_number bytes) else None)
+    by true all = let low = (summed bytes n is all).bound in absurd (omega (arith, five (length bytes) few))
+    by false other = refl

@@ -1,4 +1,3 @@
-pub mod LineLemmas
 pub mod TextLemmas
 pub mod WrongLemmas
 pub mod RiseLemmas

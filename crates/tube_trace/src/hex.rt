@@ -72,6 +72,7 @@ fn value(b: u8) -> u64
 
 /// The number of at most five digits, the highest first, if all bytes are digits.
 #[inline]
+#[tactic(auto, using(crate::proofs::HexTables::five))]
 pub(crate) fn number(digits: &[u8]) -> Option<u64>
     requires { length digits.now ≤ 5 }
     ensures value { result ≡ (if list_all is_hex digits.now then Some (hex_number digits.now) else None) }

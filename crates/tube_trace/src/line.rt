@@ -183,6 +183,7 @@ pub fn push_access(text: &mut Vec<u8>, tick: Tick, side: Side, op: Op) -> Result
 }
 
 /// Appends the line of an entry.
+#[tactic(auto, unfolding(crate::specs::Text::access_text))]
 pub(crate) fn push_line(text: &mut Vec<u8>, entry: Entry) -> Result<(), AllocError>
     ensures text { IfOk result (λ _. text.new.items ≡ text.old.items ++ line_text entry) }
     ensures byte { IfOk result (λ _. IsOfByte entry) }

@@ -1,14 +1,6 @@
-use Rattle.std.proofs.Common.{◌<◌, ◌^◌, ◌∙◌, arith, get_or}
-use Rattle.tube_trace.proofs.HexTables.{sum_fits, sum_small, sum_step, sum_end, sum_some, sum_bound, sum_none}
+use Rattle.std.proofs.Common.{◌∙◌, get_or}
+use Rattle.tube_trace.proofs.HexTables.{sum_fits, sum_step, sum_end, sum_small_is, sum_none}
 use Rattle.tube_trace.proofs.hex.number.Goals as goal
-
-pub overflow_mul-number : goal.overflow_mul-number
-overflow_mul-number c =
-    let small : c.loop-b.number < 16 ^ 10 = sum_small c.loop-b.number c.loop-b.b-index c.loop-b.invariant.bound (omega arith) in omega arith
-
-pub overflow_add-number : goal.overflow_add-number
-overflow_add-number c =
-    let small : c.loop-b.number < 16 ^ 10 = sum_small c.loop-b.number c.loop-b.b-index c.loop-b.invariant.bound (omega arith) in omega arith
 
 pub loop-b-preserved : goal.loop-b-preserved
 loop-b-preserved c = record {
@@ -16,13 +8,11 @@ loop-b-preserved c = record {
   bound = rw c.value.ensures.value (sum_fits c.loop-b.number (get_or c.args.digits.now c.loop-b.b-index 0) c.loop-b.b-index c.loop-b.invariant.bound);
 }
 
-pub returns-then-number-lt-X-clause-value : goal.returns-then-number-lt-X-clause-value
-returns-then-number-lt-X-clause-value c =
-    sum_some c.args.digits.now c.loop-b.number (sum_end c.args.digits.now c.loop-b.number c.loop-b.b-index c.loop-b-test.false c.loop-b.invariant.so_far) c.if-number-lt-X.true
-
-pub returns-then-number-lt-X-clause-bound : goal.returns-then-number-lt-X-clause-bound
-returns-then-number-lt-X-clause-bound c =
-    sum_bound c.args.digits.now c.loop-b.number (sum_end c.args.digits.now c.loop-b.number c.loop-b.b-index c.loop-b-test.false c.loop-b.invariant.so_far) c.if-number-lt-X.true
+pub returns-then-number-lt-X : goal.returns-then-number-lt-X
+returns-then-number-lt-X c =
+    let end_ = sum_end c.args.digits.now c.loop-b.number c.loop-b.b-index c.loop-b-test.false c.loop-b.invariant.so_far in
+    let sum = sum_small_is c.args.digits.now c.loop-b.number end_ c.if-number-lt-X.true in
+    record { value = rw (sum.all, sum.is); bound = sum.bound }
 
 pub returns-else-number-lt-X-clause-value : goal.returns-else-number-lt-X-clause-value
 returns-else-number-lt-X-clause-value c =

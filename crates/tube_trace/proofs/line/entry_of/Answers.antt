@@ -14,5 +14,5 @@ returns-in_err-tick-clause-value c = c.from_residual.ensures ∙ no_numbers c.ar
 
 pub returns-clause-value : goal.returns-clause-value
 returns-clause-value c =
-    with_numbers c.args.line.now c.in_ok-tick.tick c.in_ok-tick.byte c.entry_from.result c.if-line-ne-LENGTH.false
+    with_numbers c.args.line.now c.if-line-ne-LENGTH.false
     (sym c.is_parted.ensures ∙ c.if-not-is_parted.false) c.in_ok-tick.ensures c.entry_from.ensures

@@ -7,6 +7,6 @@ loop-preserved c =
     let pushed : c.push.new.self.items ≡ c.loop.entries.items ++ c.in-Some.first ∷ [] = search rules in
     let low : length c.loop.entries.items < c.args.keep = omega arith in
     record {
-      so_far = rw pushed (merged_more c.args.host.now c.args.para.now c.args.keep c.loop.entries.items _ _ c.in-Some.first _ _ c.loop.invariant.so_far (sym c.in-Some.ensures) low);
+      so_far = rw pushed (merged_more c.loop.invariant.so_far (sym c.in-Some.ensures) low);
       count = rw pushed (omega (arith, length-append c.loop.entries.items (c.in-Some.first ∷ [])));
     }

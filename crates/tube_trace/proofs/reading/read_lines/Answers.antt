@@ -1,7 +1,6 @@
-use Rattle.std.proofs.Common.{rules, ◌≡◌, ◌∙◌, sym, inr, take, drop, min, Some, None, length, ◌<◌, [], ◌∷◌, ◌++◌}
+use Rattle.std.proofs.Common.{rules, ◌≡◌, ◌∙◌, sym, inr, min, length, ◌<◌, [], ◌∷◌, ◌++◌}
 use Rattle.std.proofs.lemmas.List.Elements.{All-push}
 use Rattle.tube_trace.specs.Entries.{IsEntry}
-use Rattle.tube_trace.specs.Line.{entry_of}
 use Rattle.tube_trace.specs.Trace.{lines_read}
 use Rattle.tube_trace.proofs.TextLemmas.{read_more, read_bad_line, read_bad_order, take_least, drop_least}
 use Rattle.tube_trace.proofs.reading.read_lines.Goals as goal
@@ -10,29 +9,26 @@ pub returns-in_default-entry_of-clause-value : goal.returns-in_default-entry_of-
 unfolding lines_read
 returns-in_default-entry_of-clause-value c =
     let least : c.min.result ≡ min (length c.loop-rest.rest.now) 20 = search rules in
-    let front : c.split_at.result.0.now ≡ take 20 c.loop-rest.rest.now = c.split_at.ensures.front ∙ rw least (take_least c.loop-rest.rest.now) in
-    let none : entry_of (take 20 c.loop-rest.rest.now) ≡ None = rw (← front) (sym c.in_default-entry_of.ensures.value) in
+    let front = take_least c.loop-rest.rest.now (rw least at c.split_at.ensures.front) in
     let lines : c.len.result ≡ length c.loop-rest.entries.items = search rules in
     let some : 0 < length c.loop-rest.rest.now = search rules in
-    inr (rw lines (read_bad_line _ _ _ _ c.loop-rest.invariant.so_far some none))
+    inr (rw lines (read_bad_line c.loop-rest.invariant.so_far some (rw (← front) (sym c.in_default-entry_of.ensures.value))))
 
 pub returns-then-not-follows-clause-value : goal.returns-then-not-follows-clause-value
 unfolding lines_read
 returns-then-not-follows-clause-value c =
     let least : c.min.result ≡ min (length c.loop-rest.rest.now) 20 = search rules in
-    let front : c.split_at.result.0.now ≡ take 20 c.loop-rest.rest.now = c.split_at.ensures.front ∙ rw least (take_least c.loop-rest.rest.now) in
-    let here : entry_of (take 20 c.loop-rest.rest.now) ≡ Some c.in-Some.entry = rw (← front) (sym c.in-Some.ensures.value) in
+    let front = take_least c.loop-rest.rest.now (rw least at c.split_at.ensures.front) in
     let lines : c.len.result ≡ length c.loop-rest.entries.items = search rules in
-    inr (rw lines (read_bad_order _ _ _ _ c.in-Some.entry c.loop-rest.invariant.so_far here (sym c.follows.ensures ∙ c.if-not-follows.true)))
+    inr (rw lines (read_bad_order c.loop-rest.invariant.so_far (rw (← front) (sym c.in-Some.ensures.value)) (sym c.follows.ensures ∙ c.if-not-follows.true)))
 
 pub loop-rest-preserved : goal.loop-rest-preserved
 loop-rest-preserved c =
     let least : c.min.result ≡ min (length c.loop-rest.rest.now) 20 = search rules in
-    let front : c.split_at.result.0.now ≡ take 20 c.loop-rest.rest.now = c.split_at.ensures.front ∙ rw least (take_least c.loop-rest.rest.now) in
-    let back : c.split_at.result.1.now ≡ drop 20 c.loop-rest.rest.now = c.split_at.ensures.back ∙ rw least (drop_least c.loop-rest.rest.now) in
-    let here : entry_of (take 20 c.loop-rest.rest.now) ≡ Some c.in-Some.entry = rw (← front) (sym c.in-Some.ensures.value) in
+    let front = take_least c.loop-rest.rest.now (rw least at c.split_at.ensures.front) in
+    let back = drop_least c.loop-rest.rest.now (rw least at c.split_at.ensures.back) in
     let pushed : c.push.new.self.items ≡ c.loop-rest.entries.items ++ c.in-Some.entry ∷ [] = search rules in
     record {
-      so_far = rw (pushed, back) (read_more _ _ _ _ c.in-Some.entry c.loop-rest.invariant.so_far here (sym c.follows.ensures ∙ c.if-not-follows.false));
+      so_far = rw (pushed, back) (read_more c.loop-rest.invariant.so_far (rw (← front) (sym c.in-Some.ensures.value)) (sym c.follows.ensures ∙ c.if-not-follows.false));
       entries = rw pushed (All-push IsEntry c.loop-rest.entries.items c.in-Some.entry c.loop-rest.invariant.entries c.in-Some.ensures.may);
     }

@@ -8,7 +8,7 @@ unfolding wrong
 returns-then-answer-entry c =
     let is : Some (c.loop-place.place, c.apply-answer.result) ≡ wrong c.args.entries.now =
     sym (c.loop-place.invariant ∙ wrong_here c.loop-place.chip c.args.entries.now _ _ _ c.loop-place-test.true c.apply-answer.ensures.answer c.if-answer-entry.true) in
-    record { value = is; none = none_iff c.args.entries.now _ is; first = first_wrong_is c.args.entries.now _ is }
+    record { value = is; none = none_iff c.args.entries.now is; first = first_wrong_is c.args.entries.now is }
 
 pub loop-place-preserved : goal.loop-place-preserved
 loop-place-preserved c =
@@ -19,4 +19,4 @@ pub returns : goal.returns
 unfolding wrong
 returns c =
     let is : None ≡ wrong c.args.entries.now = sym (c.loop-place.invariant ∙ wrong_past c.loop-place.chip c.args.entries.now c.loop-place.place c.loop-place-test.false) in
-    record { value = is; none = none_iff c.args.entries.now _ is; first = first_wrong_is c.args.entries.now _ is }
+    record { value = is; none = none_iff c.args.entries.now is; first = first_wrong_is c.args.entries.now is }
