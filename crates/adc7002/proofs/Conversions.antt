@@ -1,12 +1,13 @@
 -- A conversion from its write to its end.
 use Rattle.std.proofs.Common.{◌≡◌, ◌∙◌, ap, refl, ℕ, ◌+◌, ◌-◌, ◌*◌, ◌/◌, ◌%◌, ◌<◌, ◌==◌, Bool, true, false, List, length, slice_index, arith}
 use Rattle.std.specs.Prelude.{bit_and, if◌then◌else◌}
+use Rattle.std.proofs.lemmas.Bool.{ne_eqb}
 use Rattle.std.proofs.lemmas.Nat.Bits.{and_high_mask}
 use Rattle.adc7002.specs.State.{State}
 use Rattle.adc7002.specs.Registers.{channel, has_12_bits, duration, write_leaves}
 use Rattle.adc7002.specs.Step.{low_byte, end_leaves, step, after_steps}
 use Rattle.adc7002.specs.Laws.{rounded_level, ShowsTheLevel, ShowsTheEarlier, EndsInTime, GoesOnUntilThen, GivenUpLeavesNothing}
-use Rattle.adc7002.proofs.Runs.{test_false, step_last, after_at_rest, after_inside}
+use Rattle.adc7002.proofs.Runs.{step_last, after_at_rest, after_inside}
 
 -- the converter n steps before the end of a conversion that v began
 waiting : ℕ → ℕ → State → State
@@ -58,7 +59,7 @@ ends a v before levels after all small =
 goes_on_by : (a b : State) (v n : ℕ) → 0 < n → b ≡ waiting v n a → ShowsTheEarlier v a b
 unfolding waiting
 goes_on_by a b v n some is =
-    rw is (record { status = rw (test_false n 0 (λ e. omega (arith, e))) refl; high = refl; low = refl; line = refl })
+    rw is (record { status = rw (ne_eqb n 0 (λ e. omega (arith, e))) refl; high = refl; low = refl; line = refl })
 
 pub goes_on : GoesOnUntilThen
 goes_on a v before early =

@@ -1,27 +1,20 @@
 -- Steps one after the other, up to the end of a conversion and past it.
-use Rattle.std.proofs.Common.{◌≡◌, ◌≢◌, ◌∙◌, ap, refl, ℕ, zero, suc, ◌+◌, ◌-◌, ◌<◌, ◌≤◌, ◌==◌, true, false, List, [], ◌∷◌, length, slice_index, arith, inl, inr}
-use Rattle.std.proofs.lemmas.Bool.{cases_eq}
-use Rattle.std.proofs.lemmas.Bool.Decides.{nat_tests}
+use Rattle.std.proofs.Common.{◌≡◌, ◌∙◌, ap, refl, ℕ, zero, suc, ◌+◌, ◌-◌, ◌<◌, ◌≤◌, List, [], ◌∷◌, length, slice_index, arith, inl, inr}
+use Rattle.std.proofs.lemmas.Bool.{cases_eq, eq-eqb, ne_eqb}
 use Rattle.adc7002.specs.State.{State}
 use Rattle.adc7002.specs.Registers.{channel, cb1}
 use Rattle.adc7002.specs.Step.{end_leaves, step, after_steps, steps}
 use Rattle.adc7002.specs.Calm.{KeepsItsLine}
 
-test_true : (a b : ℕ) → a ≡ b → (a == b) ≡ true
-test_true a b h = grind (arith, nat_tests)
-
-pub test_false : (a b : ℕ) → a ≢ b → (a == b) ≡ false
-test_false a b h = grind (arith, nat_tests)
-
 -- a step at which no conversion is going on, one inside a conversion, and its last
 step_at_rest : (levels : List ℕ) (a : State) → a.left ≡ 0 → step levels a ≡ a
-step_at_rest levels a none = rw (test_true a.left 0 none) refl
+step_at_rest levels a none = rw (eq-eqb a.left 0 none) refl
 
 step_inside : (levels : List ℕ) (a : State) → 1 < a.left → step levels a ≡ record a { left = a.left - 1 }
-step_inside levels a more = rw (test_false a.left 0 (λ e. omega (arith, e)), test_false a.left 1 (λ e. omega (arith, e))) refl
+step_inside levels a more = rw (ne_eqb a.left 0 (λ e. omega (arith, e)), ne_eqb a.left 1 (λ e. omega (arith, e))) refl
 
 pub step_last : (levels : List ℕ) (a : State) → a.left ≡ 1 → step levels a ≡ end_leaves (slice_index levels (channel a.kept)) a
-step_last levels a last = rw (test_false a.left 0 (λ e. omega (arith, e)), test_true a.left 1 last) refl
+step_last levels a last = rw (ne_eqb a.left 0 (λ e. omega (arith, e)), eq-eqb a.left 1 last) refl
 
 -- the converter with so many steps left
 with_left : ℕ → State → State

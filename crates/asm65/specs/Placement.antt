@@ -12,7 +12,8 @@ use Rattle.op_table.specs.Forms.{find_form}
 use Rattle.op_table.specs.Rows.{bytes_of}
 use Rattle.asm65.specs.declared.AsmError.{AsmError}
 use Rattle.asm65.specs.declared.AsmError.TheVariants.{Syntax, NoSuchForm, Repeated, OutOfRange, TooLong}
-use Rattle.asm_lines.specs.Syntax.{Base, number, label, beyond, Portion, whole, low_byte, high_byte, Value, Operand, nothing, accumulator, immediate, direct, direct_x, direct_y, indirect, indirect_x, indirect_y, Statement, instruction, org, bytes, words, Line}
+use Rattle.asm_lines.specs.Syntax.{Base, number, label, beyond, Portion, whole, low_byte, high_byte, Value, Operand, nothing, accumulator}
+use Rattle.asm_lines.specs.Syntax.{immediate, direct, direct_x, direct_y, indirect, indirect_x, indirect_y, Statement, instruction, org, bytes, words, Line}
 
 abbrev pub is_byte_base : Base → Bool
 is_byte_base (number n) = n.byte_sized

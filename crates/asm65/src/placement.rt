@@ -1,7 +1,8 @@
 //! Where the lines lie: which form of its mnemonic an instruction takes, and the address of each line.
 ghost use Rattle.std.specs.Prelude.{◌≡◌, ◌+◌, ◌-◌, ◌^◌, ◌≤◌, ◌<◌, nat_lt, false, None, option_map, option_to_list, length};
 ghost use Rattle.std.specs.List.{list_any};
-ghost use Rattle.asm65.specs.Placement.{is_byte_base, is_byte, has_form, if_formed, shorter, mode_in_parentheses, mode_of, size_of, after_statement, base_numbers, values_numbers, statement_numbers, formless, is_past, is_long, or_else, operand_values};
+ghost use Rattle.asm65.specs.Placement.{is_byte_base, is_byte, has_form, if_formed, shorter, mode_in_parentheses, mode_of, size_of};
+ghost use Rattle.asm65.specs.Placement.{after_statement, base_numbers, values_numbers, statement_numbers, formless, is_past, is_long, or_else, operand_values};
 ghost use Rattle.asm65.specs.declared.AsmError.TheVariants.{OutOfRange, TooLong};
 ghost use Rattle.asm_lines.specs.Code.{seen_base, seen_value, seen_list, seen_operand, seen_statement};
 
@@ -213,7 +214,7 @@ fn has_large_number(value: &Value<'_>) -> bool
     }
 }
 
-#[tactic(auto, using(crate::proofs::PlacementLemmas::any_number_of))]
+#[tactic(auto, using(crate::proofs::PlacementLemmas::number_steps))]
 fn operand_has_large_number(operand: &Operand<'_>) -> bool
     ensures { result ≡ list_any (λ n. nat_lt 65535 n) (values_numbers (operand_values (seen_operand operand.now))) }
 {
@@ -223,7 +224,7 @@ fn operand_has_large_number(operand: &Operand<'_>) -> bool
     }
 }
 
-#[tactic(auto, using(crate::proofs::PlacementLemmas::any_number_more))]
+#[tactic(auto, using(crate::proofs::PlacementLemmas::number_steps))]
 fn any_large_number(values: ValueList<'_>) -> bool
     ensures { result ≡ list_any (λ n. nat_lt 65535 n) (values_numbers (seen_list values.entry)) }
 {

@@ -1,18 +1,17 @@
 -- The bytes that the assembler makes of a disassembly are those that it was made of.
-use Rattle.std.proofs.Common.{◌≡◌, ℕ, zero, suc, ◌+◌, ◌≤◌, ◌<◌, List, [], ◌∷◌, ◌++◌, length, take, drop, map, refl, ap, ◌∙◌, Option, None, Ok, false, zero-le, arith}
-use Rattle.std.specs.Prelude.{slice_index}
+use Rattle.std.proofs.Common.{◌≡◌, ℕ, zero, suc, ◌+◌, ◌≤◌, ◌<◌, List, [], ◌∷◌, ◌++◌, length, take, drop, map, refl, ap, ◌∙◌, Option, None, Ok, zero-le, arith}
 use Rattle.std.specs.List.{concat}
-use Rattle.std.proofs.lemmas.List.Elements.{All-from_get_or}
 use Rattle.std.proofs.lemmas.List.{take-append-drop, length-take-le}
 use Rattle.op_table.specs.declared.Part.{Part}
 use Rattle.op_table.specs.Forms.{forms, form_at}
-use Rattle.asm_lines.specs.Syntax.{Line, Statement, org}
+use Rattle.asm_lines.specs.Syntax.{Line, Statement, parsed_text}
 use Rattle.asm65.specs.Placement.{Placed, placed_from, placement, origin_of, after_line, first_pass}
 use Rattle.asm65.specs.Source.{Labels, labels_of, second_pass, line_bytes, program_of, source}
 use Rattle.dis65.specs.Listing.{form_here, bytes_behind, decode}
 use Rattle.dis65.specs.Meaning.{DecodeMeansItsBytes}
-use Rattle.dis65.proofs.ParsedLemmas.{AreBytes, bytes_tail, bytes_head, unlabelled, statement_at, listed, parsed_decode}
-use Rattle.dis65.proofs.PlacedLemmas.{IsSound, org_is_sound, line_is_sound, passed_fits}
+use Rattle.dis65.proofs.LineLemmas.{passed_fits}
+use Rattle.dis65.proofs.ReadLemmas.{AreBytes, are_bytes, unlabelled, listed, parsed_decode}
+use Rattle.dis65.proofs.PlacedLemmas.{IsSound, org_is_sound, line_is_sound}
 
 -- neither pass has anything against placed lines, which make these bytes
 record AreSound (part : Part) (placed : List Placed) (made : List ℕ) : Type 0 where
@@ -44,22 +43,19 @@ listed_sound part at zero [] all h fits = none_sound part
 listed_sound part at (suc skip) [] all h fits = none_sound part
 listed_sound part at (suc skip) (b ∷ xs) all h fits =
     let place : at + suc skip ≡ (at + 1) + skip = omega arith in
-    rw place (listed_sound part (at + 1) skip xs (bytes_tail b xs all) (omega arith) (omega arith))
+    rw place (listed_sound part (at + 1) skip xs (λ k. all (suc k)) (omega arith) (omega arith))
 listed_sound part at zero (op ∷ xs) all h fits =
     let n = bytes_behind (form_here part op xs) in
     let within : n ≤ length xs = passed_fits (length xs) (form_at (forms part) op) in
-    let tail = bytes_tail op xs all in
-    let here = line_is_sound part at op xs (bytes_head op xs all) tail (omega arith) in
+    let tail = λ (k : ℕ). all (suc k) in
+    let here = line_is_sound part at op xs (all 0) tail (omega arith) in
     let rest = listed_sound part (at + 1) n xs tail within (omega arith) in
     let taken = length-take-le n xs within in
     let place : (at + 1) + n ≡ at + length (op ∷ take n xs) = omega arith in
-    let behind = listed part (at + 1) n xs in
-    let s = statement_at at op xs (form_here part op xs) in
-    let all_lines =
-    more_sound part at s (op ∷ take n xs) (drop n xs) behind here (rw (← place) rest) in
+    let lines = more_sound part at _ _ (drop n xs) (listed part (at + 1) n xs) here (rw (← place) rest) in
     let made : (op ∷ take n xs) ++ drop n xs ≡ op ∷ xs = ap (λ l. op ∷ l) (take-append-drop n xs) in
     let begin : at ≡ at + 0 = omega arith in
-    rw (← begin, ← made) all_lines
+    rw (← begin, ← made) lines
 
 -- what such lines mean
 program_sound : (part : Part) (origin : ℕ) (placed : List Placed) (made : List ℕ) → AreSound part placed made
@@ -68,19 +64,15 @@ program_sound part origin placed made s =
     let labels = labels_of placed in
     rw (s.first 1 [], s.second 1 labels, s.makes labels) refl
 
--- the law
-pub decode_means : DecodeMeansItsBytes
-unfolding source
-decode_means part origin xs h all fits =
-    let read = parsed_decode part origin xs h all in
-    let behind = listed part origin 0 xs in
-    let rest = listed_sound part origin 0 xs all zero-le fits in
-    let lines = more_sound part origin (org (record { value = origin; byte_sized = false })) [] xs behind (org_is_sound part origin h) rest in
-    ap (λ ls. program_of part (origin_of ls) (placement part ls)) read ∙ program_sound part origin _ xs lines
-
--- and at a text that was written
+-- the law, where each byte is one by its place
 pub text_means : (part : Part) (origin : ℕ) (xs text : List ℕ) → text ≡ decode part xs origin → origin < 65536
-    → ((k : ℕ) → slice_index xs k < 256) → origin + length xs ≤ 65536 → source part text ≡ Ok (origin, xs)
+    → AreBytes xs → origin + length xs ≤ 65536 → source part text ≡ Ok (origin, xs)
+unfolding source
 text_means part origin xs text e h all fits =
-    ap (source part) e
-    ∙ decode_means part origin xs h (All-from_get_or (λ b. b < 256) xs 0 (λ k within. all k)) fits
+    let rest = listed_sound part origin 0 xs all zero-le fits in
+    let lines = more_sound part origin _ [] xs (listed part origin 0 xs) (org_is_sound part origin h) rest in
+    ap (λ ls. program_of part (origin_of ls) (placement part ls)) (ap parsed_text e ∙ parsed_decode part origin xs h all)
+    ∙ program_sound part origin _ xs lines
+
+pub decode_means : DecodeMeansItsBytes
+decode_means part origin xs h all = text_means part origin xs _ refl h (are_bytes xs all)

@@ -1,10 +1,5 @@
-pub mod FormLemmas
 pub mod LineLemmas
-pub mod ModeLemmas
-pub mod BranchLemmas
-pub mod DigitLemmas
-pub mod TokenLemmas
-pub mod ParsedLemmas
+pub mod ReadLemmas
 pub mod PlacedLemmas
 pub mod LawLemmas
 pub mod Examples

@@ -48,6 +48,7 @@ fn push_operand(
 }
 
 // The row of an opcode, if it is documented for the part and as many bytes are available, its own included, as the instruction takes.
+#[tactic(auto, using(crate::proofs::LineLemmas::row_whole))]
 fn whole(part: Part, op: u8, available: usize) -> Option<Row>
     ensures { result ≡ option_map (row_of part) (if_whole available (form_at (forms part) op)) }
 {

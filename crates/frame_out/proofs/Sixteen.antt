@@ -1,14 +1,14 @@
 -- The samples of sixteen colours at once.
-use Rattle.std.proofs.Common.{◌≡◌, ◌∙◌, sym, ap, refl, ℕ, ◌+◌, ◌*◌, ◌<◌, ◌≤◌, ◌==◌, List, [], ◌∷◌, ◌++◌, length, map, take, drop, replicate, append_assoc, bit_and, w8, Fits, arith}
+use Rattle.std.proofs.Common.{◌≡◌, ◌∙◌, ap, refl, ℕ, ◌+◌, ◌*◌, ◌<◌, ◌≤◌, ◌==◌, List, [], ◌∷◌, ◌++◌, length, take, drop, replicate, append_assoc, bit_and, w8, Fits, arith}
 use Rattle.std.specs.Prelude.{flat_map, if◌then◌else◌}
 use Rattle.std.specs.List.{range_with_len}
-use Rattle.std.specs.Simd.Lanes.{zip2, sel_l, pick_l, chunk, Each1}
+use Rattle.std.specs.Simd.Lanes.{zip2, sel_l, pick_l, Each1}
 use Rattle.std.proofs.lemmas.Simd.{pick_l_left, pick_l_whole}
 use Rattle.std.proofs.lemmas.Bool.{agree_below_at}
 use Rattle.std.proofs.lemmas.List.{take-append-drop, take-take, drop-drop, drop-take}
 use Rattle.std.proofs.lemmas.Grind.{flat_map-append}
 use Rattle.beeb_bits.specs.Bits.{bit}
-use Rattle.frame_out.specs.Pixmap.{sample, pixel}
+use Rattle.frame_out.specs.Pixmap.{pixel}
 
 -- a sample by the bit itself
 abbrev lit : ℕ → ℕ → ℕ
@@ -57,70 +57,41 @@ last_places = 10 ∷ 11 ∷ 11 ∷ 11 ∷ 12 ∷ 12 ∷ 12 ∷ 13 ∷ 13 ∷ 13 
 abbrev last_bits : List ℕ
 last_bits = 4 ∷ 1 ∷ 2 ∷ 4 ∷ 1 ∷ 2 ∷ 4 ∷ 1 ∷ 2 ∷ 4 ∷ 1 ∷ 2 ∷ 4 ∷ 1 ∷ 2 ∷ 4 ∷ []
 
--- the first sixteen samples
-pub first_are : (v : List ℕ) → length v ≡ 16 → Each1 (Fits w8) v →
-    picked (pick_l 0 (v ++ v) first_places) first_bits
-    ≡ take 16 (flat_map pixel v)
-first_are v long fits =
-    let left = pick_l_left 0 v v 16 first_places long tt in
-    let each : picked (pick_l 0 v first_places) first_bits
-    ≡ take 16 (listed v) = refl in
-    ap (λ (ds : List ℕ). picked ds first_bits) left ∙ each
-    ∙ ap (λ (ds : List ℕ). take 16 (ds)) (listed_are v long fits)
+module _ (v : List ℕ) (long : length v ≡ 16) (fits : Each1 (Fits w8) v) where
+  -- a part of the samples, of which colours each is and which bit of it
+  part_is : (part : List ℕ → List ℕ) (places bits : List ℕ) → pick_l 0 (v ++ v) places ≡ pick_l 0 v places → picked (pick_l 0 v places) bits ≡ part (listed v)
+      → picked (pick_l 0 (v ++ v) places) bits ≡ part (flat_map pixel v)
+  part_is part places bits left each = ap (λ (ds : List ℕ). picked ds bits) left ∙ each ∙ ap part (listed_are v long fits)
 
--- the next sixteen samples
-pub next_are : (v : List ℕ) → length v ≡ 16 → Each1 (Fits w8) v →
-    picked (pick_l 0 (v ++ v) next_places) next_bits
-    ≡ take 16 (drop 16 (flat_map pixel v))
-next_are v long fits =
-    let left = pick_l_left 0 v v 16 next_places long tt in
-    let each : picked (pick_l 0 v next_places) next_bits
-    ≡ take 16 (drop 16 (listed v)) = refl in
-    ap (λ (ds : List ℕ). picked ds next_bits) left ∙ each
-    ∙ ap (λ (ds : List ℕ). take 16 (drop 16 (ds))) (listed_are v long fits)
+  -- the first sixteen samples, the next and the last
+  pub first_are : picked (pick_l 0 (v ++ v) first_places) first_bits ≡ take 16 (flat_map pixel v)
+  first_are = part_is (take 16) first_places first_bits (pick_l_left 0 v v 16 first_places long tt) refl
 
--- the last sixteen samples
-pub last_are : (v : List ℕ) → length v ≡ 16 → Each1 (Fits w8) v →
-    picked (pick_l 0 (v ++ v) last_places) last_bits
-    ≡ drop 32 (flat_map pixel v)
-last_are v long fits =
-    let left = pick_l_left 0 v v 16 last_places long tt in
-    let each : picked (pick_l 0 v last_places) last_bits
-    ≡ drop 32 (listed v) = refl in
-    ap (λ (ds : List ℕ). picked ds last_bits) left ∙ each
-    ∙ ap (λ (ds : List ℕ). drop 32 (ds)) (listed_are v long fits)
+  pub next_are : picked (pick_l 0 (v ++ v) next_places) next_bits ≡ take 16 (drop 16 (flat_map pixel v))
+  next_are = part_is (λ ds. take 16 (drop 16 ds)) next_places next_bits (pick_l_left 0 v v 16 next_places long tt) refl
+
+  pub last_are : picked (pick_l 0 (v ++ v) last_places) last_bits ≡ drop 32 (flat_map pixel v)
+  last_are = part_is (drop 32) last_places last_bits (pick_l_left 0 v v 16 last_places long tt) refl
 
 -- all three
-pub thirds : (xs : List ℕ) → take 16 xs ++ (take 16 (drop 16 xs) ++ drop 32 xs) ≡ xs
-thirds xs =
-    let rest : drop 16 (drop 16 xs) ≡ drop 32 xs = drop-drop 16 16 xs in
-    ap (λ (ys : List ℕ). take 16 xs ++ (take 16 (drop 16 xs) ++ ys)) (sym rest)
-    ∙ ap (λ (ys : List ℕ). take 16 xs ++ ys) (take-append-drop 16 (drop 16 xs)) ∙ take-append-drop 16 xs
+thirds : (xs : List ℕ) → take 16 xs ++ (take 16 (drop 16 xs) ++ drop 32 xs) ≡ xs
+thirds xs = rw (← drop-drop 16 16 xs, take-append-drop 16 (drop 16 xs)) (take-append-drop 16 xs)
 
 pub added : (old first next last one two three all : List ℕ) → one ≡ old ++ first → two ≡ one ++ next → three ≡ two ++ last → first ≡ take 16 all → next ≡ take 16 (drop 16 all) →
     last ≡ drop 32 all → three ≡ old ++ all
 added old first next last one two three all a b c d e f =
-    c ∙ ap (λ (xs : List ℕ). xs ++ last) (b ∙ ap (λ (xs : List ℕ). xs ++ next) a)
-    ∙ append_assoc (old ++ first) next last ∙ append_assoc old first (next ++ last)
-    ∙ ap (λ (xs : List ℕ). old ++ (xs ++ (next ++ last))) d
-    ∙ ap (λ (xs : List ℕ). old ++ (take 16 all ++ (xs ++ last))) e
-    ∙ ap (λ (xs : List ℕ). old ++ (take 16 all ++ (take 16 (drop 16 all) ++ xs))) f
-    ∙ ap (λ (xs : List ℕ). old ++ xs) (thirds all)
+    rw (c, b, a, append_assoc (old ++ first) next last, append_assoc old first (next ++ last), d, e, f) (ap (λ (xs : List ℕ). old ++ xs) (thirds all))
 
 take_sum : (n m : ℕ) (xs : List ℕ) → take (n + m) xs ≡ take n xs ++ take m (drop n xs)
 take_sum n m xs =
     let low : n ≤ n + m = omega arith in
-    sym (take-append-drop n (take (n + m) xs)) ∙ ap (λ (ys : List ℕ). ys ++ drop n (take (n + m) xs)) (take-take n (n + m) xs low)
-    ∙ ap (λ (ys : List ℕ). take n xs ++ ys) (drop-take n m xs)
+    rw (← take-append-drop n (take (n + m) xs), take-take n (n + m) xs low, drop-take n m xs)
 
 -- sixteen colours more
 pub sixteen_more : (front xs old new : List ℕ) (i : ℕ) → old ≡ front ++ flat_map pixel (take (16 * i) xs) → new ≡ old ++ flat_map pixel (take 16 (drop (16 * i) xs)) →
     new ≡ front ++ flat_map pixel (take (16 * (i + 1)) xs)
 sixteen_more front xs old new i so is =
-    let next : 16 * i + 16 ≡ 16 * (i + 1) = omega arith in
-    let parts : take (16 * i + 16) xs ≡ take (16 * i) xs ++ take 16 (drop (16 * i) xs) = take_sum (16 * i) 16 xs in
-    is ∙ ap (λ (ps : List ℕ). ps ++ flat_map pixel (take 16 (drop (16 * i) xs))) so
-    ∙ append_assoc front (flat_map pixel (take (16 * i) xs)) (flat_map pixel (take 16 (drop (16 * i) xs)))
-    ∙ ap (λ (ps : List ℕ). front ++ ps) (sym (flat_map-append pixel (take (16 * i) xs) (take 16 (drop (16 * i) xs))))
-    ∙ ap (λ (ys : List ℕ). front ++ flat_map pixel ys) (sym parts)
-    ∙ ap (λ k. front ++ flat_map pixel (take k xs)) next
+    let next : 16 * (i + 1) ≡ 16 * i + 16 = omega arith in
+    let here = take (16 * i) xs in
+    let more = take 16 (drop (16 * i) xs) in
+    rw (next, take_sum (16 * i) 16 xs, flat_map-append pixel here more, is, so, append_assoc front (flat_map pixel here) (flat_map pixel more))

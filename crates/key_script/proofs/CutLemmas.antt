@@ -1,13 +1,13 @@
 -- Words, cut at the first space.
-use Rattle.std.proofs.Common.{◌≡◌, ◌≢◌, ◌∙◌, refl, ap, ℕ, suc, ◌<◌, ◌==◌, true, false, List, [], ◌∷◌, ◌++◌, length, All, map, Option, Some, None, arith}
+use Rattle.std.proofs.Common.{◌≡◌, ◌≢◌, ◌∙◌, refl, ap, ℕ, suc, ◌==◌, false, List, [], ◌∷◌, ◌++◌, All, Option, Some, None, inl, inr, arith}
 use Rattle.std.specs.Prelude.{MatchOption, IfSome}
 use Rattle.std.specs.Borrow.{Bor}
-use Rattle.std.proofs.lemmas.Bool.Decides.{nat_tests}
+use Rattle.std.proofs.lemmas.Bool.{cases_Bool, ne_eqb}
 use Rattle.key_script.specs.Words.{words_of}
 use Rattle.key_script.specs.Line.{what_of}
 
 other : (b : ℕ) (bytes : List ℕ) → All (λ x. x ≢ 32) (b ∷ bytes) → (b == 32) ≡ false
-other b bytes all = let h : b ≢ 32 = all 0 b (omega arith) in grind (arith, nat_tests)
+other b bytes all = ne_eqb b 32 (all 0 b (omega arith))
 
 others : (b : ℕ) (bytes : List ℕ) → All (λ x. x ≢ 32) (b ∷ bytes) → All (λ x. x ≢ 32) bytes
 others b bytes all = λ k d h. all (suc k) d (omega arith)
@@ -26,16 +26,14 @@ record HasWord (line : List ℕ) : Type 0 where
   pub more : List (List ℕ)
   pub words : words_of line ≡ first ∷ more
 
-has_word_behind : (b : ℕ) (line : List ℕ) → HasWord line → HasWord (b ∷ line)
-has_word_behind b line has =
-    elim (b == 32) as (λ t. (b == 32) ≡ t → HasWord (b ∷ line)) [
-      | true ↦ λ e. record { first = []; more = words_of line; words = rw e refl }
-      | false ↦ λ e. record { first = b ∷ has.first; more = has.more; words = rw (e, has.words) refl }
-    ] refl
-
 has_word : (line : List ℕ) → HasWord line
 has_word [] = record { first = []; more = []; words = refl }
-has_word (b ∷ line) = has_word_behind b line (has_word line)
+has_word (b ∷ line) =
+    let has = has_word line in
+    elim (cases_Bool (b == 32)) [
+      | inl e ↦ record { first = []; more = words_of line; words = rw e }
+      | inr e ↦ record { first = b ∷ has.first; more = has.more; words = rw (e, has.words) }
+    ]
 
 -- four words behind the tick say nothing
 pub too_many_words : (word second third fourth rest words : List ℕ) → words_of words ≡ second ∷ words_of rest → words_of rest ≡ third ∷ words_of fourth → None ≡ what_of (word ∷ words_of words)

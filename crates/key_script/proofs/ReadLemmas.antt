@@ -1,6 +1,7 @@
 -- Events pushed one by one, and the rules that they keep.
-use Rattle.std.proofs.Common.{◌≡◌, ◌≢◌, ◌∙◌, sym, refl, ap, ℕ, ◌+◌, ◌<◌, ◌≤◌, ◌==◌, ◌&&◌, Bool, true, false, List, [], ◌∷◌, ◌++◌, length, length-append, zero-add, Some, None, Ok, Err, nat_lt, cond, arith}
-use Rattle.std.proofs.lemmas.Bool.Decides.{nat_tests}
+use Rattle.std.proofs.Common.{◌≡◌, ◌≢◌, ◌∙◌, sym, refl, ap, ℕ, ◌+◌, ◌<◌, ◌≤◌, ◌==◌, ◌&&◌, Bool, true, false, List}
+use Rattle.std.proofs.Common.{[], ◌∷◌, ◌++◌, length, length-append, zero-add, Some, None, Ok, Err, nat_lt, cond, if◌then◌else◌, inl, inr, arith}
+use Rattle.std.proofs.lemmas.Bool.{cases_Bool, ltb-false}
 use Rattle.std.proofs.lemmas.List.Elements.{All-push}
 use Rattle.std.proofs.lemmas.List.Sums.{sum_by-append}
 use Rattle.key_script.specs.declared.Event.{Event}
@@ -24,28 +25,17 @@ pub record ReadSoFar (text : List ℕ) (events : List Event) (last taken : ℕ) 
   pub rules : IsScript events
   pub size : length events + length rest ≤ length text
 
-falls : (line last taken : ℕ) (e : Event) → nat_lt (tick_of e) last ≡ true → fault line last taken e ≡ None → ⊥
-falls line last taken e h none = let no : Some (BadOrder line) ≡ None = rw h at none in cc
-
 -- what goes with the events before it does not fall, and is no shot too many
-fits_order : (line last taken : ℕ) (e : Event) → fault line last taken e ≡ None → last ≤ tick_of e
-fits_order line last taken e none =
-    elim (nat_lt (tick_of e) last) as (λ t. nat_lt (tick_of e) last ≡ t → last ≤ tick_of e) [
-      | true ↦ λ h. absurd (falls line last taken e h none)
-      | false ↦ λ h. grind (arith, nat_tests)
-    ] refl
-
-too_many : (line last taken : ℕ) (e : Event) → (is_shot e && taken == 256) ≡ true → last ≤ tick_of e → fault line last taken e ≡ None → ⊥
-too_many line last taken e h order none =
-    let holds : nat_lt (tick_of e) last ≡ false = grind (arith, nat_tests) in
-    let no : Some (TooManyShots line) ≡ None = rw (holds, h) at none in cc
-
-fits_shots : (line last taken : ℕ) (e : Event) → fault line last taken e ≡ None → (is_shot e && taken == 256) ≡ false
-fits_shots line last taken e none =
-    elim (is_shot e && taken == 256) as (λ t. (is_shot e && taken == 256) ≡ t → t ≡ false) [
-      | true ↦ λ h. absurd (too_many line last taken e h (fits_order line last taken e none) none)
-      | false ↦ λ h. refl
-    ] refl
+goes : (line tick last : ℕ) (many : Bool) → (if nat_lt tick last then Some (BadOrder line) else if many then Some (TooManyShots line) else None) ≡ None
+    → (last ≤ tick) × (many ≡ false)
+goes line tick last many e = elim (cases_Bool (nat_lt tick last)) [
+  | inl is ↦ let no : Some (BadOrder line) ≡ None = rw is at e in cc
+  | inr is ↦ (ltb-false tick last is, by_shots many (rw is at e))
+]
+  where
+    by_shots : (many : Bool) → (if many then Some (TooManyShots line) else None) ≡ None → many ≡ false
+    by_shots true e = cc
+    by_shots false e = refl
 
 -- one shot more, if the event is one
 counted : (taken more : ℕ) (shot : Bool) → more ≡ cond shot 1 0 → taken ≤ 256 → (shot && taken == 256) ≡ false → taken + more ≤ 256
@@ -67,8 +57,9 @@ read_more text events last taken more rest others e so_far next event shorter cl
     let few : taken ≤ 256 = rw taken_is so_far.rules.few in
     let step : events_behind events (events_of rest) ≡ events_behind (events ++ e ∷ []) (events_of others) = rw (next, ← last_is, ← taken_is, clear) refl in
     let behind : taken + more ≡ shots (events ++ e ∷ []) = rw (shots_behind events e, counts, taken_is) refl in
-    let order : last_tick_from 0 events ≤ tick_of e = rw (← last_is) (fits_order (length events + 1) last taken e clear) in
-    let fits : taken + more ≤ 256 = counted taken more (is_shot e) counts few (fits_shots (length events + 1) last taken e clear) in
+    let well = goes (length events + 1) (tick_of e) last (is_shot e && taken == 256) clear in
+    let order : last_tick_from 0 events ≤ tick_of e = rw (← last_is) well.0 in
+    let fits : taken + more ≤ 256 = counted taken more (is_shot e) counts few well.1 in
     record {
       whole = so_far.whole ∙ step;
       last_is = sym (last_behind 0 events e);

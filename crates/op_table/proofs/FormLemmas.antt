@@ -1,7 +1,8 @@
 -- The forms of a part and the rows of its opcodes lead to one another.
-use Rattle.std.proofs.Common.{◌≡◌, ℕ, ◌<◌, ◌↔◌, List, [], ◌∷◌, refl, ap, sym, subst, ◌∙◌, Option, Some, None, Bool, true, false, eqb, ltb, ◌&&◌, MatchOption, IsSome, Any, eqb-true, is_some, eq-eqb, ◌==◌, not, option_map, find, filter, IfSome}
+use Rattle.std.proofs.Common.{◌≡◌, ℕ, ◌<◌, ◌↔◌, List, [], ◌∷◌, refl, ap, sym, ◌∙◌, Option, Some, None, Bool, true, false}
+use Rattle.std.proofs.Common.{eqb, ltb, ◌&&◌, MatchOption, IsSome, Any, eqb-true, is_some, eq-eqb, ◌==◌, not, option_map, find, filter, IfSome, inl, inr}
 use Rattle.std.specs.List.{list_all, list_any}
-use Rattle.std.proofs.lemmas.Bool.{agree_below_at, ltb-true}
+use Rattle.std.proofs.lemmas.Bool.{agree_below_at, ltb-true, and_parts, cases_Bool}
 use Rattle.std.proofs.lemmas.List.Folds.{Any-from_list_any, list_any-from_Any}
 use denote.Enum.Bare.{same_true}
 use Rattle.op_table.specs.contracts.names.Mnemonic.{the_type as mnemonics}
@@ -13,7 +14,6 @@ use Rattle.op_table.specs.declared.names.Mode.{Mode}
 use Rattle.op_table.specs.declared.names.Mode.TheVariants.{Spare}
 use Rattle.op_table.specs.declared.rows.Row.{Row}
 use Rattle.op_table.specs.Names.{same_mnemonic, same_mode}
-use Rattle.op_table.proofs.RowTables.{both}
 use Rattle.op_table.specs.Forms.{Form, forms, IsDocumented, form_at, find_form}
 use Rattle.op_table.specs.Rows.{nmos_row, cmos_row, row_of, row_or_spare, unless_spare, documented_row, Names}
 
@@ -41,13 +41,13 @@ row_fits : (name : Mnemonic) (way : Mode) (o : Option Row)
     → same_row name way o ≡ true → MatchOption o ⊥ (Fits name way)
 row_fits name way None e = cc
 row_fits name way (Some r) e =
-    let parts = both (same_mnemonic r.mnemonic name) (same_mode r.mode way) e in
+    let parts = and_parts (same_mnemonic r.mnemonic name) (same_mode r.mode way) e in
     (same_true mnemonics tt r.mnemonic name parts.0, same_true modes tt r.mode way parts.1)
 
 -- a form with such a row is named by it
 Names-form : (part : Part) (f : Form) → has_row part f ≡ true → Names part f.mnemonic f.mode f.opcode
 Names-form part f e =
-    let parts = both (ltb f.opcode 256) (same_row f.mnemonic f.mode (documented_row part f.opcode)) e in
+    let parts = and_parts (ltb f.opcode 256) (same_row f.mnemonic f.mode (documented_row part f.opcode)) e in
     (ltb-true f.opcode 256 parts.0, row_fits f.mnemonic f.mode (documented_row part f.opcode) parts.1)
 
 -- the opcode that `find_form` gives, among any forms
@@ -65,17 +65,16 @@ Names-found : (part : Part) (name : Mnemonic) (way : Mode) (op : ℕ) (fs : List
     → list_all (has_row part) fs ≡ true → found name way fs ≡ Some op → Names part name way op
 Names-found part name way op [] h e = cc
 Names-found part name way op (f ∷ fs) h e =
-    let parts = both (has_row part f) (list_all (has_row part) fs) h in
-    first parts.0 (Names-found part name way op fs parts.1) (same_mnemonic f.mnemonic name) (same_mode f.mode way) refl refl
-  where
+    let parts = and_parts (has_row part f) (list_all (has_row part) fs) h in
+    let rest = Names-found part name way op fs parts.1 in
     -- the first form is the one, is in another mode, or is another's
-    first : has_row part f ≡ true → (found name way fs ≡ Some op → Names part name way op)
-        → (a b : Bool) → same_mnemonic f.mnemonic name ≡ a → same_mode f.mode way ≡ b → Names part name way op
-    first h rest true true p q =
-        let same : f.opcode ≡ op = (let here : Some f.opcode ≡ Some op = rw (p, q) at e in cc) in
-        named_by part name way f op h p q same
-    first h rest true false p q = rest (rw (p, q) at e)
-    first h rest false b p q = rest (rw p at e)
+    elim (cases_Bool (same_mnemonic f.mnemonic name)) [
+      | inl p ↦ elim (cases_Bool (same_mode f.mode way)) [
+        | inl q ↦ let here : Some f.opcode ≡ Some op = rw (p, q) at e in let same : f.opcode ≡ op = cc in named_by part name way f op parts.0 p q same
+        | inr q ↦ rest (rw (p, q) at e)
+      ]
+      | inr p ↦ rest (rw p at e)
+    ]
 
 -- ---- from the row of an opcode to its form
 
@@ -157,9 +156,7 @@ Names-Nmos : (name : Mnemonic) (way : Mode) (op : ℕ) (o : Option Row)
     → nmos_row op ≡ o → true ≡ is_some o → Names Cmos name way op → Names Nmos name way op
 Names-Nmos name way op None e s n = cc
 Names-Nmos name way op (Some r) e s n =
-    let same = subst (λ (o : Option Row). is_same o (documented_row Cmos op) ≡ true) e (all_same op n.0) in
-    let fits = same_back name way r (documented_row Cmos op) same n.1 in
-    (n.0, subst (λ (o : Option Row). MatchOption o ⊥ (Fits name way)) (sym e) fits)
+    (n.0, rw e (same_back name way r (documented_row Cmos op) (rw e at (all_same op n.0)) n.1))
 
 row_is_some : (name : Mnemonic) (way : Mode) (o : Option Row) → MatchOption o ⊥ (Fits name way) → true ≡ is_some o
 row_is_some name way None m = absurd m
@@ -201,11 +198,7 @@ find_form-Nmos_none name way e =
 
 is_some-find : (p : Form → Bool) (fs : List Form) → is_some (find p fs) ≡ list_any p fs
 is_some-find p [] = refl
-is_some-find p (f ∷ fs) = head (p f) refl (is_some-find p fs)
-  where
-    head : (b : Bool) → p f ≡ b → is_some (find p fs) ≡ list_any p fs → is_some (find p (f ∷ fs)) ≡ list_any p (f ∷ fs)
-    head true e rest = rw e refl
-    head false e rest = rw e rest
+is_some-find p (f ∷ fs) = elim (cases_Bool (p f)) [ inl e ↦ rw e | inr e ↦ rw e (is_some-find p fs) ]
 
 mapped_some : (part : Part) (o : Option Form) → IsSome (option_map (row_of part) o) ↔ (is_some o ≡ true)
 mapped_some part None = (λ s. cc, λ e. cc)
@@ -242,11 +235,9 @@ all_used = refl
 -- nor is one that is found
 found_used : (p : Form → Bool) (fs : List Form) → list_all is_used fs ≡ true → IfSome (find p fs) (λ f. is_used f ≡ true)
 found_used p [] h = tt
-found_used p (f ∷ fs) h = let parts = both (is_used f) (list_all is_used fs) h in first parts.0 (found_used p fs parts.1) (p f) refl
-  where
-    first : is_used f ≡ true → IfSome (find p fs) (λ g. is_used g ≡ true) → (b : Bool) → p f ≡ b → IfSome (find p (f ∷ fs)) (λ g. is_used g ≡ true)
-    first used rest true e = rw e used
-    first used rest false e = rw e rest
+found_used p (f ∷ fs) h =
+    let parts = and_parts (is_used f) (list_all is_used fs) h in
+    elim (cases_Bool (p f)) [ inl e ↦ rw e parts.0 | inr e ↦ rw e (found_used p fs parts.1) ]
 
 used_row : (r : Row) (way : Mode) → not (same_mode way Spare) ≡ true → unless_spare r way ≡ Some r
 used_row r Spare h = cc
@@ -279,3 +270,14 @@ other_row-form part op r at e s = rw at (sym (used_row r r.mode (ap not s)) ∙ 
 pub form_row-documented : (part : Part) (op : ℕ) (o : Option Row) → o ≡ option_map (row_of part) (form_at (forms part) op)
     → IsSome o ↔ IsDocumented part op
 form_row-documented part op o e = rw e (form_row-IsDocumented part op)
+
+-- an opcode has a spare row where no form has it
+spare-iff : (r : Row) (way : Mode) → (way ≡ Spare) ↔ (¬ IsSome (unless_spare r way))
+spare-iff r Spare = (λ e s. cc, λ none. refl)
+spare-iff r way = (λ e. cc, λ none. absurd (none refl))
+
+pub cmos_row-Spare : (op : ℕ) → ((cmos_row op).mode ≡ Spare) ↔ (¬ IsDocumented Cmos op)
+cmos_row-Spare op =
+    let spare = spare-iff (cmos_row op) (cmos_row op).mode in
+    let documented = form_row-documented Cmos op (documented_row Cmos op) (documented_row-form Cmos op) in
+    (λ e a. spare.0 e (documented.1 a), λ none. spare.1 (λ s. none (documented.0 s)))

@@ -1,8 +1,10 @@
 -- A name belongs to one mnemonic, and a text leads to it.
-use Rattle.std.proofs.Common.{◌≡◌, ◌↔◌, ℕ, ◌<◌, ◌≤◌, List, [], ◌∷◌, length, map, refl, ap, sym, ◌∙◌, slice_index_or, Option, Some, None, Bool, true, false, eqb, eqb-true, nat_eq, find, arith, IsTrue}
+use Rattle.std.proofs.Common.{◌≡◌, ◌↔◌, ℕ, ◌<◌, ◌≤◌, List, [], ◌∷◌, length, map, refl, ap, sym, ◌∙◌}
+use Rattle.std.proofs.Common.{slice_index_or, Option, Some, None, Bool, true, false, eqb, eqb-true, nat_eq, find, inl, inr, arith, IsTrue}
 use Rattle.std.specs.List.{list_all}
 use Rattle.std.specs.Char.{to_ascii_uppercase, is_ascii_uppercase}
 use Rattle.std.specs.Cmp.Lexicographic.{pointwise, same_text, other_text}
+use Rattle.std.proofs.lemmas.Bool.{cases_Bool}
 use Rattle.std.proofs.lemmas.List.{get_or-map, length-map}
 use denote.Enum.Declared.{tag_of}
 use denote.Enum.Bare.{same_true}
@@ -30,11 +32,10 @@ finds_itself name =
 
 find-passes : (p : Mnemonic → Bool) (names : List Mnemonic) (n : Mnemonic) → find p names ≡ Some n → p n ≡ true
 find-passes p [] n e = cc
-find-passes p (m ∷ names) n e = head (find-passes p names n) (p m) refl
-  where
-    head : (find p names ≡ Some n → p n ≡ true) → (b : Bool) → p m ≡ b → p n ≡ true
-    head rest true q = let same : m ≡ n = (let first : Some m ≡ Some n = rw q at e in cc) in rw (← same) q
-    head rest false q = rest (rw q at e)
+find-passes p (m ∷ names) n e = elim (cases_Bool (p m)) [
+  | inl q ↦ let first : Some m ≡ Some n = rw q at e in let same : n ≡ m = cc in rw same q
+  | inr q ↦ find-passes p names n (rw q at e)
+]
 
 -- two mnemonics of one name are one
 pub name_of-one : (a b : Mnemonic) → name_of a ≡ name_of b → a ≡ b
@@ -128,8 +129,5 @@ pub three_letters : (text : List ℕ) (a b d : ℕ) → length text ≡ 3
     → b ≡ to_ascii_uppercase (slice_index_or text 1 0)
     → d ≡ to_ascii_uppercase (slice_index_or text 2 0)
     → a ∷ b ∷ d ∷ [] ≡ map to_ascii_uppercase text
-three_letters [] a b d e p q r = absurd (omega arith)
-three_letters (x ∷ []) a b d e p q r = absurd (omega arith)
-three_letters (x ∷ y ∷ []) a b d e p q r = absurd (omega arith)
 three_letters (x ∷ y ∷ z ∷ []) a b d e p q r = cc
-three_letters (x ∷ y ∷ z ∷ w ∷ text) a b d e p q r = absurd (omega arith)
+three_letters _ a b d e p q r = absurd (omega arith)

@@ -6,7 +6,10 @@ use denote.Enum.Bare.{sameb}
 use Rattle.op_table.specs.contracts.names.Mnemonic.{the_type as mnemonics}
 use Rattle.op_table.specs.contracts.names.Mode.{the_type as modes}
 use Rattle.op_table.specs.declared.names.Mnemonic.{Mnemonic}
-use Rattle.op_table.specs.declared.names.Mnemonic.TheVariants.{Adc, And, Asl, Bcc, Bcs, Beq, Bit, Bmi, Bne, Bpl, Bra, Brk, Bvc, Bvs, Clc, Cld, Cli, Clv, Cmp, Cpx, Cpy, Dec, Dex, Dey, Eor, Inc, Inx, Iny, Jmp, Jsr, Lda, Ldx, Ldy, Lsr, Nop, Ora, Pha, Php, Phx, Phy, Pla, Plp, Plx, Ply, Rol, Ror, Rti, Rts, Sbc, Sec, Sed, Sei, Sta, Stx, Sty, Stz, Tax, Tay, Trb, Tsb, Tsx, Txa, Txs, Tya}
+use Rattle.op_table.specs.declared.names.Mnemonic.TheVariants.{Adc, And, Asl, Bcc, Bcs, Beq, Bit, Bmi, Bne, Bpl, Bra, Brk, Bvc, Bvs, Clc, Cld}
+use Rattle.op_table.specs.declared.names.Mnemonic.TheVariants.{Cli, Clv, Cmp, Cpx, Cpy, Dec, Dex, Dey, Eor, Inc, Inx, Iny, Jmp, Jsr, Lda, Ldx}
+use Rattle.op_table.specs.declared.names.Mnemonic.TheVariants.{Ldy, Lsr, Nop, Ora, Pha, Php, Phx, Phy, Pla, Plp, Plx, Ply, Rol, Ror, Rti, Rts}
+use Rattle.op_table.specs.declared.names.Mnemonic.TheVariants.{Sbc, Sec, Sed, Sei, Sta, Stx, Sty, Stz, Tax, Tay, Trb, Tsb, Tsx, Txa, Txs, Tya}
 use Rattle.op_table.specs.declared.names.Mode.{Mode}
 
 -- the three letters of a mnemonic

@@ -4,7 +4,8 @@ use Rattle.std.specs.Prelude.{◌≡◌, ℕ, ◌<◌, ◌%◌, ◌==◌, ◌||�
 use Rattle.op_table.specs.declared.names.Part.{Part}
 use Rattle.op_table.specs.declared.names.Part.TheVariants.{Nmos, Cmos}
 use Rattle.op_table.specs.declared.names.Mnemonic.{Mnemonic}
-use Rattle.op_table.specs.declared.names.Mnemonic.TheVariants.{Asl, Bcc, Bcs, Beq, Bmi, Bne, Bpl, Bra, Brk, Bvc, Bvs, Dec, Inc, Jmp, Jsr, Lsr, Nop, Pha, Php, Phx, Phy, Pla, Plp, Plx, Ply, Rol, Ror, Rti, Rts, Sta, Stx, Sty, Stz, Trb, Tsb}
+use Rattle.op_table.specs.declared.names.Mnemonic.TheVariants.{Asl, Bcc, Bcs, Beq, Bmi, Bne, Bpl, Bra, Brk, Bvc, Bvs, Dec, Inc, Jmp, Jsr, Lsr, Nop}
+use Rattle.op_table.specs.declared.names.Mnemonic.TheVariants.{Pha, Php, Phx, Phy, Pla, Plp, Plx, Ply, Rol, Ror, Rti, Rts, Sta, Stx, Sty, Stz, Trb, Tsb}
 use Rattle.op_table.specs.declared.names.Mode.{Mode}
 use Rattle.op_table.specs.declared.names.Mode.TheVariants.{Imp, Acc, Imm, Zp, ZpX, ZpY, Abs, AbsX, AbsY, IndX, IndY, IndZp, Rel, Ind, IndAbsX, Spare}
 use Rattle.op_table.specs.declared.rows.Row.{Row}

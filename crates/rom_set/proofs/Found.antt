@@ -1,6 +1,7 @@
 -- The ROM of a slot is at the place that is kept.
-use Rattle.std.proofs.Common.{ℕ, zero, suc, ◌≡◌, ◌≤◌, ◌<◌, ◌+◌, ◌-◌, refl, ap, sym, ◌∙◌, Bool, true, false, not, cond, List, [], ◌∷◌, Option, Some}
-use Rattle.std.proofs.Common.{None, length, get_or, ◌==◌, ◌||◌, ◌⊎◌, if◌then◌else◌, arith}
+use Rattle.std.proofs.Common.{ℕ, zero, suc, ◌≡◌, ◌≤◌, ◌<◌, ◌+◌, ◌-◌, refl, ap, sym, ◌∙◌, Bool, true, false, not, List, [], ◌∷◌, Option, Some}
+use Rattle.std.proofs.Common.{None, length, get_or, ◌==◌, ◌||◌, ◌⊎◌, inl, inr, if◌then◌else◌, arith}
+use Rattle.std.proofs.lemmas.Bool.{cases_Bool}
 use Rattle.std.proofs.lemmas.Grind.{common_steps}
 use Rattle.std.specs.Prelude.{Vec, find, slice_index}
 use Rattle.std.specs.List.{position_from}
@@ -16,47 +17,39 @@ pub record IsAt (t : Rom → Bool) (roms : List Rom) (i place : ℕ) : Type 0 wh
   pub within : place - i < length roms
   pub found : (d : Rom) → find t roms ≡ Some (get_or roms (place - i) d)
 
-one-more : (t : Rom → Bool) (r : Rom) (roms : List Rom) (i place : ℕ) (b : Bool) → t r ≡ b → cond b (Some i) (position_from t (i + 1) roms) ≡ Some place →
-    (position_from t (i + 1) roms ≡ Some place → IsAt t roms (i + 1) place) → IsAt t (r ∷ roms) i place
-one-more t r roms i place true is e later =
-    let same : i ≡ place = cc in
-    let none : place - i ≡ 0 = omega (arith, same) in
-    record {
-      low = omega (arith, same);
-      within = omega (arith, same);
-      found = λ d. ap (λ b. cond b (Some r) (find t roms)) is ∙ ap (λ k. Some (get_or (r ∷ roms) k d)) (sym none);
-    }
-one-more t r roms i place false is e later =
-    let h : IsAt t roms (i + 1) place = later e in
-    let next : suc (place - (i + 1)) ≡ place - i = omega (arith, h.low) in
-    record {
-      low = omega (arith, h.low);
-      within = omega (arith, h.low, h.within);
-      found = λ d. ap (λ b. cond b (Some r) (find t roms)) is ∙ h.found d ∙ ap (λ k. Some (get_or (r ∷ roms) k d)) next;
-    }
-
-pub found : (t : Rom → Bool) (roms : List Rom) (i place : ℕ) → position_from t i roms ≡ Some place → IsAt t roms i place
+found : (t : Rom → Bool) (roms : List Rom) (i place : ℕ) → position_from t i roms ≡ Some place → IsAt t roms i place
 found t [] i place e = let no : None ≡ Some place = e in cc
-found t (r ∷ roms) i place e = one-more t r roms i place (t r) refl e (found t roms (i + 1) place)
+found t (r ∷ roms) i place e = elim (cases_Bool (t r)) [
+  | inl is ↦
+      let here : Some i ≡ Some place = rw is at e in
+      let same : i ≡ place = cc in
+      let none : place - i ≡ 0 = omega (arith, same) in
+      record { low = omega (arith, same); within = omega (arith, same); found = λ d. rw (is, none) }
+  | inr is ↦
+      let h = found t roms (i + 1) place (rw is at e) in
+      let next : place - i ≡ suc (place - (i + 1)) = omega (arith, h.low) in
+      record { low = omega (arith, h.low); within = omega (arith, h.low, h.within); found = λ d. rw (is, next) (h.found d) }
+]
 
-absent-more : (t : Rom → Bool) (r : Rom) (roms : List Rom) (i : ℕ) (b : Bool) → t r ≡ b → cond b (Some i) (position_from t (i + 1) roms) ≡ None →
-    (position_from t (i + 1) roms ≡ None → find t roms ≡ None) → find t (r ∷ roms) ≡ None
-absent-more t r roms i true is e later = let no : Some i ≡ None = e in cc
-absent-more t r roms i false is e later = ap (λ b. cond b (Some r) (find t roms)) is ∙ later e
+pub kept : (slots : List (ℕ × Vec ℕ Global)) (slot : ℕ) {p : Option ℕ} {place : ℕ} → p ≡ position_from (in_this slot) 0 (roms_seen slots) → p ≡ Some place →
+    IsAt (in_this slot) (roms_seen slots) 0 place
+kept slots slot at is = found (in_this slot) (roms_seen slots) 0 _ (sym at ∙ is)
 
 pub absent : (t : Rom → Bool) (roms : List Rom) (i : ℕ) → position_from t i roms ≡ None → find t roms ≡ None
 absent t [] i e = refl
-absent t (r ∷ roms) i e = absent-more t r roms i (t r) refl e (absent t roms (i + 1))
+absent t (r ∷ roms) i e = elim (cases_Bool (t r)) [
+  | inl is ↦ let no : Some i ≡ None = rw is at e in cc
+  | inr is ↦ rw is (absent t roms (i + 1) (rw is at e))
+]
 
 -- where none passes, each fails
-all-more : (t : Rom → Bool) (r : Rom) (roms : List Rom) (b : Bool) → t r ≡ b → cond b (Some r) (find t roms) ≡ None → (b ≡ false) × (find t roms ≡ None)
-all-more t r roms true is e = let no : Some r ≡ None = e in cc
-all-more t r roms false is e = (refl, e)
+all-more : (t : Rom → Bool) (r : Rom) (roms : List Rom) → find t (r ∷ roms) ≡ None → (t r ≡ false) × (find t roms ≡ None)
+all-more t r roms e = elim (cases_Bool (t r)) [ inl is ↦ let no : Some r ≡ None = rw is at e in cc | inr is ↦ (is, rw is at e) ]
 
-pub none-passes : (t : Rom → Bool) (roms : List Rom) (k : ℕ) (d : Rom) → find t roms ≡ None → k < length roms → t (get_or roms k d) ≡ false
+none-passes : (t : Rom → Bool) (roms : List Rom) (k : ℕ) (d : Rom) → find t roms ≡ None → k < length roms → t (get_or roms k d) ≡ false
 none-passes t [] k d e low = absurd (omega (arith, low))
-none-passes t (r ∷ roms) zero d e low = (all-more t r roms (t r) refl e).0
-none-passes t (r ∷ roms) (suc k) d e low = none-passes t roms k d (all-more t r roms (t r) refl e).1 (omega (arith, low))
+none-passes t (r ∷ roms) zero d e low = (all-more t r roms e).0
+none-passes t (r ∷ roms) (suc k) d e low = none-passes t roms k d (all-more t r roms e).1 (omega (arith, low))
 
 -- the bytes of the ROM at the place that is kept
 rom-at : (slots : List (ℕ × Vec ℕ Global)) (place : ℕ) (d : ℕ × Vec ℕ Global) → place < length slots → get_or (roms_seen slots) place (rom_seen d) ≡ rom_seen (get_or slots place d)

@@ -1,5 +1,5 @@
 -- The lines of the letters one after another: one more, and one that is looked up.
-use Rattle.std.proofs.Common.{ℕ, ◌≡◌, ◌<◌, ◌≤◌, ◌+◌, ◌-◌, ◌*◌, ◌/◌, ◌%◌, ap, ◌∙◌, List, length, ◌⊎◌, inl, inr, slice_index, slice_set, arith}
+use Rattle.std.proofs.Common.{ℕ, ◌≡◌, ◌<◌, ◌≤◌, ◌+◌, ◌-◌, ◌*◌, ◌/◌, ◌%◌, ap, ◌∙◌, List, length, inl, inr, slice_index, slice_set, arith}
 use Rattle.std.proofs.lemmas.Bool.{cases_eq}
 use Rattle.std.proofs.lemmas.List.{get_or-set_same, get_or-set_other}
 use Rattle.std.proofs.lemmas.Nat.{div-mul-add, mod-mul-add}
@@ -10,11 +10,10 @@ use Rattle.saa5050.specs.CodeLetters.{HasLines}
 
 pub one-more : (font : Font) (lines : List ℕ) (i word : ℕ) → i < length lines → HasLines font lines i → IsLine word (letter_dot font (i / 20 + 0x20) (i % 20)) →
     HasLines font (slice_set lines i word) (i + 1)
-one-more font lines i word room before line k below = by (cases_eq k i)
-  where
-    by : (k ≡ i) ⊎ (k ≡ i → ⊥) → IsLine (slice_index (slice_set lines i word) k) (letter_dot font (k / 20 + 0x20) (k % 20))
-    by (inl same) = rw same (λ x inside. ap (λ (w : ℕ). bit w (11 - x)) (get_or-set_same lines i word 0 room) ∙ line x inside)
-    by (inr other) = λ x inside. ap (λ (w : ℕ). bit w (11 - x)) (get_or-set_other lines i k word 0 other) ∙ before k (omega (arith, below, other)) x inside
+one-more font lines i word room before line k below = elim (cases_eq k i) [
+  | inl same ↦ rw same (λ x inside. ap (λ (w : ℕ). bit w (11 - x)) (get_or-set_same lines i word 0 room) ∙ line x inside)
+  | inr other ↦ λ x inside. ap (λ (w : ℕ). bit w (11 - x)) (get_or-set_other lines i k word 0 other) ∙ before k (omega (arith, below, other)) x inside
+]
 
 pub looked-up : (font : Font) (lines : List ℕ) (code line : ℕ) → 0x20 ≤ code → code ≤ 0x7F → line < 20 → HasLines font lines 1920 →
     IsLine (slice_index lines ((code - 0x20) * 20 + line)) (letter_dot font code line)

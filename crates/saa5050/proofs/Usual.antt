@@ -1,26 +1,22 @@
 -- Cells of letters in their usual way.
-use Rattle.std.proofs.Common.{ℕ, ◌≡◌, ◌<◌, ◌-◌, refl, ◌∙◌, Bool, true, false, ◌||◌}
+use Rattle.std.proofs.Common.{ℕ, ◌≡◌, refl, ◌∙◌, Bool, false}
 use Rattle.std.specs.Prelude.{nat_lt, nat_le}
-use Rattle.beeb_bits.specs.Bits.{bit}
+use Rattle.std.proofs.lemmas.Bool.{or_parts}
 use Rattle.saa5050.specs.declared.style.Style.{Style}
 use Rattle.saa5050.specs.Shapes.{Font, letter_dot}
 use Rattle.saa5050.specs.Row.{cell_dot}
 use Rattle.saa5050.specs.CodeDots.{IsLine}
 use Rattle.saa5050.specs.CodeSteps.{is_special}
 
-neither : (a b : Bool) → (a || b) ≡ false → (a ≡ false) × (b ≡ false)
-neither true b h = cc
-neither false b h = (refl, h)
-
 usual_dot : (font : Font) (code ra : ℕ) (bottom : Bool) (fields : ℕ) (s : Style) (x : ℕ) → is_special code ra bottom s ≡ false →
     letter_dot font code ra x ≡ cell_dot font code ra bottom fields s x
 usual_dot font code ra bottom fields s x h =
-    let g = neither _ s.double h in
-    let f = neither _ s.concealed g.0 in
-    let e = neither _ s.flashing f.0 in
-    let d = neither _ s.graphics e.0 in
-    let b = neither _ bottom d.0 in
-    let a = neither (nat_lt code 0x20) (nat_le 20 ra) b.0 in
+    let g = or_parts _ s.double h in
+    let f = or_parts _ s.concealed g.0 in
+    let e = or_parts _ s.flashing f.0 in
+    let d = or_parts _ s.graphics e.0 in
+    let b = or_parts _ bottom d.0 in
+    let a = or_parts (nat_lt code 0x20) (nat_le 20 ra) b.0 in
     rw (a.0, a.1, b.1, d.1, e.1, f.1, g.1) refl
 
 pub usual_line : (word : ℕ) (font : Font) (code ra : ℕ) (bottom : Bool) (fields : ℕ) (s : Style) → is_special code ra bottom s ≡ false →

@@ -5,7 +5,7 @@ use Rattle.std.specs.Int.{bit_at}
 use Rattle.std.proofs.lemmas.Bool.{agree_below, agree_below_at, ltb-true}
 use Rattle.std.proofs.lemmas.Nat.Bits.{bit_at_and, bit_at_or, bit_at_xor, bit_at-suc, bit_at_lowest, bit_at_above, bit_at-lt}
 use Rattle.beeb_bits.specs.Bits.{bit}
-use Rattle.saa5050.specs.CodeDots.{IsLine, doubled_dot}
+use Rattle.saa5050.specs.CodeDots.{IsLine, doubled_dot, columns}
 use Rattle.saa5050.specs.declared.dots.TheConstants.{DOUBLED}
 
 -- ---- an operation on words, bit by bit
@@ -16,9 +16,7 @@ by-digits f g a b c d zero zero lp lq = a
 by-digits f g a b c d zero (suc zero) lp lq = b
 by-digits f g a b c d (suc zero) zero lp lq = c
 by-digits f g a b c d (suc zero) (suc zero) lp lq = d
-by-digits f g a b c d zero (suc (suc q)) lp lq = absurd (omega arith)
-by-digits f g a b c d (suc zero) (suc (suc q)) lp lq = absurd (omega arith)
-by-digits f g a b c d (suc (suc p)) q lp lq = absurd (omega arith)
+by-digits f g a b c d _ _ lp lq = absurd (omega arith)
 
 pub and-bit : (a b i : ℕ) → bit (bit_and a b) i ≡ (bit a i && bit b i)
 and-bit a b i = ap (λ d. d == 1) (bit_at_and a b i) ∙ by-digits min ◌&&◌ refl refl refl refl (bit_at a i) (bit_at b i) (bit_at-lt a i) (bit_at-lt b i)
@@ -51,8 +49,8 @@ half-highest a low = ap (λ d. d == 1) (bit_at_above (a / 2) 11 11 (omega (arith
 
 -- ---- lines that are computed
 
-pub computed : (word : ℕ) (on : ℕ → Bool) → agree_below (λ x. bit word (11 - x)) on 12 ≡ true → IsLine word on
-computed word on h = λ x low. agree_below_at (λ x. bit word (11 - x)) on 12 x h low
+pub column-line : (word : ℕ) {a b c l r s : Bool} → a ≡ l → b ≡ r → c ≡ s → agree_below (λ x. bit word (11 - x)) (columns l r s) 12 ≡ true → IsLine word (columns a b c)
+column-line word {l = l} {r} {s} p q o h = rw (p, q, o) (λ x low. agree_below_at (λ x. bit word (11 - x)) (columns l r s) 12 x h low)
 
 -- the table of rows in half dots
 pub table : (row : ℕ) → row < 256 → IsLine (slice_index_or DOUBLED (row % 64) 0) (doubled_dot row)

@@ -1,4 +1,3 @@
 pub mod EntryTable
 pub mod DotLemmas
 pub mod Rows
-pub mod ReadyRows

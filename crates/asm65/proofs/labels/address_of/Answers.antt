@@ -1,5 +1,5 @@
 use Rattle.std.proofs.Common.{◌∙◌}
-use Rattle.asm65.proofs.LabelLemmas.{looked_up-seen}
+use Rattle.asm65.proofs.PassLemmas.{looked_up-seen}
 use Rattle.asm65.proofs.labels.address_of.Goals as goal
 
 pub returns : goal.returns

@@ -1,4 +1,4 @@
-use Rattle.asm65.proofs.LabelLemmas.{is_new, value_define}
+use Rattle.asm65.proofs.PassLemmas.{is_new, value_define}
 use Rattle.asm65.proofs.labels.define.Goals as goal
 
 pub returns-clause-new : goal.returns-clause-new

@@ -6,7 +6,7 @@ use Rattle.asm65.proofs.passes.first_pass.Given as goal
 
 abbrev pub invariant-loop-rest : goal.invariant-loop-rest
 invariant-loop-rest l = record {
-  passed : Passed l.part (placed_from l.part l.origin (parsed_text l.text)) l.line_number l.labels (placed_from l.part l.address (parsed_text l.rest));
+  passed : Passed l.part (placed_from l.part l.origin (parsed_text l.text)) l.line_number l.labels l.address (parsed_text l.rest);
   count : l.line_number + length l.rest ≤ length l.text;
 }
 

@@ -7,7 +7,7 @@ use Rattle.asm65.proofs.passes.second_pass.Given as goal
 
 abbrev pub invariant-loop-rest : goal.invariant-loop-rest
 invariant-loop-rest l = record {
-  encoded : Encoded l.part (labels_in l.labels) (placed_from l.part l.origin (parsed_text l.text)) l.line_number l.origin l.address l.bytes.items (placed_from l.part l.address (parsed_text l.rest));
+  encoded : Encoded l.part (labels_in l.labels) (placed_from l.part l.origin (parsed_text l.text)) l.line_number l.origin l.address l.bytes.items (parsed_text l.rest);
   count : l.line_number + length l.rest ≤ length l.text;
 }
 

@@ -1,6 +1,6 @@
-use Rattle.std.proofs.Common.{◌∙◌, ◌^◌, ◌-◌, arith}
+use Rattle.std.proofs.Common.{◌∙◌, ap, ◌^◌, ◌-◌, arith}
 use Rattle.std.proofs.Math.ListN.{length-set}
-use Rattle.video_ula.proofs.DotLemmas.{first_of, last_of, first_in, last_in, filled_more, filled}
+use Rattle.video_ula.proofs.DotLemmas.{first_of, last_of, filled_more, filled}
 use Rattle.video_ula.proofs.ready.fill.Goals as goal
 
 pub loop-byte-preserved : goal.loop-byte-preserved
@@ -11,11 +11,11 @@ loop-byte-preserved c =
     let dots = c.sixteen.result in (
       (
         length-set c.loop-byte.first at (first_of dots) ∙ all.0.0,
-        filled_more 0 c.args.entries.now width at c.loop-byte.first (first_of dots) (omega arith) all.0.1 (first_in c.args.entries.now at width dots c.sixteen.ensures),
+        filled_more 0 c.args.entries.now width at c.loop-byte.first (first_of dots) (omega arith) all.0.1 (ap first_of c.sixteen.ensures),
       ),
       (
         length-set c.loop-byte.last at (last_of dots) ∙ all.1.0,
-        filled_more 8 c.args.entries.now width at c.loop-byte.last (last_of dots) (omega arith) all.1.1 (last_in c.args.entries.now at width dots c.sixteen.ensures),
+        filled_more 8 c.args.entries.now width at c.loop-byte.last (last_of dots) (omega arith) all.1.1 (ap last_of c.sixteen.ensures),
       ),
     )
 

@@ -1,6 +1,4 @@
-use Rattle.std.proofs.Common.{◌≡◌, ◌↔◌, ℕ, List, subst, arith, Some, None}
-use Rattle.op_table.specs.declared.names.Mnemonic.{Mnemonic}
-use Rattle.op_table.specs.Names.{name_of}
+use Rattle.std.proofs.Common.{arith, None}
 use Rattle.op_table.proofs.NameLemmas.{named-mnemonic_of, none_of_length, three_letters}
 use Rattle.op_table.proofs.names.Mnemonic.of_name.Goals as goal
 
@@ -14,10 +12,9 @@ returns-in_default-2-clause-value c =
 
 pub returns-clause-named : goal.returns-clause-named
 returns-clause-named c =
-    let text = c.args.text.now in
-    subst (λ (upper : List ℕ). (m : Mnemonic) → (c.named.result ≡ Some m) ↔ (upper ≡ name_of m))
-    (three_letters text _ _ _ (omega arith) c.to_ascii_uppercase.ensures.value c.to_ascii_uppercase-2.ensures.value c.to_ascii_uppercase-3.ensures.value)
-    c.named.ensures
+    let letters = three_letters c.args.text.now _ _ _ (omega arith)
+    c.to_ascii_uppercase.ensures.value c.to_ascii_uppercase-2.ensures.value c.to_ascii_uppercase-3.ensures.value in
+    rw letters at c.named.ensures
 
 pub returns-clause-value : goal.returns-clause-value
 returns-clause-value c = named-mnemonic_of c.args.text.now c.named.result (returns-clause-named c)
