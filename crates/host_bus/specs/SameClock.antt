@@ -1,20 +1,27 @@
 -- No access changes how long ticks are.
-use Rattle.std.specs.Prelude.{ℕ, ◌≡◌, refl}
+use Rattle.std.specs.Prelude.{ℕ, ◌≡◌, List, refl}
+use Rattle.std.proofs.Common.{ap}
+use Rattle.beeb_bits.specs.declared.clock.Clock.{Clock}
+use Rattle.key_script.specs.declared.Event.{Event}
 use Rattle.host_devices.specs.declared.map.Device.TheVariants.{RomLatch}
 use Rattle.host_devices.specs.Map.{Place, Plugs, Sheila, place_of}
 use Rattle.host_bus.specs.Bus.{BusState, clock_of, after_read_of, after_write_of, bus_after_read, bus_after_write}
 
-read-at : (p : Place) (b : BusState) (at : ℕ) → clock_of (after_read_of p b at) ≡ clock_of b
-read-at Plugs b at = refl
-read-at _ b at = refl
+-- what no access changes
+abbrev kept : BusState → Clock × ℕ × List Event
+kept b = (b.board.clock, b.board.breaks, b.board.script)
 
-write-at : (p : Place) (b : BusState) (at v : ℕ) → clock_of (after_write_of p b at v) ≡ clock_of b
-write-at Plugs b at v = refl
-write-at (Sheila RomLatch) b at v = refl
-write-at _ b at v = refl
+pub read-kept : (p : Place) (b : BusState) (at : ℕ) → kept (after_read_of p b at) ≡ kept b
+read-kept Plugs b at = refl
+read-kept _ b at = refl
+
+pub write-kept : (p : Place) (b : BusState) (at v : ℕ) → kept (after_write_of p b at v) ≡ kept b
+write-kept Plugs b at v = refl
+write-kept (Sheila RomLatch) b at v = refl
+write-kept _ b at v = refl
 
 pub read-same : (b : BusState) (at : ℕ) → clock_of (bus_after_read b at) ≡ clock_of b
-read-same b at = read-at (place_of at) b at
+read-same b at = ap (λ k. k.0) (read-kept (place_of at) b at)
 
 pub write-same : (b : BusState) (at v : ℕ) → clock_of (bus_after_write b at v) ≡ clock_of b
-write-same b at v = write-at (place_of at) b at v
+write-same b at v = ap (λ k. k.0) (write-kept (place_of at) b at v)

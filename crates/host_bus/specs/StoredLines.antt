@@ -1,82 +1,54 @@
 -- A byte that is written to the RAM changes no line to the processor, now or later: the picture alone reads the RAM, and of the picture the other
 -- devices see vertical sync, which the 6845 makes by itself.
-use Rattle.std.specs.Prelude.{ℕ, zero, suc, ◌≡◌, ◌+◌, ◌-◌, ◌%◌, ◌==◌, Bool, true, false, refl, List, slice_index, slice_set, if◌then◌else◌}
-use Rattle.std.proofs.Common.{ap, sym, ◌∙◌}
+use Rattle.std.specs.Prelude.{ℕ, zero, suc, ◌≡◌, ◌+◌, ◌-◌, ◌%◌, ◌==◌, Bool, true, false, refl, List, slice_set, if◌then◌else◌}
+use Rattle.std.proofs.Common.{ap, sym, ◌∙◌, arith}
 use Rattle.beeb_bits.specs.Bits.{bit}
 use Rattle.beeb_bits.specs.Clock.{micro}
 use Rattle.crtc6845.specs.State as crtc
-use Rattle.crtc6845.specs.Clock.{beam_of, clock_leaves, is_in_sync}
-use Rattle.crtc6845.specs.declared.Beam.{Beam}
+use Rattle.crtc6845.specs.Clock.{clock_leaves, is_in_sync}
 use Rattle.video_ula.specs.State as ula
 use Rattle.saa5050.specs.Shapes.{Font}
 use Rattle.raster.specs.State as picture
 use Rattle.raster.specs.Clock as beam
-use Rattle.raster.specs.Beam.{byte_address}
 use Rattle.wd1770.specs.Step as turn
 use Rattle.adc7002.specs.Registers as converter
 use Rattle.adc7002.specs.Step as conversion
 use Rattle.via6522.specs.Step.{step}
 use Rattle.keyboard.specs.Keys.{Keys}
-use Rattle.keyboard.specs.Latch as keyboard
 use Rattle.host_devices.specs.Devices.{Devices, keys_at, levels_at, system_pins, user_pins, raster_after, microsecond, devices_ask}
 use Rattle.host_bus.specs.Board.{BoardState, Around, Moving, around, moving_part, tick, ticks, board_closed, board_irq, board_nmis}
 
--- what is drawn leaves the 6845 and the ULA
-show-crtc : (shown cell : Bool) (x y s : picture.State) → x.crtc ≡ s.crtc → y.crtc ≡ s.crtc → (if shown then (if cell then x else y) else s).crtc ≡ s.crtc
-show-crtc true true x y s a b = a
-show-crtc true false x y s a b = b
-show-crtc false cell x y s a b = refl
+-- of a picture, what is not drawn: the 6845 and the ULA
+abbrev chips : picture.State → crtc.State × ula.State
+chips s = (s.crtc, s.ula)
 
-show-ula : (shown cell : Bool) (x y s : picture.State) → x.ula ≡ s.ula → y.ula ≡ s.ula → (if shown then (if cell then x else y) else s).ula ≡ s.ula
-show-ula true true x y s a b = a
-show-ula true false x y s a b = b
-show-ula false cell x y s a b = refl
+show-chips : (shown cell : Bool) (x y s : picture.State) → chips x ≡ chips s → chips y ≡ chips s → chips (if shown then (if cell then x else y) else s) ≡ chips s
+show-chips true true x y s a b = a
+show-chips true false x y s a b = b
+show-chips false cell x y s a b = refl
 
-char-crtc : (ram : List ℕ) (size : ℕ) (font : Font) (s : picture.State) → (beam.char_clock_leaves ram size font s).crtc ≡ clock_leaves s.crtc
+-- a character clock later
+abbrev clocked : crtc.State × ula.State → crtc.State × ula.State
+clocked c = (clock_leaves c.0, c.1)
+
+char-chips : (ram : List ℕ) (size : ℕ) (font : Font) (s : picture.State) → chips (beam.char_clock_leaves ram size font s) ≡ clocked (chips s)
 unfolding beam.char_clock_leaves
-char-crtc ram size font s =
-    let at : Beam = beam_of s.crtc in
-    let b : picture.State = beam.begin_leaves at (record s { crtc = clock_leaves s.crtc }) in
-    let byte : ℕ = slice_index ram (byte_address at.ma at.ra size) in
-    show-crtc at.shown (bit b.ula.control 1) (beam.draw_cell_leaves font at (byte % 128) b) (beam.draw_byte_leaves at byte b) b refl refl
+char-chips ram size font s = show-chips _ _ _ _ _ refl refl
 
-char-ula : (ram : List ℕ) (size : ℕ) (font : Font) (s : picture.State) → (beam.char_clock_leaves ram size font s).ula ≡ s.ula
-unfolding beam.char_clock_leaves
-char-ula ram size font s =
-    let at : Beam = beam_of s.crtc in
-    let b : picture.State = beam.begin_leaves at (record s { crtc = clock_leaves s.crtc }) in
-    let byte : ℕ = slice_index ram (byte_address at.ma at.ra size) in
-    show-ula at.shown (bit b.ula.control 1) (beam.draw_cell_leaves font at (byte % 128) b) (beam.draw_byte_leaves at byte b) b refl refl
+-- and a microsecond later
+abbrev after : crtc.State × ula.State → crtc.State × ula.State
+after c = if bit c.1.control 4 then clocked (clocked c) else clocked c
 
--- the 6845 a microsecond later
-abbrev clocked : Bool → crtc.State → crtc.State
-clocked fast c = if fast then clock_leaves (clock_leaves c) else clock_leaves c
-
-picture-crtc : (ram : List ℕ) (size : ℕ) (font : Font) (s : picture.State) → (beam.microsecond ram size font s).crtc ≡ clocked (bit s.ula.control 4) s.crtc
-picture-crtc ram size font s = by (bit s.ula.control 4)
-  where
-    one : picture.State → picture.State
-    one x = beam.char_clock_leaves ram size font x
-
-    by : (fast : Bool) → (if fast then beam.char_clock_leaves ram size font (beam.char_clock_leaves ram size font s) else beam.char_clock_leaves ram size font s).crtc ≡ clocked fast s.crtc
-    by true = char-crtc ram size font (beam.char_clock_leaves ram size font s) ∙ ap clock_leaves (char-crtc ram size font s)
-    by false = char-crtc ram size font s
-
-picture-ula : (ram : List ℕ) (size : ℕ) (font : Font) (s : picture.State) → (beam.microsecond ram size font s).ula ≡ s.ula
-picture-ula ram size font s = by (bit s.ula.control 4)
-  where
-    by : (fast : Bool) → (if fast then beam.char_clock_leaves ram size font (beam.char_clock_leaves ram size font s) else beam.char_clock_leaves ram size font s).ula ≡ s.ula
-    by true = char-ula ram size font (beam.char_clock_leaves ram size font s) ∙ char-ula ram size font s
-    by false = char-ula ram size font s
+picture-chips : (ram : List ℕ) (size : ℕ) (font : Font) (s : picture.State) → chips (beam.microsecond ram size font s) ≡ after (chips s)
+picture-chips ram size font s = grind (arith, char-chips)
 
 -- Devices that differ in what is drawn alone.
 record IsLike (d e : Devices) : Type 0 where
-  pub crtc : d.video.crtc ≡ e.video.crtc
-  pub ula : d.video.ula ≡ e.video.ula
+  pub chips_too : chips d.video ≡ chips e.video
   pub rest : d ≡ record e { video = d.video }
 
 -- a microsecond by what it makes of the picture and of its sync
-abbrev stepped : picture.State → Bool → Keys → List ℕ → Devices → Devices
+abbrev pub stepped : picture.State → Bool → Keys → List ℕ → Devices → Devices
 stepped v sync keys levels d = record d {
   video = v;
   disc = turn.step d.disc;
@@ -85,35 +57,28 @@ stepped v sync keys levels d = record d {
   user = step user_pins d.user;
 }
 
-like-on : (ram ram2 : List ℕ) (font : Font) (keys : Keys) (levels : List ℕ) (d e : Devices) → IsLike d e → IsLike (microsecond ram font keys levels d) (microsecond ram2 font keys levels e)
-unfolding microsecond
-like-on ram ram2 font keys levels d e like =
-    let v : picture.State = raster_after ram font d in
-    let x : picture.State = raster_after ram2 font e in
-    let same : v.crtc ≡ x.crtc =
-    picture-crtc ram (keyboard.screen_size d.latch) font d.video
-    ∙ ap (λ (u : ula.State). clocked (bit u.control 4) d.video.crtc) like.ula
-    ∙ ap (λ (c : crtc.State). clocked (bit e.video.ula.control 4) c) like.crtc
-    ∙ sym (picture-crtc ram2 (keyboard.screen_size e.latch) font e.video) in
-    record {
-      crtc = same;
-      ula = picture-ula ram (keyboard.screen_size d.latch) font d.video ∙ like.ula ∙ sym (picture-ula ram2 (keyboard.screen_size e.latch) font e.video);
-      rest = ap (λ (y : Devices). stepped v (beam.vsync_of v) keys levels y) like.rest ∙ ap (λ (c : crtc.State). stepped v (is_in_sync c) keys levels e) same;
-    }
+module _ (ram : List ℕ) where
+  like-by : (due : Bool) (a : Around) (keys : Keys) (levels : List ℕ) (d e : Devices) → IsLike d e →
+      IsLike (if due then microsecond ram a.font keys levels d else d) (if due then microsecond a.ram a.font keys levels e else e)
+  unfolding microsecond
+  like-by true a keys levels d e like =
+      let v : picture.State = raster_after ram a.font d in
+      let same : chips v ≡ chips (raster_after a.ram a.font e) =
+      picture-chips _ _ _ _ ∙ ap after like.chips_too ∙ sym (picture-chips _ _ _ _) in
+      record {
+        chips_too = same;
+        rest = ap (λ (y : Devices). stepped v (beam.vsync_of v) keys levels y) like.rest ∙ ap (λ (c : crtc.State × ula.State). stepped v (is_in_sync c.0) keys levels e) same;
+      }
+  like-by false a keys levels d e like = like
 
-like-beat : (due : Bool) (ram ram2 : List ℕ) (font : Font) (keys : Keys) (levels : List ℕ) (d e : Devices) → IsLike d e →
-    IsLike (if due then microsecond ram font keys levels d else d) (if due then microsecond ram2 font keys levels e else e)
-like-beat true ram ram2 font keys levels d e like = like-on ram ram2 font keys levels d e like
-like-beat false ram ram2 font keys levels d e like = like
-
-like-ticks : (ram : List ℕ) (a : Around) (n k : ℕ) (m o : Moving) → IsLike m.devices o.devices → IsLike (ticks (record a { ram = ram }) n k m).devices (ticks a n k o).devices
-like-ticks ram a zero k m o like = like
-like-ticks ram a (suc n) k m o like =
-    like-ticks ram a n (k + 1) (tick (record a { ram = ram }) k m) (tick a k o)
-    (like-beat (k % micro a.clock == 0) ram a.ram a.font (keys_at k a.script) (levels_at k a.script) m.devices o.devices like)
+  like-ticks : (a : Around) (n k : ℕ) (m o : Moving) → IsLike m.devices o.devices → IsLike (ticks (record a { ram = ram }) n k m).devices (ticks a n k o).devices
+  like-ticks a zero k m o like = like
+  like-ticks a (suc n) k m o like =
+      like-ticks a n (k + 1) (tick (record a { ram = ram }) k m) (tick a k o)
+      (like-by (k % micro a.clock == 0) a (keys_at k a.script) (levels_at k a.script) m.devices o.devices like)
 
 like-stored : (b : BoardState) (at v u : ℕ) → IsLike (board_closed (record b { ram = slice_set b.ram at v }) u).devices (board_closed b u).devices
-like-stored b at v u = like-ticks (slice_set b.ram at v) (around b) (u - b.closed) b.closed (moving_part b) (moving_part b) (record { crtc = refl; ula = refl; rest = refl })
+like-stored b at v u = like-ticks (slice_set b.ram at v) (around b) (u - b.closed) b.closed (moving_part b) (moving_part b) (record { chips_too = refl; rest = refl })
 
 pub irq-stored : (b : BoardState) (at v u : ℕ) → board_irq (board_closed (record b { ram = slice_set b.ram at v }) u) ≡ board_irq (board_closed b u)
 unfolding devices_ask

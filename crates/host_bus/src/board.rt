@@ -1,6 +1,8 @@
 //! The board: memory, and what answers beside it.
-ghost use Rattle.std.specs.Prelude.{◌≡◌, ◌≤◌, ◌<◌, ◌+◌, ◌-◌, ◌*◌, ◌%◌, ◌^◌, ◌==◌, ◌⊎◌, ℕ, true, false, min, unwrap_or, length, List, IfOk, Ok, IfSome, None, Some, MatchOption, slice_index, slice_set, if◌then◌else◌};
+ghost use Rattle.std.specs.Prelude.{◌≡◌, ◌≤◌, ◌<◌, ◌+◌, ◌-◌, ◌*◌, ◌%◌, ◌^◌, ◌==◌, ◌⊎◌, ℕ, true, false, min, unwrap_or, length, List, IfOk, Ok};
+ghost use Rattle.std.specs.Prelude.{IfSome, None, Some, MatchOption, slice_index, slice_set, if◌then◌else◌};
 ghost use Rattle.keyboard.specs.Keys.{keys_of};
+ghost use Rattle.rom_set.specs.Roms.{rom_byte};
 ghost use Rattle.wd1770.specs.Select.{disc_of};
 ghost use Rattle.sn76489.specs.Samples.{NeverFallFrom};
 ghost use Rattle.host_devices.specs.Map.{place_of};
@@ -10,7 +12,7 @@ ghost use Rattle.host_devices.specs.declared.map.Device.TheVariants.{SystemVia};
 ghost use Rattle.host_devices.specs.Devices.{microsecond, last_frame, register_written};
 ghost use Rattle.host_bus.specs.Board.{ticks, board_closed, answer_at, read_at, written_at, with_sound, board_irq, board_nmis, break_pending, break_taken, next_break, first_board, clear_ram};
 ghost use Rattle.host_devices.specs.CodePicture.{drawn};
-ghost use Rattle.host_bus.specs.CodeReads.{Covered, HasEmpty, HasHalf, HasSlot, Shows};
+ghost use Rattle.host_bus.specs.CodeReads.{HasBytes, Shows};
 ghost use Rattle.host_bus.specs.Lag.{IsCalm, ReadsAbove};
 ghost use Rattle.host_bus.specs.CodeBoard.{around_by, moving};
 ghost use Rattle.beeb_bits.specs.Clock.{micro};
@@ -77,7 +79,7 @@ impl Model for Board {
 fn cover(shown: &mut [u8], roms: &RomSet)
     requires { length shown.old ≡ ADDRESSES }
     ensures length { length shown.new ≡ ADDRESSES }
-    ensures covered { Covered shown.old roms.now.os OS_SIZE shown.new }
+    ensures covered { HasBytes shown.old OS_START OS_SIZE (λ at. slice_index roms.now.os (at - OS_START)) shown.new }
 {
     for i in 0..OS_SIZE {
         shown[OS_START + usize::from(i)] = roms.os(i);
@@ -90,7 +92,7 @@ fn cover_half(shown: &mut [u8], start: usize, rom: &[u8], skip: usize)
     requires room { start + HALF_SLOT ≤ ADDRESSES }
     requires half { skip + HALF_SLOT ≤ length rom.now }
     ensures length { length shown.new ≡ ADDRESSES }
-    ensures covered { HasHalf shown.old start rom.now skip shown.new }
+    ensures covered { HasBytes shown.old start HALF_SLOT (λ at. slice_index rom.now (skip + (at - start))) shown.new }
 {
     shown[start..start + HALF_SLOT].copy_from_slice(&rom[skip..skip + HALF_SLOT]);
 }
@@ -99,7 +101,7 @@ fn cover_half(shown: &mut [u8], start: usize, rom: &[u8], skip: usize)
 fn cover_empty(shown: &mut [u8])
     requires { length shown.old ≡ ADDRESSES }
     ensures length { length shown.new ≡ ADDRESSES }
-    ensures covered { HasEmpty shown.old (2 * HALF_SLOT) shown.new }
+    ensures covered { HasBytes shown.old PAGED_START (2 * HALF_SLOT) (λ at. 0xFF) shown.new }
 {
     for i in 0..2 * HALF_SLOT {
         shown[PAGED_START + i] = 0xff;
@@ -111,7 +113,7 @@ fn cover_slot(shown: &mut [u8], roms: &RomSet, slot: u8)
     requires addresses { length shown.old ≡ ADDRESSES }
     requires slot { slot < 16 }
     ensures length { length shown.new ≡ ADDRESSES }
-    ensures covered { HasSlot shown.old roms.now.slots slot shown.new }
+    ensures covered { HasBytes shown.old PAGED_START (2 * HALF_SLOT) (λ at. rom_byte roms.now.slots slot (at - PAGED_START)) shown.new }
 {
     match roms.rom(slot) {
         Some(rom) => {
@@ -194,7 +196,7 @@ fn beats(clock: Clock, span: u64) -> u64
 // From tick `k` on, the next one at which something comes and below `t`: all microseconds below `t` and before the next event, or the events of
 // that tick. Answers the tick behind them at which something comes next.
 #[inline(always)]
-fn go_on(
+fn beats_or_events(
     devices: &mut Devices,
     playback: &mut Playback,
     ram: &[u8],
@@ -307,7 +309,7 @@ impl Board {
     {
         let mut next = self.next;
         while next < t {
-            next = go_on(
+            next = beats_or_events(
                 &mut self.devices,
                 &mut self.playback,
                 &self.ram,
@@ -427,6 +429,7 @@ impl Board {
 
     /// Whether a device asks for an interrupt.
     #[inline(always)]
+    #[tactic(auto, unfolding(host_devices::specs::Devices::devices_ask))]
     pub(crate) fn irq(&self) -> bool
         ensures { result ≡ board_irq self.now }
     {

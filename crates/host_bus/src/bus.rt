@@ -4,7 +4,8 @@ ghost use Rattle.std.proofs.Props.{props};
 ghost use Rattle.sn76489.specs.Samples.{NeverFallFrom};
 ghost use Rattle.host_devices.specs.Map.{place_of, stretch};
 ghost use Rattle.host_bus.specs.Board.{answer_at, read_at, written_at};
-ghost use Rattle.host_bus.specs.Bus.{bus_closed, closed_at, clock_of, bus_answer, bus_after_read, bus_after_write, bus_irq, bus_nmis, bus_break_pending, bus_next_break, bus_break_taken, bus_disc, bus_power_on};
+ghost use Rattle.host_bus.specs.Bus.{bus_closed, closed_at, clock_of, bus_answer, bus_after_read, bus_after_write, bus_irq};
+ghost use Rattle.host_bus.specs.Bus.{bus_nmis, bus_break_pending, bus_next_break, bus_break_taken, bus_disc, bus_power_on};
 ghost use Rattle.host_bus.specs.Peek.{bus_peek};
 ghost use Rattle.host_bus.specs.Lag.{IsBehind, IsCalm};
 
@@ -164,6 +165,7 @@ impl<D: BusDevice> Bus<D> {
     }
 
     // A read in SHEILA at the last tick that is done.
+    #[tactic(auto, using(crate::proofs::CalmThere::behind_there))]
     fn read_device(&mut self, at: u16) -> u8
         requires low { 0xfe00 ≤ at }
         requires high { at ≤ 0xfeff }
@@ -253,6 +255,7 @@ impl<D: BusDevice> Bus<D> {
 
     /// A tick up to which the lines to the processor surely stay as they are, wherever the bus is closed.
     #[inline(always)]
+    #[tactic(auto, using(crate::proofs::CalmThere::calm_there))]
     pub fn calm(&self) -> u64
         ensures { IsCalm result (bus_seen D.plug self.now).board }
     {
@@ -358,6 +361,7 @@ impl<D: BusDevice> Bus<D> {
     }
 
     /// Steps the devices as far as the bus is closed. They may lag behind, which is seen nowhere but in `disc` and `frames`.
+    #[tactic(auto, using(crate::proofs::CalmThere::behind_there))]
     pub fn settle(&mut self)
         ensures same { bus_seen D.plug self.new ≡ bus_seen D.plug self.old }
         ensures stepped { bus_stepped D.plug self.new ≡ bus_seen D.plug self.new }

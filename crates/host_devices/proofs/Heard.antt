@@ -1,5 +1,5 @@
 -- The writes to the sound chip stay in time.
-use Rattle.std.proofs.Common.{◌≡◌, ◌≤◌, ◌<◌, ◌+◌, ◌*◌, sym, subst, refl, ℕ, nat_lt, Bool, true, false, List, [], ◌∷◌, ◌++◌, length, if◌then◌else◌, arith}
+use Rattle.std.proofs.Common.{◌≡◌, ◌≤◌, ◌<◌, ◌+◌, ◌*◌, refl, ℕ, nat_lt, Bool, true, false, List, [], ◌∷◌, ◌++◌, length, if◌then◌else◌, arith}
 use Rattle.sn76489.specs.declared.SoundWrite.{SoundWrite}
 use Rattle.sn76489.specs.Samples.{NeverFallFrom}
 use Rattle.std.specs.Int.{div_ceil}
@@ -10,13 +10,12 @@ use Rattle.host_devices.specs.Sound.{moment_at, with_write, last_moment_from, Is
 use Rattle.host_devices.proofs.Beats.{some-micro}
 
 -- as ticks go by
-pub in-time-later : (u closed t : ℕ) (sound : List SoundWrite) → IsInTime u closed sound → closed ≤ t → IsInTime u t sound
-in-time-later u closed t sound h low = record { order = h.order; last = omega (arith, low, h.last) }
+pub in-time-later : {u closed : ℕ} (t : ℕ) {sound : List SoundWrite} → IsInTime u closed sound → closed ≤ t → IsInTime u t sound
+in-time-later t h low = record { order = h.order; last = omega (arith, low, h.last) }
 
 -- before the first
-pub first-in-time : (c : Clock) (sound : List SoundWrite) → sound ≡ [] → IsInTime (micro c) 0 sound
-first-in-time c sound none =
-    subst (λ (writes : List SoundWrite). IsInTime (micro c) 0 writes) (sym none) (record { order = tt; last = omega (arith, some-micro c) })
+pub first-in-time : (c : Clock) {sound : List SoundWrite} → sound ≡ [] → IsInTime (micro c) 0 sound
+first-in-time c none = rw none (record { order = tt; last = omega (arith, some-micro c) })
 
 order-behind : (m : ℕ) (sound : List SoundWrite) (w : SoundWrite) → NeverFallFrom m sound → last_moment_from m sound ≤ w.moment → NeverFallFrom m (sound ++ w ∷ [])
 order-behind m [] w order late = (late, tt)
@@ -44,9 +43,9 @@ in-time-by c {closed} w {sound} true now h = record {
 }
 in-time-by c w false now h = h
 
-pub in-time-with : (c : Clock) (closed : ℕ) (w : SoundWrite) (sound : List SoundWrite) → w.moment ≡ moment_at (micro c) closed → IsInTime (micro c) closed sound →
+pub in-time-with : (c : Clock) {closed : ℕ} (w : SoundWrite) {sound : List SoundWrite} → w.moment ≡ moment_at (micro c) closed → IsInTime (micro c) closed sound →
     IsInTime (micro c) closed (with_write w sound)
-in-time-with c closed w sound now h = in-time-by c w (nat_lt (length sound) 1048576) now h
+in-time-with c w {sound} now h = in-time-by c w (nat_lt (length sound) 1048576) now h
 
 -- the code's division
 pub rounded-up : (c : Clock) (closed : ℕ) → div_ceil closed (micro c) ≡ moment_at (micro c) closed

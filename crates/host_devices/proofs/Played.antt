@@ -1,10 +1,11 @@
 -- What the events of a script make of the tables of keys and levels.
-use Rattle.std.proofs.Common.{◌≡◌, ◌∙◌, sym, refl, ap, ℕ, ◌+◌, ◌<◌, ◌≤◌, ◌==◌, zero, suc, Bool, true, false}
-use Rattle.std.proofs.Common.{cond, inl, inr, List, [], ◌∷◌, ◌++◌, replicate, length, drop, get_or, Option, Some, None, if◌then◌else◌, arith}
-use Rattle.std.proofs.lemmas.Bool.{cases_eq, ne_eqb, eq-eqb, le-leb, lt-leb}
+use Rattle.std.proofs.Common.{◌≡◌, ◌∙◌, sym, refl, ap, ℕ, ◌+◌, ◌<◌, ◌≤◌, ◌==◌, zero, suc, Bool, false}
+use Rattle.std.proofs.Common.{cond, List, [], ◌∷◌, ◌++◌, replicate, length, drop, get_or, Option, Some, None, if◌then◌else◌, arith}
+use Rattle.std.proofs.lemmas.Bool.{ne_eqb, eq-eqb, le-leb, lt-leb}
 use Rattle.std.proofs.lemmas.List.{drop_more, append_assoc, append-nil, get_or-set_same, get_or-set_other}
 use Rattle.std.proofs.lemmas.List.Sums.{sum_by-append}
 use Rattle.std.specs.Prelude.{unwrap_or, slice_set}
+use Rattle.beeb_bits.specs.Zeros.{zeros, zeros-at}
 use Rattle.keyboard.specs.Keys.{Keys, keys_of}
 use Rattle.key_script.specs.declared.Event.{Event}
 use Rattle.key_script.specs.declared.What.{What}
@@ -29,25 +30,15 @@ none-said kind first k [] later low = refl
 none-said kind first k (e ∷ left) later low =
     rw (none-said kind (tick_of e) k left later.1 (omega (arith, later.0, low)), lt-leb (tick_of e) k (omega (arith, later.0, low)))
 
-flip : (a b : ℕ) → (a == b) ≡ (b == a)
-flip a b = grind arith
-
 -- what an event makes of a key, or else what the table says, is what the table says after the event
-said-or : {A : Type 0} (b : Bool) (value old : A) → unwrap_or (if b then Some value else None) old ≡ (if b then value else old)
-said-or true value old = refl
-said-or false value old = refl
-
 pub key-or : (what : What) (keys : Keys) (key : ℕ) → unwrap_or (made_of key what) (keys key) ≡ keys_after what keys key
-key-or (Down k) keys key = rw (flip k key) (said-or (key == k) true (keys key))
-key-or (Up k) keys key = rw (flip k key) (said-or (key == k) false (keys key))
+key-or (Down k) keys key = grind arith
+key-or (Up k) keys key = grind arith
 key-or _ keys key = refl
 
 -- and of a channel
 set-or : (levels : List ℕ) {c : ℕ} (level i : ℕ) → c < length levels → unwrap_or (if c == i then Some level else None) (level_of levels i) ≡ level_of (slice_set levels c level) i
-set-or levels {c} level i low = elim (cases_eq c i) [
-  | inl same ↦ rw (eq-eqb c i same, ← same, get_or-set_same levels c level 0 low) refl
-  | inr other ↦ rw (ne_eqb c i other, get_or-set_other levels c i level 0 (λ same. other (sym same))) refl
-]
+set-or levels {c} level i low = grind (arith, get_or-set_same levels c level 0 low, get_or-set_other levels c i level 0)
 
 pub level-or : (what : What) (levels : List ℕ) (i : ℕ) → IsInRange what → length levels ≡ 4 → unwrap_or (level_given i what) (level_of levels i) ≡ level_of (level_turned what levels) i
 level-or (Level c level) levels i low four = set-or levels level i (omega (arith, low, four))
@@ -57,49 +48,43 @@ or-both : {A : Type 0} (a b : Option A) (d : A) → unwrap_or (or_earlier a b) d
 or-both (Some last) b d = refl
 or-both None b d = refl
 
--- one event more is done, which turns a table as it says
-pub left-more : {A : Type 0} (kind : ℕ → What → Option A) (first : A) (script : List Event) {place : ℕ} (d : Event) (table : ℕ → A) {on : ℕ → A} {t : ℕ} →
-    place < length script → tick_of (get_or script place d) + 1 ≡ t →
-    ((i : ℕ) → unwrap_or (kind i ((get_or script place d).what)) (table i) ≡ on i) → IsLeft kind first script (drop place script) table t →
-    IsLeft kind first script (drop (place + 1) script) on t
-left-more kind first script {place} d table low at turns left = λ k i late.
-    let e = get_or script place d in
-    let rest = drop (place + 1) script in
-    let now : said_by (kind i) k e ≡ kind i e.what = ap (λ (b : Bool). if b then kind i e.what else None) (le-leb (tick_of e) k (omega (arith, at, late))) in
-    rw (drop_more script place d low, or-both (last_said (kind i) k rest) (said_by (kind i) k e) (table i), now, turns i) at (left k i late)
+module _ {A : Type 0} (kind : ℕ → What → Option A) (first : A) (script : List Event) where
+  -- one event more is done, which turns a table as it says
+  pub left-more : {place : ℕ} (d : Event) (table : ℕ → A) {on : ℕ → A} {t : ℕ} → place < length script → tick_of (get_or script place d) + 1 ≡ t →
+      ((i : ℕ) → unwrap_or (kind i ((get_or script place d).what)) (table i) ≡ on i) → IsLeft kind first script (drop place script) table t →
+      IsLeft kind first script (drop (place + 1) script) on t
+  left-more {place} d table low at turns left = λ k i late.
+      let e = get_or script place d in
+      let rest = drop (place + 1) script in
+      let now : said_by (kind i) k e ≡ kind i e.what = ap (λ (b : Bool). if b then kind i e.what else None) (le-leb (tick_of e) k (omega (arith, at, late))) in
+      rw (drop_more script place d low, or-both (last_said (kind i) k rest) (said_by (kind i) k e) (table i), now, turns i) at (left k i late)
 
--- of a tick more
-pub left-later : {A : Type 0} (kind : ℕ → What → Option A) (first : A) (script left : List Event) (table : ℕ → A) {t u : ℕ} → IsLeft kind first script left table t →
-    t ≤ u → IsLeft kind first script left table u
-left-later kind first script left table h low = λ k i late. h k i (omega (arith, late, low))
+  -- of a tick more
+  pub left-later : (left : List Event) (table : ℕ → A) {t u : ℕ} → IsLeft kind first script left table t → t ≤ u → IsLeft kind first script left table u
+  left-later left table h low = λ k i late. h k i (omega (arith, late, low))
 
--- at the last tick that is done each thing is as the table says
-said-is : {A : Type 0} (kind : ℕ → What → Option A) (first : A) (script left : List Event) (table : ℕ → A) (t event : ℕ) → IsLeft kind first script left table (t + 1) →
-    NeverFallsFrom event left → t + 1 ≤ event → (i : ℕ) → table i ≡ unwrap_or (last_said (kind i) t script) first
-said-is kind first script left table t event h later early = λ i.
-    sym (rw (none-said (kind i) event t left later (omega (arith, early))) at (h t i (omega arith)))
-
-pub keys-are : (script left : List Event) (keys : Keys) (t event : ℕ) → IsLeft made_of false script left keys (t + 1) → NeverFallsFrom event left → t + 1 ≤ event →
-    keys ≡ keys_at t script
-keys-are script left keys t event h later early = λ i. λ key. said-is made_of false script left keys t event h later early key i
+  -- from the last tick that is done up to the next event each thing is as the table says
+  said-is : (left : List Event) (table : ℕ → A) (t k event : ℕ) → IsLeft kind first script left table t → NeverFallsFrom event left → t ≤ k + 1 → k < event →
+      (i : ℕ) → table i ≡ unwrap_or (last_said (kind i) k script) first
+  said-is left table t k event h later late early = λ i. sym (rw (none-said (kind i) event k left later early) at (h k i late))
 
 -- no level is given yet
 pub no-level : (channel : ℕ) → level_of (replicate 4 0) channel ≡ 0
-no-level zero = refl
-no-level (suc zero) = refl
-no-level (suc (suc zero)) = refl
-no-level (suc (suc (suc zero))) = refl
-no-level (suc (suc (suc (suc channel)))) = refl
+unfolding zeros
+no-level channel = zeros-at 4 channel
 
 four-levels : (levels : List ℕ) → length levels ≡ 4 → levels ≡ level_of levels 0 ∷ level_of levels 1 ∷ level_of levels 2 ∷ level_of levels 3 ∷ []
 four-levels (a ∷ b ∷ c ∷ d ∷ []) four = refl
 four-levels _ four = absurd (omega (arith, four))
 
-pub levels-are : (script left : List Event) {levels : List ℕ} (t : ℕ) {event : ℕ} → length levels ≡ 4 → IsLeft level_given 0 script left (level_of levels) (t + 1) →
-    NeverFallsFrom event left → t + 1 ≤ event → levels ≡ levels_at t script
-levels-are script left {levels} t {event} four h later early =
-    let is = said-is level_given 0 script left (level_of levels) t event h later early in
-    four-levels levels four ∙ rw (is 0, is 1, is 2, is 3) refl
+-- the keys and the levels are so, then
+pub stay : {p : Playback} {t : ℕ} (k : ℕ) → IsPlayed p t → t ≤ k + 1 → k < p.event → (keys_of p.keys ≡ keys_at k p.script) × (p.levels ≡ levels_at k p.script)
+stay {p} {t} k h late early =
+    let left = drop p.place p.script in
+    let level = said-is level_given 0 p.script left (level_of p.levels) t k p.event h.at_level h.later late early in (
+      λ i. λ key. said-is made_of false p.script left (keys_of p.keys) t k p.event h.is_left h.later late early key i,
+      four-levels p.levels h.four ∙ rw (level 0, level 1, level 2, level 3) refl,
+    )
 
 -- no shot comes before the first event
 pub no-shots : {first k : ℕ} (left : List Event) → NeverFallsFrom first left → k < first → shots_at k left ≡ zero
@@ -111,25 +96,12 @@ no-shots {k} (e ∷ left) later low =
 abbrev pub HasNone : List Event → ℕ → ℕ → Type 0
 HasNone script from to = (k : ℕ) → from ≤ k → k < to → shots_at k script ≡ 0
 
-pub none-between : (script left : List Event) (c event next : ℕ) → HasLeft script left c → NeverFallsFrom event left → next ≤ event → HasNone script c next
-none-between script left c event next has later low = λ k from to. has k from ∙ no-shots left later (omega (arith, to, low))
+pub none-between : {p : Playback} {t : ℕ} (next : ℕ) → IsPlayed p t → next ≤ p.event → HasNone p.script t next
+none-between {p} next h low = λ k from to. h.has_left k from ∙ no-shots (drop p.place p.script) h.later (omega (arith, to, low))
 
 -- one event more is done, whose frame was taken if it was a shot
 shot-by : (shot : Bool) (n : ℕ) (frame : List ℕ) (old : List (List ℕ)) → (if shot then old ++ frame ∷ [] else old) ++ replicate n frame ≡ old ++ replicate (if shot then suc n else n) frame
-shot-by true n frame old = append_assoc old (frame ∷ []) (replicate n frame)
-shot-by false n frame old = refl
-
-shot-more : (script : List Event) {place k : ℕ} (d : Event) (frame : List ℕ) (old : List (List ℕ)) {new : List (List ℕ)} → place < length script → tick_of (get_or script place d) ≡ k →
-    new ≡ (if is_shot (get_or script place d) then old ++ frame ∷ [] else old) →
-    new ++ replicate (shots_at k (drop (place + 1) script)) frame ≡ old ++ replicate (shots_at k (drop place script)) frame
-shot-more script {place} {k} d frame old low at is =
-    let e = get_or script place d in
-    rw (is, drop_more script place d low, eq-eqb (tick_of e) k at) (shot-by (is_shot e) (shots_at k (drop (place + 1) script)) frame old)
-
-has-more : (script : List Event) {place k : ℕ} (d : Event) → place < length script → tick_of (get_or script place d) ≡ k → HasLeft script (drop place script) (k + 1) →
-    HasLeft script (drop (place + 1) script) (k + 1)
-has-more script {place} d low at has = λ i late.
-    rw (drop_more script place d low, ne_eqb (tick_of (get_or script place d)) i (λ same. omega (arith, same, at, late))) at (has i late)
+shot-by shot n frame old = grind (arith, append_assoc old (frame ∷ []) (replicate n frame))
 
 -- What is true of the frames while the events of tick k are done: those taken, with those that are left of it, are all of that tick.
 pub record AreTaken (script : List Event) (place k : ℕ) (frame : List ℕ) (so_far all : List (List ℕ)) : Type 0 where
@@ -138,8 +110,12 @@ pub record AreTaken (script : List Event) (place k : ℕ) (frame : List ℕ) (so
 
 pub taken-more : {script : List Event} {place k : ℕ} (d : Event) {frame : List ℕ} {old new all : List (List ℕ)} → place < length script → tick_of (get_or script place d) ≡ k →
     new ≡ (if is_shot (get_or script place d) then old ++ frame ∷ [] else old) → AreTaken script place k frame old all → AreTaken script (place + 1) k frame new all
-taken-more {script} d {frame} {old} low at is so =
-    record { has_left = has-more script d low at so.has_left; taken = shot-more script d frame old low at is ∙ so.taken }
+taken-more {script} {place} {k} d {frame} {old} low at is so =
+    let e = get_or script place d in
+    record {
+      has_left = λ i late. rw (drop_more script place d low, ne_eqb (tick_of e) i (λ same. omega (arith, same, at, late))) at (so.has_left i late);
+      taken = rw is (shot-by (is_shot e) (shots_at k (drop (place + 1) script)) frame old ∙ (rw (drop_more script place d low, eq-eqb (tick_of e) k at) at so.taken));
+    }
 
 -- there is memory for the shots that are left behind it
 pub room-more : (script : List Event) {place : ℕ} (d : Event) {old new : ℕ} → place < length script → new + shots (get_or script place d ∷ []) ≡ old →
@@ -155,8 +131,8 @@ pub all-shot : (left : List Event) (k : ℕ) (frame : List ℕ) {new all : List 
 all-shot left k frame {new} later so = rw (no-shots {k = k} left later (omega arith), append-nil new) at so
 
 -- a tick before the next event
-pub played-later : (p : Playback) (t u : ℕ) → IsPlayed p t → t ≤ u → u ≤ p.event → IsPlayed p u
-played-later p t u h low high = record {
+pub played-later : {p : Playback} {t : ℕ} (u : ℕ) → IsPlayed p t → t ≤ u → u ≤ p.event → IsPlayed p u
+played-later {p} u h low high = record {
   within = h.within;
   room = h.room;
   has_left = λ k late. h.has_left k (omega (arith, late, low));
@@ -166,14 +142,3 @@ played-later p t u h low high = record {
   later = h.later;
   early = high;
 }
-
--- before the next event the keys and the levels are what they are now
-pub keys-stay : (p : Playback) (t k : ℕ) → IsPlayed p t → t ≤ k + 1 → k < p.event → keys_of p.keys ≡ keys_at k p.script
-keys-stay p t k h late early =
-    keys-are p.script (drop p.place p.script) (keys_of p.keys) k p.event
-    (left-later made_of false p.script (drop p.place p.script) (keys_of p.keys) h.is_left late) h.later (omega (arith, early))
-
-pub levels-stay : (p : Playback) (t k : ℕ) → IsPlayed p t → t ≤ k + 1 → k < p.event → p.levels ≡ levels_at k p.script
-levels-stay p t k h late early =
-    levels-are p.script (drop p.place p.script) k h.four
-    (left-later level_given 0 p.script (drop p.place p.script) (level_of p.levels) h.at_level late) h.later (omega (arith, early))

@@ -1,7 +1,7 @@
 -- Which breaks of a script are before a place, and which are up to a tick.
-use Rattle.std.proofs.Common.{◌≡◌, ◌∙◌, sym, refl, ℕ, ◌+◌, ◌<◌, ◌≤◌, ◌&&◌, zero, suc, Bool, true, false, cond, nat_le}
-use Rattle.std.proofs.Common.{nat_lt, zero-add, List, [], ◌∷◌, ◌++◌, All, length, drop, take, get_or, filter, count_by, Some, None, inl, inr, arith}
-use Rattle.std.proofs.lemmas.Bool.{cases_lt, cases_Bool, le-leb, lt-leb}
+use Rattle.std.proofs.Common.{◌≡◌, ◌∙◌, sym, refl, ℕ, ◌+◌, ◌<◌, ◌≤◌, zero, suc, Bool, true, false, cond}
+use Rattle.std.proofs.Common.{nat_lt, zero-add, List, [], ◌∷◌, ◌++◌, All, length, drop, take, get_or, filter, count_by, Some, None, inl, inr, if◌then◌else◌, arith}
+use Rattle.std.proofs.lemmas.Bool.{cases_lt, cases_Bool, le-leb, lt-leb, lt-ltb}
 use Rattle.std.proofs.lemmas.List.{drop_more, take-append-drop}
 use Rattle.std.proofs.lemmas.List.Elements.{filter-append, All-drop}
 use Rattle.std.proofs.lemmas.List.Sums.{sum_by-cons, sum_by-take-drop, length-filter}
@@ -113,14 +113,7 @@ few-below t place events =
   where
     fewer : (t : ℕ) (l : List Event) → count_by (is_break_by t) l ≤ count_by is_break l
     fewer t [] = omega arith
-    fewer t (e ∷ l) =
-        let rest = fewer t l in
-        let one : cond (is_break e && nat_le (tick_of e) t) 1 0 ≤ cond (is_break e) 1 0 = less (is_break e) (nat_le (tick_of e) t) in
-        omega (arith, count-first (is_break_by t) e l, count-first is_break e l, rest, one)
-      where
-        less : (a b : Bool) → cond (a && b) 1 0 ≤ cond a 1 0
-        less true true = omega arith
-        less _ _ = omega arith
+    fewer t (e ∷ l) = grind (arith, fewer t l, count-first (is_break_by t) e l, count-first is_break e l)
 
 pub not-pending : (t place : ℕ) (events : List Event) → NeverFallsFrom 0 events → t < break_tick (drop place events) → nat_lt (breaks_before place events) (breaks_until t events) ≡ false
 not-pending t place events order low =
@@ -145,29 +138,17 @@ number-is place events =
     rw (all, ← length-filter is_break (take place events), drop-append_seam before behind) refl
 
 -- the tick of a first break is one, so the last number tells that there is none
-pub tick-or-none : (events : List Event) → All IsEvent events → break_tick events < 18446744073709551615 → first_tick (filter is_break events) ≡ Some (break_tick events)
-tick-or-none [] all low = absurd (omega (arith, low))
-tick-or-none (e ∷ events) all low =
-    elim (cases_Bool (is_break e)) [
-      | inl is ↦ rw is refl
-      | inr is ↦ rw is (tick-or-none events (λ k d h. all (suc k) d (omega (arith, h))) (omega (arith, tick-later e events is, low)))
-    ]
-
-pub none-or-tick : (events : List Event) → All IsEvent events → 18446744073709551615 ≤ break_tick events → first_tick (filter is_break events) ≡ None
-none-or-tick [] all high = refl
-none-or-tick (e ∷ events) all high =
-    elim (cases_Bool (is_break e)) [
-      | inl is ↦ absurd (omega (arith, tick-here e events is, high, (all 0 e (omega arith)).tick))
-      | inr is ↦ rw is (none-or-tick events (λ k d h. all (suc k) d (omega (arith, h))) (omega (arith, tick-later e events is, high)))
-    ]
+tick-is : (events : List Event) → All IsEvent events → first_tick (filter is_break events) ≡ (if nat_lt (break_tick events) 18446744073709551615 then Some (break_tick events) else None)
+tick-is [] all = refl
+tick-is (e ∷ events) all = elim (cases_Bool (is_break e)) [
+  | inl is ↦ rw (is, lt-ltb (tick_of e) 18446744073709551615 (omega (arith, (all 0 e (omega arith)).tick))) refl
+  | inr is ↦ rw is (tick-is events (λ k d h. all (suc k) d (omega (arith, h))))
+]
 
 -- the tick of the next, as the code tells it
-pub next-some : (place : ℕ) {events : List Event} → IsScript events → break_tick (drop place events) < 18446744073709551615 →
-    break_number (breaks_before place events) events ≡ Some (break_tick (drop place events))
-next-some place {events} rules low = number-is place events ∙ tick-or-none (drop place events) (All-drop IsEvent place events rules.each) low
-
-pub next-none : (place : ℕ) {events : List Event} → IsScript events → 18446744073709551615 ≤ break_tick (drop place events) → break_number (breaks_before place events) events ≡ None
-next-none place {events} rules high = number-is place events ∙ none-or-tick (drop place events) (All-drop IsEvent place events rules.each) high
+pub next-is : (place : ℕ) {events : List Event} → IsScript events →
+    break_number (breaks_before place events) events ≡ (if nat_lt (break_tick (drop place events)) 18446744073709551615 then Some (break_tick (drop place events)) else None)
+next-is place {events} rules = number-is place events ∙ tick-is (drop place events) (All-drop IsEvent place events rules.each)
 
 -- where one is pending, the tick of the first has come
 pub pending-due : (t place : ℕ) (events : List Event) → NeverFallsFrom 0 events → nat_lt (breaks_before place events) (breaks_until t events) ≡ true → break_tick (drop place events) ≤ t

@@ -1,5 +1,5 @@
 -- The devices while the two lines between them stay what they are.
-use Rattle.std.proofs.Common.{◌≡◌, ◌∙◌, sym, ap, refl, ℕ, zero, suc, ◌+◌, ◌-◌, ◌≤◌, Bool, List, [], ◌∷◌, ◌++◌, replicate, subst, arith}
+use Rattle.std.proofs.Common.{◌≡◌, ◌∙◌, sym, ap, refl, ℕ, zero, suc, ◌+◌, ◌-◌, ◌≤◌, List, [], ◌∷◌, ◌++◌, replicate, subst, arith}
 use Rattle.std.proofs.Math.Nat.{zero-add, suc-add}
 use Rattle.std.proofs.lemmas.List.{length-append, length-replicate}
 use Rattle.saa5050.specs.Shapes.{Font}
@@ -12,8 +12,6 @@ use Rattle.adc7002.specs.State as adc
 use Rattle.adc7002.specs.Registers.{cb1}
 use Rattle.adc7002.specs.Step as conversion
 use Rattle.adc7002.specs.Calm.{KeepsItsLine}
-use Rattle.via6522.specs.declared.Pins.{Pins}
-use Rattle.via6522.specs.State as via
 use Rattle.via6522.specs.Step.{step, steps}
 use Rattle.via6522.specs.Registers.{asks}
 use Rattle.keyboard.specs.Keys.{Keys}
@@ -72,20 +70,21 @@ line_stays_on levels {m} {a} less keeps = λ on few.
     ∙ keeps (first ++ on) (rw (length-append first on, length-replicate m levels) (omega (arith, less, few)))
     ∙ sym (keeps first (rw (length-replicate m levels) less))
 
--- one microsecond of them is one step of each
-pub one_apart : (ram : List ℕ) (font : Font) (keys : Keys) (levels : List ℕ) (d : Devices) → StaysInSync 1 d.video → KeepsItsLine 1 d.converter →
-    microsecond ram font keys levels d ≡ record d {
-      video = raster_after ram font d;
-      disc = turn.step d.disc;
-      converter = conversion.step levels d.converter;
-      system = step (system_pins (beam.vsync_of d.video) (cb1 d.converter) keys d) d.system;
-      user = step user_pins d.user;
-    }
+-- one step of each
+abbrev one_of_each : List ℕ → Font → Keys → List ℕ → Devices → Devices
+one_of_each ram font keys levels d = record d {
+  video = raster_after ram font d;
+  disc = turn.step d.disc;
+  converter = conversion.step levels d.converter;
+  system = step (system_pins (beam.vsync_of d.video) (cb1 d.converter) keys d) d.system;
+  user = step user_pins d.user;
+}
+
+-- is one microsecond of them
+one_apart : (ram : List ℕ) (font : Font) (keys : Keys) (levels : List ℕ) (d : Devices) → StaysInSync 1 d.video → KeepsItsLine 1 d.converter →
+    microsecond ram font keys levels d ≡ one_of_each ram font keys levels d
 unfolding microsecond
-one_apart ram font keys levels d stays keeps =
-    let sync : beam.vsync_of (raster_after ram font d) ≡ beam.vsync_of d.video = stays ram (screen_size d.latch) font 1 (omega arith) in
-    let line : cb1 (conversion.step levels d.converter) ≡ cb1 d.converter = keeps (levels ∷ []) (omega arith) in
-    rw (sync, line) refl
+one_apart ram font keys levels d stays keeps = rw (stays ram (screen_size d.latch) font 1 (omega arith), keeps (levels ∷ []) (omega arith)) refl
 
 -- steps of the disc controller from the front
 disc_front : (n : ℕ) (s : disc.State) → turn.steps n (turn.step s) ≡ turn.steps (suc n) s
@@ -93,52 +92,28 @@ unfolding turn.steps
 disc_front zero s = refl
 disc_front (suc n) s = ap (λ (x : disc.State). turn.step x) (disc_front n s)
 
-via_front : (pins : Pins) (n : ℕ) (c : via.State) → steps pins n (step pins c) ≡ steps pins (suc n) c
-unfolding steps
-via_front pins n c = refl
-
-adc_front : (levels : List ℕ) (n : ℕ) (a : adc.State) → conversion.steps levels n (conversion.step levels a) ≡ conversion.steps levels (suc n) a
-unfolding conversion.steps
-adc_front levels n a = refl
-
-none_apart : (ram : List ℕ) (font : Font) (keys : Keys) (levels : List ℕ) {d : Devices} → d ≡ each_by_itself ram font keys levels 0 d
-unfolding conversion.steps turn.steps steps
-none_apart ram font keys levels = refl
-
-all_same : (d : Devices) {v w : picture.State} {x y : disc.State} {a b : adc.State} {s t u r : via.State} → v ≡ w → x ≡ y → a ≡ b → s ≡ t → u ≡ r →
-    record d { video = v; disc = x; converter = a; system = s; user = u } ≡ record d { video = w; disc = y; converter = b; system = t; user = r }
-all_same d o p q e f = λ i. record d { video = o i; disc = p i; converter = q i; system = e i; user = f i }
-
 -- and n microseconds are n steps of each
 pub apart : SyncStaysOn → AreApart
-apart on ram font keys levels zero d stays keeps = none_apart ram font keys levels
+unfolding conversion.steps turn.steps steps
+apart on ram font keys levels zero d stays keeps = refl
 apart on ram font keys levels (suc n) d stays keeps =
-    let one = one_apart ram font keys levels d (λ r z f k low. stays r z f k (omega (arith, low))) (λ l few. keeps l (omega (arith, few))) in
     let less : suc n - 1 ≡ n = omega arith in
-    let size = screen_size d.latch in
-    let sync = subst (λ (k : ℕ). StaysInSync k (raster_after ram font d)) less (on (suc n) 1 size ram font d.video (omega arith) stays) in
-    let line : KeepsItsLine n (conversion.step levels d.converter) =
-    rw (← one_step levels d.converter) (subst (λ (k : ℕ). KeepsItsLine k (conversion.steps levels 1 d.converter)) less (line_stays_on levels (omega arith) keeps)) in
-    let pins : Bool → Bool → Pins = λ vsync line. system_pins vsync line keys d in
-    let system : steps (pins (beam.vsync_of (raster_after ram font d)) (cb1 (conversion.step levels d.converter))) n (step (pins (beam.vsync_of d.video) (cb1 d.converter)) d.system)
-    ≡ steps (pins (beam.vsync_of d.video) (cb1 d.converter)) (suc n) d.system =
-    rw (stays ram size font 1 (omega arith), keeps (levels ∷ []) (omega arith)) (via_front (pins (beam.vsync_of d.video) (cb1 d.converter)) n d.system) in
-    ap (λ (x : Devices). microseconds ram font keys levels n x) one
-    ∙ apart on ram font keys levels n _ sync line
-    ∙ all_same d refl (disc_front n d.disc) (adc_front levels n d.converter) system (via_front user_pins n d.user)
+    let sync = subst (λ (k : ℕ). StaysInSync k (raster_after ram font d)) less (on (suc n) 1 (screen_size d.latch) ram font d.video (omega arith) stays) in
+    let line = subst (λ (k : ℕ). KeepsItsLine k (conversion.step levels d.converter)) less (line_stays_on levels {m = 1} (omega arith) keeps) in
+    rw (
+      one_apart ram font keys levels d (λ r z f k low. stays r z f k (omega (arith, low))) (λ l few. keeps l (omega (arith, few))),
+      apart on ram font keys levels n (one_of_each ram font keys levels d) sync line,
+      stays ram (screen_size d.latch) font 1 (omega arith),
+      keeps (levels ∷ []) (omega arith),
+      disc_front n d.disc,
+    ) refl
 
 -- m microseconds of n, of each device by itself, and the rest
-pub gone_apart : AreApart →
-    (ram : List ℕ) (font : Font) (keys : Keys) (levels : List ℕ) {n m size : ℕ} {pins : Pins} (d : Devices) {v : picture.State} {x : disc.State} {a : adc.State} {s u : via.State} →
-    m ≤ n → StaysInSync m d.video → KeepsItsLine m d.converter → size ≡ screen_size d.latch → pins ≡ system_pins (beam.vsync_of d.video) (cb1 d.converter) keys d →
-    v ≡ beam.microseconds ram size font m d.video → x ≡ turn.steps m d.disc → a ≡ conversion.steps levels m d.converter → s ≡ steps pins m d.system → u ≡ steps user_pins m d.user →
-    microseconds ram font keys levels (n - m) (record d { video = v; disc = x; converter = a; system = s; user = u }) ≡ microseconds ram font keys levels n d
-gone_apart law ram font keys levels {n} {m} d {v} {x} {a} {s} {u} less sync line is_size is_pins pv px pa ps pu =
+pub gone_apart : AreApart → (ram : List ℕ) (font : Font) (keys : Keys) (levels : List ℕ) {n m : ℕ} (d : Devices) → m ≤ n → StaysInSync m d.video → KeepsItsLine m d.converter →
+    microseconds ram font keys levels (n - m) (each_by_itself ram font keys levels m d) ≡ microseconds ram font keys levels n d
+gone_apart law ram font keys levels {n} {m} d less sync line =
     let all : m + (n - m) ≡ n = omega (arith, less) in
-    let there : record d { video = v; disc = x; converter = a; system = s; user = u } ≡ each_by_itself ram font keys levels m d =
-    all_same d (rw is_size at pv) px pa (rw is_pins at ps) pu in
-    ap (λ (y : Devices). microseconds ram font keys levels (n - m) y) (there ∙ sym (law ram font keys levels m d sync line))
-    ∙ rw all at (all_add ram font keys levels m (n - m) d)
+    rw (← law ram font keys levels m d sync line, all_add ram font keys levels m (n - m) d, all) refl
 
 -- the lines to the processor stay while those between the devices do, and no chip changes its own
 pub are_calm : AreApart → {keys : Keys} {n : ℕ} {d : Devices} → StaysInSync n d.video → KeepsItsLine n d.converter →

@@ -10,7 +10,8 @@ ghost use Rattle.keyboard.specs.Keys.{keys_of};
 ghost use Rattle.keyboard.specs.Latch.{screen_size};
 ghost use Rattle.host_devices.specs.Apart.{AreCalm};
 ghost use Rattle.host_devices.specs.CodePicture.{drawn};
-ghost use Rattle.host_devices.specs.Devices.{system_pins, raster_after, microsecond, last_frame, microseconds, register_answer, holds_still, register_read, register_written, after_latch, sound_line, sound_data, devices_ask, devices_reset, first_devices};
+ghost use Rattle.host_devices.specs.Devices.{system_pins, raster_after, microsecond, last_frame, microseconds, register_answer, holds_still, register_read, register_written};
+ghost use Rattle.host_devices.specs.Devices.{after_latch, sound_line, sound_data, devices_ask, devices_reset, first_devices};
 
 use crate::law::devices_go_on_apart;
 use crate::map::Device;
@@ -57,14 +58,11 @@ pub struct Devices {
 
 impl Model for Devices {
     ghost use Rattle.host_devices.specs.CodePicture.{Behind};
-    ghost use Rattle.host_devices.specs.CodeDevices.{AreInStep};
+    ghost use Rattle.host_devices.specs.CodeDevices.{AreInStep, behind};
 
     ghost Value = { Behind };
 
-    ghost view = { λ d. record {
-      devices = record { video = d.video; disc = d.disc; latch = d.latch.bits; converter = d.converter; system = d.system; user = d.user };
-      owed = d.owed;
-    } };
+    ghost view = { behind };
 
     ghost invariant = { AreInStep };
 }
@@ -193,7 +191,14 @@ impl Devices {
 
     // Does some of `n` microseconds, and answers how many are left: those in which the lines between the devices stay as they are, of each
     // device by itself, where the picture owes them, or one by one where a line may change.
-    fn go_on(&mut self, ram: &[u8], letters: &Letters, keys: &Keys, levels: [u16; 4], n: u64) -> u64
+    fn some_microseconds(
+        &mut self,
+        ram: &[u8],
+        letters: &Letters,
+        keys: &Keys,
+        levels: [u16; 4],
+        n: u64,
+    ) -> u64
         requires ram { length ram.now ≡ 32768 }
         requires some { 0 < n }
         ensures fewer { result < n }
@@ -226,7 +231,7 @@ impl Devices {
     {
         let mut left = n;
         while left > 0 {
-            left = self.go_on(ram, letters, keys, levels, left);
+            left = self.some_microseconds(ram, letters, keys, levels, left);
         }
     }
 

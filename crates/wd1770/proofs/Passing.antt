@@ -1,17 +1,15 @@
 -- Steps at which nothing comes, one after the other.
-use Rattle.std.proofs.Common.{◌≡◌, ◌≢◌, ◌∙◌, sym, refl, ap, ℕ, zero, suc, ◌+◌, ◌-◌, ◌*◌, ◌/◌, ◌%◌, ◌<◌, ◌≤◌, ◌==◌, ◌&&◌, nat_lt, Bool, true, false}
-use Rattle.std.proofs.Common.{if◌then◌else◌, Option, None, Some, add-zero, add-suc, arith, inl, inr}
+use Rattle.std.proofs.Common.{◌≡◌, ◌≢◌, ◌∙◌, sym, refl, ap, ℕ, zero, suc, ◌+◌, ◌-◌, ◌*◌, ◌%◌}
+use Rattle.std.proofs.Common.{◌<◌, ◌≤◌, ◌==◌, nat_lt, Bool, true, false, if◌then◌else◌, Option, None, Some, add-zero, add-suc, arith, inl, inr}
 use Rattle.std.proofs.lemmas.Bool.{cases_lt, lt-ltb}
 use Rattle.std.proofs.lemmas.Bool.Decides.{nat_tests}
 use Rattle.wd1770.specs.declared.drive.Target.{Target}
 use Rattle.wd1770.specs.declared.command.Command.{Command}
 use Rattle.wd1770.specs.declared.command.Command.TheVariants.{Idle, Moving, Settling, Searching, Transferring, SeekingAddress, GivingAddress, Refusing}
-use Rattle.wd1770.specs.declared.command.Transfer.{Transfer}
 use Rattle.wd1770.specs.State.{State}
-use Rattle.wd1770.specs.Select.{is_single_density, disc_in}
 use Rattle.wd1770.specs.Ends.{is_busy, is_asking, count_leaves}
-use Rattle.wd1770.specs.Sectors.{is_on_disc, is_found, search_step, places_into}
-use Rattle.wd1770.specs.Addresses.{is_address, address_search_step}
+use Rattle.wd1770.specs.Sectors.{is_found, places_into}
+use Rattle.wd1770.specs.Addresses.{is_address}
 use Rattle.wd1770.specs.Step.{next_angle, command_step, work_leaves, step, steps}
 use Rattle.wd1770.specs.CodeQuiet.{angle_later, command_later, later, steps_between, steps_before, quiet_steps, RestsFor}
 use Rattle.wd1770.proofs.Runs.{stays}
@@ -24,10 +22,7 @@ next_below None = omega arith
 next_below (Some a) = omega arith
 
 later_some : (m : ℕ) (a : Option ℕ) → angle_later (suc m) a ≡ Some ((next_angle a + m) % 200000)
-later_some m a =
-    let some : (suc m == 0) ≡ false = test_false (suc m) 0 (λ e. omega (arith, e)) in
-    let less : suc m - 1 ≡ m = omega arith in
-    rw (some, less) refl
+later_some m a = grind (arith, nat_tests)
 
 -- the angle a step later
 pub angle_more : (m : ℕ) (a : Option ℕ) → Some (next_angle (angle_later m a)) ≡ angle_later (suc m) a
@@ -71,65 +66,35 @@ both : (b : Bool) (s : State) → (if b then s else s) ≡ s
 both true s = refl
 both false s = refl
 
-end_off : (b c : Bool) → (b && false && c) ≡ false
-end_off true c = refl
-end_off false c = refl
-
-middle_off : (b c d : Bool) → (b && c && false && d) ≡ false
-middle_off true true d = refl
-middle_off true false d = refl
-middle_off false c d = refl
-
 unfound : (target : Target) (angle : ℕ) (u : State) → (angle == 64 * (312 * u.sector)) ≡ false → is_found target angle u ≡ false
-unfound target angle u off = rw off (middle_off (is_single_density u.latch) (target.head == u.track) (is_on_disc (disc_in target.drive u) target u.sector))
-
-search_on : (t : Transfer) (left angle : ℕ) (u : State) → is_found t.target angle u ≡ false → nat_lt 1 left ≡ true →
-    search_step t left angle u ≡ record u { command = Searching t (left - 1) }
-search_on t left angle u off more = rw (off, more) refl
+unfound target angle u off = grind (arith, off)
 
 unlooked : (target : Target) (angle : ℕ) (u : State) → (angle % (64 * 312) == 0) ≡ false → is_address target angle u ≡ false
-unlooked target angle u off = rw off (end_off (is_single_density u.latch) (is_on_disc (disc_in target.drive u) target (angle / (64 * 312))))
-
-address_on : (target : Target) (left angle : ℕ) (u : State) → is_address target angle u ≡ false → nat_lt 1 left ≡ true →
-    address_search_step target left angle u ≡ record u { command = SeekingAddress target (left - 1) }
-address_on target left angle u off more = rw (off, more) refl
+unlooked target angle u off = grind (arith, off)
 
 -- a step at which nothing comes
 idle : (m : ℕ) (s : State) → s.command ≡ Idle → work_leaves (later m s) ≡ later (suc m) s
 idle m s is = let time : s.motor - m - 1 ≡ s.motor - suc m = omega arith in rw (is, angle_more m s.angle, time) refl
 
+waits : (m left : ℕ) → m < left - 1 → (nat_lt 1 (left - m) ≡ true) × (left - m - 1 ≡ left - suc m)
+waits m left inside = (lt-ltb 1 (left - m) (omega arith), omega arith)
+
 passes : (m : ℕ) (c : Command) (s : State) → s.command ≡ c → m < quiet_steps c s.angle s.sector → work_leaves (later m s) ≡ later (suc m) s
 passes m Idle s is inside = idle m s is
-passes m (Moving t left) s is inside =
-    let more : nat_lt 1 (left - m) ≡ true = lt-ltb 1 (left - m) (omega arith) in
-    let less : left - m - 1 ≡ left - suc m = omega arith in
-    rw (is, angle_more m s.angle, more, less) refl
-passes m (Settling t left) s is inside =
-    let more : nat_lt 1 (left - m) ≡ true = lt-ltb 1 (left - m) (omega arith) in
-    let less : left - m - 1 ≡ left - suc m = omega arith in
-    rw (is, angle_more m s.angle, more, less) refl
+passes m (Moving t left) s is inside = let (more, less) = waits m left inside in rw (is, angle_more m s.angle, more, less) refl
+passes m (Settling t left) s is inside = let (more, less) = waits m left inside in rw (is, angle_more m s.angle, more, less) refl
 passes m (Searching t left) s is inside =
-    let more : nat_lt 1 (left - m) ≡ true = lt-ltb 1 (left - m) (omega arith) in
-    let less : left - m - 1 ≡ left - suc m = omega arith in
-    let before : m < steps_before s.angle s.sector = omega arith in
-    let u : State = record (later m s) { angle = Some (next_angle (angle_later m s.angle)) } in
-    let off : is_found t.target (next_angle (angle_later m s.angle)) u ≡ false = unfound t.target (next_angle (angle_later m s.angle)) u (no_sector s.sector m s.angle before) in
-    ap (λ (c : Command). command_step (command_later m c) (next_angle (angle_later m s.angle)) u) is
-    ∙ search_on t (left - m) (next_angle (angle_later m s.angle)) u off more ∙ rw (is, angle_more m s.angle, less) refl
-passes m (Transferring t k) s is inside =
-    let none = no_place k m s.angle inside in
-    rw (is, none, angle_more m s.angle, both t.writes) refl
+    let (more, less) = waits m left (omega arith) in
+    let next = next_angle (angle_later m s.angle) in
+    let u : State = record (later m s) { angle = Some next } in
+    ap (λ (c : Command). command_step (command_later m c) next u) is ∙ rw (unfound t.target next u (no_sector s.sector m s.angle (omega arith)), more, is, angle_more m s.angle, less) refl
+passes m (Transferring t k) s is inside = rw (is, no_place k m s.angle inside, angle_more m s.angle, both t.writes) refl
 passes m (SeekingAddress t left) s is inside =
-    let more : nat_lt 1 (left - m) ≡ true = lt-ltb 1 (left - m) (omega arith) in
-    let less : left - m - 1 ≡ left - suc m = omega arith in
-    let before : m < steps_between s.angle = omega arith in
-    let u : State = record (later m s) { angle = Some (next_angle (angle_later m s.angle)) } in
-    let off : is_address t (next_angle (angle_later m s.angle)) u ≡ false = unlooked t (next_angle (angle_later m s.angle)) u (no_start m s.angle before) in
-    ap (λ (c : Command). command_step (command_later m c) (next_angle (angle_later m s.angle)) u) is
-    ∙ address_on t (left - m) (next_angle (angle_later m s.angle)) u off more ∙ rw (is, angle_more m s.angle, less) refl
-passes m (GivingAddress t k) s is inside =
-    let none = no_place k m s.angle inside in
-    rw (is, none, angle_more m s.angle) refl
+    let (more, less) = waits m left (omega arith) in
+    let next = next_angle (angle_later m s.angle) in
+    let u : State = record (later m s) { angle = Some next } in
+    ap (λ (c : Command). command_step (command_later m c) next u) is ∙ rw (unlooked t next u (no_start m s.angle (omega arith)), more, is, angle_more m s.angle, less) refl
+passes m (GivingAddress t k) s is inside = rw (is, no_place k m s.angle inside, angle_more m s.angle) refl
 passes m Refusing s is inside = absurd (omega arith)
 
 pub quiet_one : (m : ℕ) (s : State) → m < quiet_steps s.command s.angle s.sector → step (later m s) ≡ later (suc m) s
@@ -181,13 +146,7 @@ quiet_rests n m s inside k within =
 
 idle_is : (c : Command) → is_busy c ≡ false → c ≡ Idle
 idle_is Idle free = refl
-idle_is (Moving m left) free = cc
-idle_is (Settling t left) free = cc
-idle_is (Searching t left) free = cc
-idle_is (Transferring t k) free = cc
-idle_is (SeekingAddress target left) free = cc
-idle_is (GivingAddress target k) free = cc
-idle_is Refusing free = cc
+idle_is _ free = cc
 
 pub rest_is : (n : ℕ) (s t : State) → is_busy s.command ≡ false → t ≡ later n s → later 0 t ≡ steps n s
 rest_is n s t free is =

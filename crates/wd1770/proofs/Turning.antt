@@ -7,13 +7,11 @@ use Rattle.wd1770.specs.declared.drive.DriveNumber.TheVariants.{Drive0, Drive1}
 use Rattle.wd1770.specs.declared.drive.Target.{Target}
 use Rattle.wd1770.specs.declared.command.Command.{Command}
 use Rattle.wd1770.specs.declared.command.Command.TheVariants.{Idle, Moving, Settling, Searching, Transferring, SeekingAddress, GivingAddress, Refusing}
-use Rattle.wd1770.specs.declared.command.Motion.{Motion}
 use Rattle.wd1770.specs.declared.command.Transfer.{Transfer}
 use Rattle.wd1770.specs.State.{State}
 use Rattle.wd1770.specs.Select.{with_drive}
-use Rattle.wd1770.specs.Motion.{motion_step}
-use Rattle.wd1770.specs.Sectors.{search_step, sector_ended, reading_at, writing_at, written_in, places_into, transfer_step}
-use Rattle.wd1770.specs.Addresses.{address_search_step, address_at}
+use Rattle.wd1770.specs.Sectors.{reading_at, writing_at, written_in, places_into}
+use Rattle.wd1770.specs.Addresses.{address_at}
 use Rattle.wd1770.specs.Step.{next_angle, command_step, step}
 
 -- both branches have the angle
@@ -30,28 +28,13 @@ byte_put None target k at v s = refl
 byte_put (Some Drive0) target k at v s = refl
 byte_put (Some Drive1) target k at v s = refl
 
-at_end : (t : Transfer) (s : State) → (sector_ended t s).angle ≡ s.angle
-at_end t s = grind arith
-
-in_motion : (m : Motion) (left : ℕ) (s : State) → (motion_step m left s).angle ≡ s.angle
-in_motion m left s = grind (arith, drive_put)
-
-in_search : (t : Transfer) (left angle : ℕ) (s : State) → (search_step t left angle s).angle ≡ s.angle
-in_search t left angle s = grind arith
-
 in_reading : (t : Transfer) (k : ℕ) (place : Option ℕ) (s : State) → (reading_at t k place s).angle ≡ s.angle
 in_reading t k None s = refl
-in_reading t k (Some place) s = grind (arith, at_end)
+in_reading t k (Some place) s = grind arith
 
 in_writing : (t : Transfer) (k : ℕ) (place : Option ℕ) (s : State) → (writing_at t k place s).angle ≡ s.angle
 in_writing t k None s = refl
-in_writing t k (Some place) s = grind (arith, at_end, byte_put)
-
-in_transfer : (t : Transfer) (k angle : ℕ) (s : State) → (transfer_step t k angle s).angle ≡ s.angle
-in_transfer t k angle s = grind (arith, in_writing, in_reading)
-
-in_address_search : (target : Target) (left angle : ℕ) (s : State) → (address_search_step target left angle s).angle ≡ s.angle
-in_address_search target left angle s = grind arith
+in_writing t k (Some place) s = grind (arith, byte_put)
 
 in_address : (target : Target) (k : ℕ) (place : Option ℕ) (s : State) → (address_at target k place s).angle ≡ s.angle
 in_address target k None s = refl
@@ -59,11 +42,11 @@ in_address target k (Some place) s = grind arith
 
 keeps_angle : (c : Command) (angle : ℕ) (s : State) → (command_step c angle s).angle ≡ s.angle
 keeps_angle Idle angle s = refl
-keeps_angle (Moving m left) angle s = in_motion m left s
+keeps_angle (Moving m left) angle s = grind (arith, drive_put)
 keeps_angle (Settling t left) angle s = refl
-keeps_angle (Searching t left) angle s = in_search t left angle s
-keeps_angle (Transferring t k) angle s = in_transfer t k angle s
-keeps_angle (SeekingAddress target left) angle s = in_address_search target left angle s
+keeps_angle (Searching t left) angle s = grind arith
+keeps_angle (Transferring t k) angle s = grind (arith, in_writing, in_reading)
+keeps_angle (SeekingAddress target left) angle s = grind arith
 keeps_angle (GivingAddress target k) angle s = in_address target k (places_into k angle) s
 keeps_angle Refusing angle s = refl
 

@@ -1,5 +1,6 @@
 -- Type II commands: read and write sectors. Place p passes where the angle is 64p, and sector k begins at place 312k.
-use Rattle.std.specs.Prelude.{ℕ, ◌+◌, ◌-◌, ◌*◌, ◌/◌, ◌%◌, ◌==◌, ◌&&◌, ◌||◌, nat_lt, nat_le, Bool, true, false, not, List, slice_index, Option, None, Some, option_map, if◌then◌else◌}
+use Rattle.std.specs.Prelude.{ℕ, ◌+◌, ◌-◌, ◌*◌, ◌/◌, ◌%◌, ◌==◌, ◌&&◌, ◌||◌, nat_lt, nat_le}
+use Rattle.std.specs.Prelude.{Bool, true, false, not, List, slice_index, Option, None, Some, option_map, if◌then◌else◌}
 use Rattle.beeb_bits.specs.Bits.{bit}
 use Rattle.disc_image.specs.Image.{Image, has_sector, sector_of, byte_put}
 use Rattle.wd1770.specs.declared.drive.Drive.{Drive}

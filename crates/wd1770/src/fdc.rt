@@ -120,12 +120,12 @@ impl Fdc {
     {
         let mut left = n;
         while left > 0 {
-            left = self.go_on(left);
+            left = self.some_steps(left);
         }
     }
 
     // Does some of `n` steps, and answers how many are left.
-    fn go_on(&mut self, n: u64) -> u64
+    fn some_steps(&mut self, n: u64) -> u64
         requires { 0 < n }
         ensures fewer { result < n }
         ensures rest { steps result self.new ≡ steps n self.old }

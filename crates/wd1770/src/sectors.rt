@@ -1,6 +1,7 @@
 //! Type II commands: read and write sectors.
 ghost use Rattle.std.specs.Prelude.{◌≡◌, ◌<◌, ◌-◌, true, false, Some, MatchOption};
-ghost use Rattle.wd1770.specs.Sectors.{search_of, transfer_of, sectors_of, settle_step, is_found, search_step, places_into, is_byte_place, sector_ended, byte_came, written_in, byte_written, reading_at, writing_at, transfer_step};
+ghost use Rattle.wd1770.specs.Sectors.{search_of, transfer_of, sectors_of, settle_step, is_found, search_step, places_into, is_byte_place, sector_ended};
+ghost use Rattle.wd1770.specs.Sectors.{byte_came, written_in, byte_written, reading_at, writing_at, transfer_step};
 
 use crate::command::{Command, Transfer};
 use crate::controller::Controller;

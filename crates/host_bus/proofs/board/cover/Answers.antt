@@ -1,13 +1,14 @@
-use Rattle.std.proofs.Common.{ℕ, ◌+◌, ◌∙◌, sym, subst, slice_set, arith}
+use Rattle.std.proofs.Common.{◌≡◌, ℕ, ◌+◌, ◌-◌, ◌∙◌, ap, arith}
+use Rattle.std.specs.Prelude.{slice_index}
 use Rattle.std.proofs.Math.ListN.{length-set}
-use Rattle.host_bus.specs.CodeReads.{Covered}
-use Rattle.host_bus.proofs.Ram.{covered_more}
+use Rattle.host_bus.proofs.Ram.{one_more}
 use Rattle.host_bus.proofs.board.cover.Goals as goal
 
 pub loop-i-preserved : goal.loop-i-preserved
 loop-i-preserved c =
     let (length, covered) = c.loop-i.invariant in
-    let more = covered_more c.args.shown.now c.args.roms.now.os c.loop-i.shown c.loop-i.i c.os.result covered (omega (arith, length)) c.os.ensures in (
+    let here : c.loop-i.i ≡ 49152 + c.loop-i.i - 49152 = omega arith in
+    rw c.from.ensures (
       length-set c.loop-i.shown _ c.os.result ∙ length,
-      subst (λ (at : ℕ). Covered c.args.shown.now c.args.roms.now.os (c.loop-i.i + 1) (slice_set c.loop-i.shown (49152 + at) c.os.result)) (sym c.from.ensures) more,
+      one_more c.os.result covered (omega (arith, length)) (c.os.ensures ∙ ap (λ (k : ℕ). slice_index c.args.roms.now.os k) here),
     )

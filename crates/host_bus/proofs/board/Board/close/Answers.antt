@@ -1,10 +1,9 @@
-use Rattle.std.proofs.Common.{◌≡◌, ◌≤◌, ◌-◌, ◌∙◌, sym, ap, subst, ℕ, min, List, arith}
-use Rattle.beeb_bits.specs.Clock.{micro}
+use Rattle.std.proofs.Common.{◌≡◌, ◌≤◌, ◌∙◌, ap, min, List, arith}
 use Rattle.key_script.specs.declared.Event.{Event}
-use Rattle.host_bus.specs.Board.{BoardState, around, moving_part, ticks, board_closed}
+use Rattle.host_bus.specs.Board.{BoardState, board_closed}
 use Rattle.host_bus.specs.CodeBoard.{board_seen, moving}
 use Rattle.host_devices.specs.CodePicture.{drawn}
-use Rattle.host_devices.specs.CodeBreaks.{IsNextBreak, breaks_before}
+use Rattle.host_devices.specs.CodeBreaks.{breaks_before}
 use Rattle.host_devices.proofs.Heard.{in-time-later}
 use Rattle.host_bus.proofs.Closed.{valid-later, seen-later, gone, caught}
 use Rattle.host_bus.proofs.board.Board.close.Goals as goal
@@ -16,11 +15,9 @@ loop-next-init c =
     let u = min b.next c.args.t in
     let same : b.closed ≡ c.args.self.now.closed = ap (λ (s : BoardState). s.closed) c.self.view_is in
     let low : b.closed ≤ u = omega (arith, same, c.requires.low, valid.on_time.first, valid.on_time.least, valid.played.early) in
-    let high : u ≤ b.next = omega arith in
     record {
-      valid = valid-later b u valid low high;
-      same = caught (board_seen b) (board_seen (record b { closed = u })) (board_closed c.args.self.now c.args.t) u c.args.t
-          (seen-later b u valid low high) (omega arith) (ap (λ (s : BoardState). board_closed s c.args.t) c.self.view_is);
+      valid = valid-later u valid low (omega arith);
+      same = caught (board_seen b) u c.args.t (seen-later u valid low (omega arith)) (omega arith) (ap (λ (s : BoardState). board_closed s c.args.t) c.self.view_is);
     }
 
 pub loop-next-preserved : goal.loop-next-preserved
@@ -28,19 +25,17 @@ loop-next-preserved c =
     let next = c.loop-next.next in
     let b = record c.loop-next.self-inside { closed = min next c.args.t; next = next } in
     let valid = c.loop-next.invariant.valid in
-    let done = rw c.deref.ensures.value at c.go_on-next.ensures in
-    let p = c.go_on-next.new.playback in
-    let u = min c.args.t c.go_on-next.result in
-    let same : min c.go_on-next.result c.args.t ≡ u = omega arith in
+    let done = rw c.deref.ensures.value at c.beats_or_events-next.ensures in
+    let p = c.beats_or_events-next.new.playback in
+    let u = min c.args.t c.beats_or_events-next.result in
+    let same : min c.beats_or_events-next.result c.args.t ≡ u = omega arith in
     let here : next ≡ min next c.args.t = omega (arith, c.loop-next-test.true) in
     let past : next ≤ u = omega (arith, c.loop-next-test.true, done.on) in
-    let after = drawn b.ram.items b.letters.font c.go_on-next.new.devices in
-    let moved = subst (λ (k : ℕ). moving after p.shots.frames ≡ ticks (around (board_seen b)) (u - k) k (moving_part (board_seen b))) here done.ticks in
+    let after = drawn b.ram.items b.letters.font c.beats_or_events-next.new.devices in
     let with_script : List Event → BoardState =
     λ script. record (board_seen b) { script = script; breaks = breaks_before b.breaks.place script; devices = after; shots = p.shots.frames; closed = u } in
-    let went : board_seen (record b { playback = p; devices = c.go_on-next.new.devices; closed = u }) ≡ board_closed (board_seen b) u =
-    ap (λ (script : List Event). with_script script) done.script
-    ∙ gone (board_seen b) u (moving after p.shots.frames) (omega (arith, past, here)) moved in
+    let went : board_seen (record b { playback = p; devices = c.beats_or_events-next.new.devices; closed = u }) ≡ board_closed (board_seen b) u =
+    ap with_script done.script ∙ gone (board_seen b) u (moving after p.shots.frames) (omega (arith, past, here)) (rw here at done.ticks) in
     rw same (record {
       valid = record {
         memory = valid.memory;
@@ -49,21 +44,20 @@ loop-next-preserved c =
         slot = valid.slot;
         played = done.played;
         on_time = done.next;
-        next_break = subst (λ (script : List Event). IsNextBreak b.breaks script) (sym done.script) valid.next_break;
-        in_time = in-time-later (micro b.clock) b.closed u b.sound valid.in_time (omega (arith, past, here));
+        next_break = rw done.script valid.next_break;
+        in_time = in-time-later u valid.in_time (omega (arith, past, here));
       };
-      same = caught (board_seen b) (board_seen (record b { playback = p; devices = c.go_on-next.new.devices; closed = u }))
-          (board_closed c.args.self.now c.args.t) u c.args.t went (omega arith) c.loop-next.invariant.same;
+      same = caught (board_seen b) u c.args.t went (omega arith) c.loop-next.invariant.same;
     })
 
 pub invariant_of-self : goal.invariant_of-self
 invariant_of-self c =
     let next = c.loop-next.next in
     let b = record c.loop-next.self-inside { closed = min next c.args.t; next = next } in
-    valid-later b c.args.t c.loop-next.invariant.valid (omega arith) c.loop-next-test.false
+    valid-later c.args.t c.loop-next.invariant.valid (omega arith) c.loop-next-test.false
 
 pub returns : goal.returns
 returns c =
     let next = c.loop-next.next in
     let b = record c.loop-next.self-inside { closed = min next c.args.t; next = next } in
-    seen-later b c.args.t c.loop-next.invariant.valid (omega arith) c.loop-next-test.false ∙ c.loop-next.invariant.same
+    seen-later c.args.t c.loop-next.invariant.valid (omega arith) c.loop-next-test.false ∙ c.loop-next.invariant.same

@@ -7,6 +7,5 @@ pub take-requires-clause-due : goal.take-requires-clause-due
 take-requires-clause-due c =
     let b = c.self.inside in
     let kept = c.self.invariant.next_break in
-    let due = pending-due c.args.t b.breaks.place b.playback.script kept.rules.order
-    (ap (λ (s : BoardState). break_pending s c.args.t) c.self.view_is ∙ c.requires.pending) in
+    let due = pending-due c.args.t b.breaks.place b.playback.script kept.rules.order (ap (λ (s : BoardState). break_pending s c.args.t) c.self.view_is ∙ c.requires.pending) in
     omega (arith, due, kept.next)

@@ -1,8 +1,6 @@
-use Rattle.std.proofs.Common.{◌∙◌, ap, subst, sym, ℕ, List}
+use Rattle.std.proofs.Common.{◌∙◌, ap, ℕ}
 use Rattle.std.specs.Int.{div_ceil}
-use Rattle.beeb_bits.specs.Clock.{micro}
 use Rattle.sn76489.specs.declared.SoundWrite.{SoundWrite}
-use Rattle.host_devices.specs.Sound.{IsInTime}
 use Rattle.host_devices.proofs.Heard.{rounded-up, in-time-with}
 use Rattle.host_bus.proofs.board.Board.write_system.Goals as goal
 
@@ -20,5 +18,5 @@ invariant_of-self c =
       played = valid.played;
       on_time = valid.on_time;
       next_break = valid.next_break;
-      in_time = subst (λ (sound : List SoundWrite). IsInTime (micro b.clock) b.closed sound) (sym c.tell.ensures) (in-time-with b.clock b.closed write b.sound now valid.in_time);
+      in_time = rw c.tell.ensures (in-time-with b.clock write now valid.in_time);
     }

@@ -1,7 +1,6 @@
-use Rattle.std.proofs.Common.{◌≡◌, ◌≤◌, ◌∙◌, ap, sym, max, arith}
-use Rattle.host_bus.specs.Board.{BoardState, board_closed}
+use Rattle.std.proofs.Common.{◌≡◌, ◌≤◌, ap, refl, max, arith}
+use Rattle.host_bus.specs.Board.{BoardState}
 use Rattle.host_bus.specs.Closing.{board-again}
-use Rattle.host_bus.specs.View.{bus_seen}
 use Rattle.host_bus.proofs.bus.Bus.catch_up.Goals as goal
 
 pub invariant_of-self : goal.invariant_of-self
@@ -23,5 +22,4 @@ returns g c =
     let b = c.args.self.now in
     let t = c.args.t in
     let low : max b.closed b.board.closed ≤ t = c.requires.low in
-    ap (λ (s : BoardState). record (bus_seen g.D.BusDevice.plug b) { board = s })
-    (ap (λ (s : BoardState). board_closed s t) c.close.ensures ∙ board-again b.board t t (omega arith) ∙ sym (board-again b.board b.closed t (omega (arith, low))))
+    rw (c.close.ensures, board-again b.board t t (omega arith), board-again b.board b.closed t (omega (arith, low))) refl

@@ -1,8 +1,7 @@
 use Rattle.std.proofs.Common.{◌≡◌, ◌≤◌, ◌+◌, ◌∙◌, ap, max, arith}
-use Rattle.host_bus.specs.Board.{BoardState, board_closed, break_taken}
+use Rattle.host_bus.specs.Board.{BoardState, break_taken}
 use Rattle.host_bus.specs.Bus.{BusState, bus_break_pending, bus_break_taken}
 use Rattle.host_bus.specs.Closing.{board-still}
-use Rattle.host_bus.specs.View.{bus_stepped}
 use Rattle.host_bus.proofs.bus.Bus.take_break.Goals as goal
 
 pub take_break-requires-clause-pending : goal.take_break-requires-clause-pending
@@ -22,22 +21,14 @@ invariant_of-self g c =
       };
     }
 
-pub returns-clause-after : goal.returns-clause-after
-returns-clause-after g c =
-    let b = c.settle.new.self in
-    let t = (c.args.t).0 in
-    let there : b.board.closed ≡ max b.closed b.board.closed = ap (λ (s : BusState). s.board.closed) c.settle.ensures.stepped in
-    ap (λ (s : BoardState). record (bus_stepped g.D.BusDevice.plug b) { board = s })
-    (ap (λ (s : BoardState). board_closed s b.closed) c.take_break.ensures ∙ board-still (break_taken b.board t) b.closed (omega (arith, there)))
-    ∙ ap (λ (s : BusState). bus_break_taken s t) (c.settle.ensures.stepped ∙ c.settle.ensures.same ∙ c.close.ensures)
-
-pub returns-clause-closed : goal.returns-clause-closed
-returns-clause-closed g c =
+pub returns : goal.returns
+returns g c =
     let b = c.settle.new.self in
     let old = c.args.self.now in
-    let next = (c.args.t).0 + 1 in
-    let low : max old.closed old.board.closed ≤ next = c.requires.later in
-    let there : max b.closed b.board.closed ≡ max next (max old.closed old.board.closed) = ap (λ (s : BusState). s.board.closed) (c.settle.ensures.same ∙ c.close.ensures) in
-    let taken : c.take_break.new.self.closed ≡ b.board.closed = ap (λ (s : BoardState). s.closed) c.take_break.ensures in
-    let same : max b.closed c.take_break.new.self.closed ≡ next = omega (arith, low, there, taken) in
-    same
+    let t = (c.args.t).0 in
+    let same = c.settle.ensures.same ∙ c.close.ensures in
+    let there : b.board.closed ≡ max b.closed b.board.closed = ap (λ (s : BusState). s.board.closed) c.settle.ensures.stepped in
+    let low : max old.closed old.board.closed ≤ t + 1 = c.requires.later in
+    let now : max b.closed b.board.closed ≡ max (t + 1) (max old.closed old.board.closed) = ap (λ (s : BusState). s.board.closed) same in
+    rw (c.take_break.ensures, board-still (break_taken b.board t) b.closed (omega (arith, there)))
+    (record { after = ap (λ (s : BusState). bus_break_taken s t) (c.settle.ensures.stepped ∙ same); closed = omega (arith, low, there, now) })

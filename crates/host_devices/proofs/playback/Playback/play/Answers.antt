@@ -2,20 +2,20 @@ use Rattle.std.proofs.Common.{◌+◌, drop, arith}
 use Rattle.host_devices.proofs.Played.{not-before}
 use Rattle.host_devices.proofs.playback.Playback.play.Goals as goal
 
-pub happen-requires-clause-later : goal.happen-requires-clause-later
-happen-requires-clause-later c =
+pub happen-requires : goal.happen-requires
+happen-requires c =
     let p = c.args.self.now in
-    rw c.events-events.ensures.events
-    (not-before (drop p.place p.script) c.requires.played.later c.requires.played.early)
-
-pub happen-requires-clause-has_left : goal.happen-requires-clause-has_left
-happen-requires-clause-has_left c = rw c.events-events.ensures.events c.requires.played.has_left
-
-pub happen-requires-clause-is_left : goal.happen-requires-clause-is_left
-happen-requires-clause-is_left c = rw c.events-events.ensures.events c.requires.played.is_left
-
-pub happen-requires-clause-at_level : goal.happen-requires-clause-at_level
-happen-requires-clause-at_level c = rw c.events-events.ensures.events c.requires.played.at_level
+    let played = c.requires.played in
+    rw c.events-events.ensures.events (record {
+      rules = c.events-events.ensures.rules.each;
+      within = played.within;
+      room = played.room;
+      is_left = played.is_left;
+      at_level = played.at_level;
+      has_left = played.has_left;
+      later = not-before (drop p.place p.script) played.later played.early;
+      four = played.four;
+    })
 
 pub returns-clause-played : goal.returns-clause-played
 returns-clause-played c =

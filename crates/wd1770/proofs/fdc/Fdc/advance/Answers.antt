@@ -6,6 +6,6 @@ use Rattle.wd1770.proofs.fdc.Fdc.advance.Goals as goal
 
 pub returns-then-n-from : goal.returns-then-n-from
 returns-then-n-from c =
-    let inside : c.self.inside.past + c.args.n ≤ quiet_steps (c.self.inside.controller).command (c.self.inside.controller).angle (c.self.inside.controller).sector =
-    omega (arith, c.from.ensures, c.self.invariant.0, c.self.invariant.1) in
-    sym (quiet_many c.args.n c.self.inside.past c.self.inside.controller inside) ∙ ap (steps c.args.n) c.self.view_is
+    let s = c.self.inside.controller in
+    let inside : c.self.inside.past + c.args.n ≤ quiet_steps s.command s.angle s.sector = omega (arith, c.from.ensures, c.self.invariant.0, c.self.invariant.1) in
+    sym (quiet_many c.args.n c.self.inside.past s inside) ∙ ap (steps c.args.n) c.self.view_is
