@@ -1,32 +1,32 @@
 -- What is done at the operand, behind any way there.
-use Rattle.std.proofs.Common.{◌≡◌, ◌≢◌, ℕ, suc, ◌+◌, List, [], ◌∷◌, ◌++◌, length, Bool, true, false, cond, Option, Some, None, slice_get}
-use Rattle.std.proofs.Common.{MatchOption, refl, sym, subst, ap, ◌∙◌, arith, append_assoc, length-append}
+use Rattle.std.proofs.Common.{◌≡◌, ◌≢◌, ℕ, suc, ◌+◌, List, [], ◌∷◌, ◌++◌, length, Bool, true, false, Option, Some, None, slice_get}
+use Rattle.std.proofs.Common.{refl, sym, ap, ◌∙◌, arith, append_assoc, length-append}
 use Rattle.std.proofs.lemmas.List.{append-nil}
 use Rattle.op_table.specs.declared.names.Part.{Part}
 use Rattle.op_table.specs.declared.names.Part.TheVariants.{Nmos, Cmos}
 use Rattle.op_table.specs.declared.names.Mode.{Mode}
 use Rattle.op_table.specs.declared.names.Mode.TheVariants.{Acc}
 use Rattle.op_table.specs.declared.names.Mnemonic.{Mnemonic}
-use Rattle.op_table.specs.declared.names.Mnemonic.TheVariants.{Adc, Asl, Dec, Inc, Lsr, Rol, Ror, Sbc, Trb, Tsb}
+use Rattle.op_table.specs.declared.names.Mnemonic.TheVariants.{Adc, Asl, Sbc}
 use Rattle.op_table.specs.declared.rows.Row.{Row}
 use Rattle.cpu_alu.specs.declared.Regs.{Regs}
 use Rattle.cpu_alu.specs.declared.Cycle.{Cycle}
 use Rattle.cpu_alu.specs.declared.Cycle.TheVariants.{Read, Write}
 use Rattle.cpu_alu.specs.declared.uses.BusUse.{BusUse}
-use Rattle.cpu_alu.specs.declared.uses.BusUse.TheVariants.{Reads, Stores, Shifts, Modifies}
+use Rattle.cpu_alu.specs.declared.uses.BusUse.TheVariants.{Reads, Stores}
 use Rattle.cpu_alu.specs.declared.flags.TheConstants.{INTERRUPT}
 use Rattle.cpu_alu.specs.Flags.{has_flag}
 use Rattle.cpu_alu.specs.Addresses.{with_pc_past}
 use Rattle.cpu_alu.specs.Instructions.{bus_use, is_decimal, stored_value, modified_value, read_result, modify_result}
 use Rattle.cpu_core.specs.declared.Sequence.TheVariants.{Instruction}
-use Rattle.cpu_core.specs.Accesses.{row_at, waits, reach, address, operand, last_place, lasts_longer, cycle_between, modify_form, form}
-use Rattle.cpu_core.specs.Results.{after_row, after_opcode}
+use Rattle.cpu_core.specs.Accesses.{row_at, waits, reach, address, operand, lasts_longer, cycle_between, modify_form, form}
+use Rattle.cpu_core.specs.Results.{after_row}
 use Rattle.cpu_core.specs.Sequences.{shown_byte, next_cycle, after_byte, after, fresh}
 use Rattle.cpu_whole.specs.Whole.{Reach, IsPlain, IsDone, Carried, is_plain, shows, leaves}
-use Rattle.cpu_whole.specs.CodeWays.{Follows, IsReached, IsModifying, is_modifying, on_the_way, more_by}
+use Rattle.cpu_whole.specs.CodeWays.{Follows, IsReached, IsModifying, on_the_way, more_by}
 use Rattle.cpu_whole.specs.Outside.{IsOutside, CanTakeIn, access_of, adds, outcome}
 use Rattle.cpu_whole.specs.declared.outside.LastAccess.{LastAccess}
-use Rattle.cpu_whole.proofs.Cycles.{behind, next-row, on, from_fetch, more_by-suc, byte-seam, beyond}
+use Rattle.cpu_whole.proofs.Cycles.{behind, on, from_fetch, more_by-suc, byte-seam, beyond}
 use Rattle.cpu_whole.proofs.Masks.{read_kept, modify_kept}
 
 -- no sum is decimal but those
@@ -34,15 +34,6 @@ pub no-sum : (name : Mnemonic) (r : Regs) → adds name ≡ false → is_decimal
 no-sum Adc r h = cc
 no-sum Sbc r h = cc
 no-sum _ r h = refl
-
--- one cycle before others
-pub step : {M : Type 0} (g : Reach M) (t : ℕ) (next : List (Option ℕ) → Option Cycle) (k : ℕ) (f : List (Option ℕ)) (m : M) {c : Cycle} {f2 : List (Option ℕ)} {m2 : M} (last : List (Option ℕ))
-    (there : M)
-    → next f ≡ Some c → is_plain g c ≡ true → f ++ shown_byte (Some c) (shows g m c) ∷ [] ≡ f2 → leaves g t m (suc (length f)) c ≡ m2
-    → Follows g t next k f2 m2 last there → Follows g t next (suc k) f m last there
-step g t next k f m {c} last there is plain shown left rest =
-    subst (λ o. MatchOption o ⊥ (λ c. (is_plain g c ≡ true) × Follows g t next k (f ++ shown_byte (Some c) (shows g m c) ∷ []) (leaves g t m (suc (length f)) c) last there)) (sym is)
-    (plain, rw (shown, left) rest)
 
 -- at the operand
 module _ {part : Part} {M : Type 0} {g : Reach M} {t : ℕ} {way : Mode} {always : Bool} {r : Regs} {m : M} {at n : ℕ} (reached : IsReached part g t way always r m at n) where
@@ -54,19 +45,14 @@ module _ {part : Part} {M : Type 0} {g : Reach M} {t : ℕ} {way : Mode} {always
       (reached.steps rest) (omega (arith, h, length-append reached.seen rest))
 
   next-first : (tail : List (Option ℕ) → List Cycle) → on_the_way part way always r (g.byte m r.pc) tail reached.seen ≡ slice_get (tail reached.seen) 0
-  next-first tail = subst (λ (l : List (Option ℕ)). on_the_way part way always r (g.byte m r.pc) tail l ≡ slice_get (tail l) 0) (append-nil reached.seen) (next-there tail [] 0 refl)
+  next-first tail = rw (append-nil reached.seen) at (next-there tail [] 0 refl)
 
   found-first : address way r (Some (g.byte m r.pc) ∷ reached.seen) ≡ at
-  found-first = subst (λ (l : List (Option ℕ)). address way r (Some (g.byte m r.pc) ∷ l) ≡ at) (append-nil reached.seen) (reached.found [])
+  found-first = rw (append-nil reached.seen) at (reached.found [])
 
   -- the operand's byte
   operand-there : (x : ℕ) (rest : List (Option ℕ)) → operand part way always r (Some (g.byte m r.pc) ∷ reached.seen ++ Some x ∷ rest) ≡ x
   operand-there x rest = byte-seam reached.seen rest (g.byte m r.pc) x (length (reach part way always r (Some (g.byte m r.pc) ∷ reached.seen ++ Some x ∷ rest))) (reached.steps (Some x ∷ rest))
-
--- the registers of a row
-pub after-row : (part : Part) (row : Row) (r : Regs) (op : ℕ) (uses : BusUse) (f : List (Option ℕ)) → row_at part op ≡ Some row → bus_use row.mnemonic ≡ uses
-    → after part (behind r op f) ≡ after_row part uses row r (Some op ∷ f)
-after-row part row r op uses f decoded is = ap (λ (o : Option Row). after_opcode part o r (Some op ∷ f)) decoded ∙ ap (λ u. after_row part u row r (Some op ∷ f)) is
 
 -- an instruction whose accesses behind the opcode are those of the way, and then a list
 module _ {part : Part} {M : Type 0} {g : Reach M} {t : ℕ} {row : Row} {always : Bool} {r : Regs} {m : M} {at n : ℕ} (p : g.reads r.pc ≡ true) (decoded : row_at part (g.byte m r.pc) ≡ Some row)
@@ -79,10 +65,10 @@ module _ {part : Part} {M : Type 0} {g : Reach M} {t : ℕ} {row : Row} {always 
   next = on_the_way part row.mode always r code tail
 
   same : (f : List (Option ℕ)) → slice_get (form part (bus_use row.mnemonic) row r (Some code ∷ f)) (length f) ≡ next f
-  same f = ap (λ u. slice_get (form part u row r (Some code ∷ f)) (length f)) is_use ∙ forms f
+  same f = rw is_use (forms f)
 
   next-is : (f : List (Option ℕ)) → next_cycle part (behind r code f) ≡ next f
-  next-is f = next-row part code row r f decoded ∙ same f
+  next-is f = rw decoded (same f)
 
   -- so many of that list
   so-far : (j : ℕ) (last : List (Option ℕ)) (there : M) → Follows g t next j reached.seen m last there → {k : ℕ} → k ≡ n + j → Carried g t part k (fresh Instruction r) m (behind r code last) there
@@ -97,7 +83,7 @@ module _ {part : Part} {M : Type 0} {g : Reach M} {t : ℕ} {row : Row} {always 
     last = behind r code (reached.seen ++ rest);
     carried = so-far (length rest) (reached.seen ++ rest) there follows count;
     over = next-is (reached.seen ++ rest) ∙ next-there reached tail rest (length rest) refl ∙ past;
-    regs = after-row part row r code uses (reached.seen ++ rest) decoded is_use ∙ sym is;
+    regs = rw (decoded, is_use) (sym is);
     masks = kept;
   }
 
@@ -114,7 +100,7 @@ module _ {part : Part} {M : Type 0} {g : Reach M} {t : ℕ} {row : Row} {always 
         carried = so-far 0 reached.seen m (refl, refl) (omega (arith, count));
         next = there;
         over = λ x. ap (next_cycle part) (then_ x) ∙ next-is (reached.seen ++ f x ∷ []) ∙ next-there reached tail (f x ∷ []) 1 refl ∙ past x;
-        regs = λ x. ap (after part) (then_ x) ∙ after-row part row r code uses (reached.seen ++ f x ∷ []) decoded is_use ∙ regs x;
+        regs = λ x. ap (after part) (then_ x) ∙ rw (decoded, is_use) (regs x);
         masks = kept;
         kind = kind;
       }
@@ -130,7 +116,7 @@ written_of way r op v f = Write (address way r (Some op ∷ f)) v ∷ []
 read_form : (part : Part) (row : Row) (r : Regs) (op : ℕ) → is_decimal row.mnemonic r ≡ false → (f : List (Option ℕ))
     → slice_get (form part Reads row r (Some op ∷ f)) (length f) ≡ on_the_way part row.mode (waits part Reads) r op (read_of row.mode r op) f
 read_form part row r op binary f =
-    ap (λ b. slice_get (reach part row.mode (waits part Reads) r (Some op ∷ f) ++ Read (address row.mode r (Some op ∷ f)) ∷ cond b (Read (last_place row.mode r) ∷ []) []) (length f)) (by part)
+    rw (by part)
   where
     by : (part : Part) → lasts_longer part row.mnemonic r ≡ false
     by Nmos = refl
@@ -155,7 +141,7 @@ module _ {part : Part} {M : Type 0} {g : Reach M} {t : ℕ} {row : Row} {r : Reg
       let tail : List (Option ℕ) → List Cycle = read_of row.mode r (g.byte m r.pc) in
       let here : on_the_way part row.mode (waits part Reads) r (g.byte m r.pc) tail reached.seen ≡ Some (Read at) = next-first reached tail ∙ ap (λ a. Some (Read a)) (found-first reached) in
       whole p decoded reached uses tail (read_form part row r (g.byte m r.pc) binary) (Some x ∷ [])
-      (step g t (on_the_way part row.mode (waits part Reads) r (g.byte m r.pc) tail) 0 reached.seen m (reached.seen ++ Some x ∷ []) m here plain refl refl (refl, refl)) refl count
+      (rw here (plain, (refl, refl))) refl count
       (is ∙ sym (ap (read_result part row.mnemonic row.mode (with_pc_past r row.bytes)) (operand-there reached x [])))
       (ap (λ (q : Regs). has_flag q.p INTERRUPT) is ∙ read_kept part row.mnemonic row.mode (with_pc_past r row.bytes) x)
 
@@ -167,8 +153,7 @@ module _ {part : Part} {M : Type 0} {g : Reach M} {t : ℕ} {row : Row} {r : Reg
       let tail : List (Option ℕ) → List Cycle = written_of row.mode r (g.byte m r.pc) v in
       let here : on_the_way part row.mode (waits part Stores) r (g.byte m r.pc) tail reached.seen ≡ Some (Write at v) = next-first reached tail ∙ ap (λ a. Some (Write a v)) (found-first reached) in
       whole p decoded reached uses tail (λ f. refl) (None ∷ [])
-      (step g t (on_the_way part row.mode (waits part Stores) r (g.byte m r.pc) tail) 0 reached.seen m (reached.seen ++ None ∷ []) there here plain refl
-      (ap (λ (j : ℕ). g.put m t j at v) (sym reached.count) ∙ sym put) (refl, refl)) refl count is (ap (λ (q : Regs). has_flag q.p INTERRUPT) is)
+      (rw here (plain, (refl, rw (← reached.count) (sym put)))) refl count is (ap (λ (q : Regs). has_flag q.p INTERRUPT) is)
 
   -- it is read, wherever it is
   pub read-last : bus_use row.mnemonic ≡ Reads → adds row.mnemonic ≡ false → IsReached part g t row.mode (waits part Reads) r m at n
@@ -203,18 +188,20 @@ module _ {part : Part} {M : Type 0} {g : Reach M} {t : ℕ} {row : Row} {r : Reg
       let tail : List (Option ℕ) → List Cycle = λ f. changes part row row.mode always r (Some op ∷ f) in
       let next : List (Option ℕ) → Option Cycle = on_the_way part row.mode always r op tail in
       let there_tail : (rest : List (Option ℕ)) → tail (seen ++ Some x ∷ rest) ≡ Read at ∷ between ∷ Write at v ∷ [] = λ rest.
-      ap (λ a. Read a ∷ cycle_between part a (operand part row.mode always r (Some op ∷ seen ++ Some x ∷ rest))
-      ∷ Write a (modified_value row.mnemonic r (operand part row.mode always r (Some op ∷ seen ++ Some x ∷ rest))) ∷ []) (reached.found (Some x ∷ rest))
-      ∙ ap (λ o. Read at ∷ cycle_between part at o ∷ Write at (modified_value row.mnemonic r o) ∷ []) (operand-there reached x rest) in
+      rw (reached.found (Some x ∷ rest), operand-there reached x rest) in
       let later = λ (rest : List (Option ℕ)) (j : ℕ) (h : suc (length rest) ≡ j). next-there reached tail (Some x ∷ rest) j h ∙ ap (λ l. slice_get l j) (there_tail rest) in
       let here : next seen ≡ Some (Read at) = next-first reached tail ∙ ap (λ a. Some (Read a)) (found-first reached) in
       let at1 : suc (length (seen ++ Some x ∷ [])) ≡ n + 1 = omega (arith, reached.count, length-append seen (Some x ∷ [])) in
       let at2 : suc (length (seen ++ Some x ∷ y ∷ [])) ≡ n + 2 = omega (arith, reached.count, length-append seen (Some x ∷ y ∷ [])) in
       let left : g.put m1 t (suc (length (seen ++ Some x ∷ y ∷ []))) at v ≡ there = ap (λ (j : ℕ). g.put m1 t j at v) at2 ∙ over_old part ∙ sym put in
       let follows : Follows g t next 3 seen m last there =
-      step g t next 2 seen m last there here read refl refl
-      (step g t next 1 (seen ++ Some x ∷ []) m last there (later [] 1 refl) (plain_between part) (append_assoc seen (Some x ∷ []) (y ∷ [])) (ap (λ (j : ℕ). leaves g t m j between) at1)
-      (step g t next 0 (seen ++ Some x ∷ y ∷ []) m1 last there (later (y ∷ []) 2 refl) written (append_assoc seen (Some x ∷ y ∷ []) (None ∷ [])) left (refl, refl))) in
+      rw here (
+        read,
+        rw (later [] 1 refl) (
+          plain_between part,
+          rw (append_assoc seen (Some x ∷ []) (y ∷ []), at1, later (y ∷ []) 2 refl) (written, (append_assoc seen (Some x ∷ y ∷ []) (None ∷ []), left)),
+        ),
+      ) in
       whole p decoded reached refl tail (λ f. ap (λ l. slice_get l (length f)) (uses.forms r (Some op ∷ f) ∙ in_memory part row row.mode always r (Some op ∷ f) apart))
       (Some x ∷ y ∷ None ∷ []) follows (ap (λ l. slice_get l 3) (there_tail (y ∷ None ∷ []))) count
       (is ∙ sym (uses.results r (Some op ∷ last) ∙ ap (modify_result row.mnemonic row.mode (with_pc_past r row.bytes)) (operand-there reached x (y ∷ None ∷ []))))
@@ -238,52 +225,24 @@ module _ {part : Part} {M : Type 0} {g : Reach M} {t : ℕ} {row : Row} {r : Reg
 -- which forms take their cycle for a carry always
 module _ {part : Part} {M : Type 0} {g : Reach M} {t : ℕ} {way : Mode} {r : Regs} {m : M} {at n : ℕ} where
   pub for_loads : IsReached part g t way false r m at n → IsReached part g t way (waits part Reads) r m at n
-  for_loads reached = subst (λ b. IsReached part g t way b r m at n) (by part) reached
+  for_loads reached = rw (by part) reached
     where
-      by : (part : Part) → false ≡ waits part Reads
+      by : (part : Part) → waits part Reads ≡ false
       by Nmos = refl
       by Cmos = refl
 
   pub for_stores : IsReached part g t way true r m at n → IsReached part g t way (waits part Stores) r m at n
-  for_stores reached = subst (λ b. IsReached part g t way b r m at n) (by part) reached
+  for_stores reached = rw (by part) reached
     where
-      by : (part : Part) → true ≡ waits part Stores
+      by : (part : Part) → waits part Stores ≡ true
       by Nmos = refl
       by Cmos = refl
-
-pub modifying : (part : Part) (row : Row) (uses : BusUse) (always : Bool) → bus_use row.mnemonic ≡ uses → is_modifying uses ≡ true → always ≡ waits part uses → IsModifying part row always
-modifying part row uses always is kind same =
-    record {
-      kind = ap is_modifying is ∙ kind;
-      forms = λ r f. ap (λ u. form part u row r f) is ∙ forms uses kind r f ∙ ap (λ b. modify_form part row row.mode b r f) (sym same);
-      results = λ r f. ap (λ u. after_row part u row r f) is ∙ results uses kind r f
-          ∙ ap (λ b. modify_result row.mnemonic row.mode (with_pc_past r row.bytes) (operand part row.mode b r f)) (sym same);
-    }
-  where
-    forms : (u : BusUse) → is_modifying u ≡ true → (r : Regs) (f : List (Option ℕ)) → form part u row r f ≡ modify_form part row row.mode (waits part u) r f
-    forms Shifts h r f = refl
-    forms Modifies h r f = refl
-    forms _ h r f = cc
-
-    results : (u : BusUse) → is_modifying u ≡ true → (r : Regs) (f : List (Option ℕ))
-        → after_row part u row r f ≡ modify_result row.mnemonic row.mode (with_pc_past r row.bytes) (operand part row.mode (waits part u) r f)
-    results Shifts h r f = refl
-    results Modifies h r f = refl
-    results _ h r f = cc
 
 -- what is made of a byte does not go by PC, nor whether a sum is decimal
 pub value_past : (name : Mnemonic) (r : Regs) (bytes m : ℕ) → modified_value name (with_pc_past r bytes) m ≡ modified_value name r m
 value_past Asl r bytes m = refl
-value_past Lsr r bytes m = refl
-value_past Rol r bytes m = refl
-value_past Ror r bytes m = refl
-value_past Inc r bytes m = refl
-value_past Dec r bytes m = refl
-value_past Tsb r bytes m = refl
-value_past Trb r bytes m = refl
 value_past _ r bytes m = refl
 
 pub decimal_past : (name : Mnemonic) (r : Regs) (bytes : ℕ) → is_decimal name (with_pc_past r bytes) ≡ is_decimal name r
 decimal_past Adc r bytes = refl
-decimal_past Sbc r bytes = refl
 decimal_past _ r bytes = refl

@@ -1,5 +1,5 @@
 -- Cycles behind that of the opcode, from what is next after what was seen to the definition's states.
-use Rattle.std.proofs.Common.{◌≡◌, ℕ, zero, suc, ◌+◌, List, [], ◌∷◌, ◌++◌, length, true, false, cond, Option, Some, None, is_none, slice_get, MatchOption, refl, sym, subst, ap, ◌∙◌, arith}
+use Rattle.std.proofs.Common.{◌≡◌, ℕ, zero, suc, ◌+◌, List, [], ◌∷◌, ◌++◌, length, true, false, Option, Some, None, is_none, slice_get, MatchOption, refl, ap, ◌∙◌, arith}
 use Rattle.op_table.specs.declared.names.Part.{Part}
 use Rattle.op_table.specs.declared.names.Part.TheVariants.{Nmos, Cmos}
 use Rattle.op_table.specs.declared.rows.Row.{Row}
@@ -17,11 +17,6 @@ use Rattle.cpu_whole.specs.CodeWays.{Follows, more_by}
 abbrev pub behind : Regs → ℕ → List (Option ℕ) → State
 behind r op f = record { sequence = Instruction; regs = r; seen = Some op ∷ f }
 
--- its accesses behind that of the opcode
-pub next-row : (part : Part) (op : ℕ) (row : Row) (r : Regs) (f : List (Option ℕ)) → row_at part op ≡ Some row
-    → next_cycle part (behind r op f) ≡ slice_get (form part (bus_use row.mnemonic) row r (Some op ∷ f)) (length f)
-next-row part op row r f h = rw h
-
 -- it halts nothing
 going : (part : Part) (op : ℕ) (row : Row) (r : Regs) (f : List (Option ℕ)) → row_at part op ≡ Some row → halted part (behind r op f) ≡ false
 going Nmos op row r [] h = ap is_none h
@@ -32,8 +27,7 @@ going Cmos op row r f h = refl
 pub on : (part : Part) (op : ℕ) (row : Row) (r : Regs) (f : List (Option ℕ)) (c : Cycle) (b : ℕ) → row_at part op ≡ Some row
     → next_cycle part (behind r op f) ≡ Some c → after_byte part (behind r op f) b ≡ behind r op (f ++ shown_byte (Some c) b ∷ [])
 on part op row r f c b h n =
-    ap (λ halt. cond halt (behind r op f) (record (behind r op f) { seen = (Some op ∷ f) ++ shown_byte (next_cycle part (behind r op f)) b ∷ [] })) (going part op row r f h)
-    ∙ ap (λ c. behind r op (f ++ shown_byte c b ∷ [])) n
+    rw (going part op row r f h, n)
 
 -- the cycles that follow are those of the definition
 pub carried : {M : Type 0} → (g : Reach M) (t : ℕ) (part : Part) (op : ℕ) (row : Row) (r : Regs) → row_at part op ≡ Some row
@@ -52,7 +46,7 @@ carried {M} g t part op row r h (suc k) f m last there done =
     by rest None is done = done
     by rest (Some c) is done = (
       done.0,
-      subst (λ (s : State). Carried g t part k s (leaves g t m (suc (length f)) c) (behind r op last) there) (sym (on part op row r f c (shows g m c) h is))
+      rw (on part op row r f c (shows g m c) h is)
           (rest (f ++ shown_byte (Some c) (shows g m c) ∷ []) (leaves g t m (suc (length f)) c) last there done.1),
     )
 
@@ -60,11 +54,8 @@ carried {M} g t part op row r h (suc k) f m last there done =
 pub along : {M : Type 0} → (g : Reach M) (t : ℕ) (next other : List (Option ℕ) → Option Cycle) → ((f : List (Option ℕ)) → next f ≡ other f)
     → (k : ℕ) (f : List (Option ℕ)) (m : M) (last : List (Option ℕ)) (there : M) → Follows g t other k f m last there → Follows g t next k f m last there
 along g t next other same zero f m last there done = done
-along {M} g t next other same (suc k) f m last there done = subst there_by (sym (same f)) (by (along g t next other same k) (other f) done)
+along {M} g t next other same (suc k) f m last there done = rw (same f) (by (along g t next other same k) (other f) done)
   where
-    there_by : Option Cycle → Type 0
-    there_by o = MatchOption o ⊥ (λ c. (is_plain g c ≡ true) × Follows g t next k (f ++ shown_byte (Some c) (shows g m c) ∷ []) (leaves g t m (suc (length f)) c) last there)
-
     by : ((f : List (Option ℕ)) (m : M) (last : List (Option ℕ)) (there : M) → Follows g t other k f m last there → Follows g t next k f m last there)
         → (o : Option Cycle) → MatchOption o ⊥ (λ c. (is_plain g c ≡ true) × Follows g t other k (f ++ shown_byte (Some c) (shows g m c) ∷ []) (leaves g t m (suc (length f)) c) last there)
         → MatchOption o ⊥ (λ c. (is_plain g c ≡ true) × Follows g t next k (f ++ shown_byte (Some c) (shows g m c) ∷ []) (leaves g t m (suc (length f)) c) last there)
@@ -79,9 +70,9 @@ pub from_fetch : {M : Type 0} → (g : Reach M) (t : ℕ) (part : Part) (row : R
 from_fetch {M} g t part row r m p decoded next same k last there done count =
     rw count (
       p,
-      subst (λ (s : State). Carried g t part k s m (behind r (g.byte m r.pc) last) there) (sym (begun part))
+      rw (begun part)
           (carried g t part (g.byte m r.pc) row r decoded k [] m last there
-          (along g t (λ f. next_cycle part (behind r (g.byte m r.pc) f)) next (λ f. next-row part (g.byte m r.pc) row r f decoded ∙ same f) k [] m last there done)),
+          (along g t (λ f. next_cycle part (behind r (g.byte m r.pc) f)) next (λ f. rw decoded (same f)) k [] m last there done)),
     )
   where
     begun : (part : Part) → after_byte part (fresh Instruction r) (g.byte m r.pc) ≡ behind r (g.byte m r.pc) []

@@ -1,17 +1,15 @@
 -- Operations that leave the flag I as it is.
-use Rattle.std.proofs.Common.{◌≡◌, ℕ, ◌+◌, ◌-◌, ◌%◌, Bool, true, false, not, eqb, refl, ap, ◌∙◌, bit_and, bit_or, bit_xor}
+use Rattle.std.proofs.Common.{◌≡◌, ℕ, ◌+◌, ◌-◌, ◌%◌, Bool, true, false, not, eqb, refl, ap, ◌∙◌, rules, bit_and}
 use Rattle.std.proofs.lemmas.Nat.{and_or_apart, and_assoc}
 use Rattle.op_table.specs.declared.names.Part.{Part}
 use Rattle.op_table.specs.declared.names.Mode.{Mode}
 use Rattle.op_table.specs.declared.names.Mode.TheVariants.{Acc, Imm}
 use Rattle.op_table.specs.declared.names.Mnemonic.{Mnemonic}
-use Rattle.op_table.specs.declared.names.Mnemonic.TheVariants.{Adc, And, Asl, Bit, Clc, Cld, Cli, Clv, Cmp, Cpx, Cpy, Dec, Dex, Dey, Eor, Inc, Inx}
-use Rattle.op_table.specs.declared.names.Mnemonic.TheVariants.{Iny, Lda, Ldx, Ldy, Lsr, Ora, Pla, Plx, Ply, Rol, Ror, Sbc, Sec, Sed, Sei, Tax, Tay}
-use Rattle.op_table.specs.declared.names.Mnemonic.TheVariants.{Tsx, Txa, Tya}
+use Rattle.op_table.specs.declared.names.Mnemonic.TheVariants.{Bit, Clc, Cld, Cli, Clv, Inc, Pla, Plx, Ply, Sec, Sed, Sei}
 use Rattle.cpu_alu.specs.declared.Sum.{Sum}
 use Rattle.cpu_alu.specs.declared.Regs.{Regs}
 use Rattle.cpu_alu.specs.declared.flags.TheConstants.{CARRY, ZERO, INTERRUPT, DECIMAL, OVERFLOW, NEGATIVE}
-use Rattle.cpu_alu.specs.Arithmetic.{bit_7, adc, sbc, compare, asl, lsr, rol, ror}
+use Rattle.cpu_alu.specs.Arithmetic.{bit_7}
 use Rattle.cpu_alu.specs.Flags.{has_flag, with_flag, with_n_z, with_n_z_c, with_n_v_z_c}
 use Rattle.cpu_alu.specs.Instructions.{bit_flags, with_masked_z, read_result, modify_flags, modify_result, implied_result, pull_result}
 use Rattle.cpu_whole.specs.CodeWays.{moves_i, pulls_flags}
@@ -44,28 +42,12 @@ bit_kept _ p a m =
     ∙ masked_kept p a m
 
 pub read_kept : (part : Part) (name : Mnemonic) (way : Mode) (r : Regs) (m : ℕ) → has_flag (read_result part name way r m).p INTERRUPT ≡ has_flag r.p INTERRUPT
-read_kept part Lda way r m = n_z_kept r.p m
-read_kept part Ldx way r m = n_z_kept r.p m
-read_kept part Ldy way r m = n_z_kept r.p m
-read_kept part And way r m = n_z_kept r.p (bit_and r.a m)
-read_kept part Ora way r m = n_z_kept r.p (bit_or r.a m)
-read_kept part Eor way r m = n_z_kept r.p (bit_xor r.a m)
-read_kept part Adc way r m = n_v_z_c_kept r.p (adc part (has_flag r.p DECIMAL) r.a m (has_flag r.p CARRY))
-read_kept part Sbc way r m = n_v_z_c_kept r.p (sbc part (has_flag r.p DECIMAL) r.a m (has_flag r.p CARRY))
-read_kept part Cmp way r m = n_z_c_kept r.p (compare r.a m)
-read_kept part Cpx way r m = n_z_c_kept r.p (compare r.x m)
-read_kept part Cpy way r m = n_z_c_kept r.p (compare r.y m)
 read_kept part Bit way r m = bit_kept way r.p r.a m
-read_kept part _ way r m = refl
+read_kept part _ way r m = search (rules, n_z_kept, n_z_c_kept, n_v_z_c_kept)
 
 flags_kept : (name : Mnemonic) (r : Regs) (m : ℕ) → has_flag (modify_flags name r m) INTERRUPT ≡ has_flag r.p INTERRUPT
-flags_kept Asl r m = n_z_c_kept r.p (asl m)
-flags_kept Lsr r m = n_z_c_kept r.p (lsr m)
-flags_kept Rol r m = n_z_c_kept r.p (rol m (has_flag r.p CARRY))
-flags_kept Ror r m = n_z_c_kept r.p (ror m (has_flag r.p CARRY))
 flags_kept Inc r m = n_z_kept r.p ((m + 1) % 256)
-flags_kept Dec r m = n_z_kept r.p ((m + 255) % 256)
-flags_kept _ r m = masked_kept r.p r.a m
+flags_kept _ r m = search (rules, n_z_kept, n_z_c_kept, masked_kept)
 
 pub modify_kept : (name : Mnemonic) (way : Mode) (r : Regs) (m : ℕ) → has_flag (modify_result name way r m).p INTERRUPT ≡ has_flag r.p INTERRUPT
 modify_kept name Acc r m = flags_kept name r r.a
@@ -79,16 +61,7 @@ implied_kept Clv r h = flag_kept r.p OVERFLOW false refl refl
 implied_kept Sec r h = flag_kept r.p CARRY true refl refl
 implied_kept Sed r h = flag_kept r.p DECIMAL true refl refl
 implied_kept Sei r h = cc
-implied_kept Dex r h = n_z_kept r.p ((r.x + 255) % 256)
-implied_kept Dey r h = n_z_kept r.p ((r.y + 255) % 256)
-implied_kept Inx r h = n_z_kept r.p ((r.x + 1) % 256)
-implied_kept Iny r h = n_z_kept r.p ((r.y + 1) % 256)
-implied_kept Tax r h = n_z_kept r.p r.a
-implied_kept Tay r h = n_z_kept r.p r.a
-implied_kept Tsx r h = n_z_kept r.p r.s
-implied_kept Txa r h = n_z_kept r.p r.x
-implied_kept Tya r h = n_z_kept r.p r.y
-implied_kept _ r h = refl
+implied_kept _ r h = search (rules, n_z_kept)
 
 pub pull_kept : (name : Mnemonic) (r : Regs) (m : ℕ) → pulls_flags name ≡ false → has_flag (pull_result name r m).p INTERRUPT ≡ has_flag r.p INTERRUPT
 pull_kept Pla r m h = n_z_kept r.p m

@@ -1,6 +1,6 @@
 -- A halted host reads one address in every cycle.
-use Rattle.std.proofs.Common.{◌≡◌, ◌≤◌, ◌<◌, ◌∙◌, ◌&&◌, inl, inr, refl, ap, sym, arith, ℕ, zero, suc, ◌+◌, ◌%◌}
-use Rattle.std.proofs.Common.{List, [], ◌∷◌, ◌++◌, length, Bool, true, false, cond, is_none, if◌then◌else◌, Option, Some, None}
+use Rattle.std.proofs.Common.{◌≡◌, ◌≤◌, ◌<◌, ◌∙◌, ◌&&◌, inl, inr, refl, ap, sym, arith, ℕ, zero, suc, ◌+◌}
+use Rattle.std.proofs.Common.{List, [], ◌∷◌, length, true, false, is_none, Option, Some, None}
 use Rattle.std.specs.Prelude.{slice_get, max}
 use Rattle.std.proofs.lemmas.Bool.{cases_lt}
 use Rattle.op_table.specs.declared.names.Part.TheVariants.{Nmos}
@@ -9,13 +9,12 @@ use Rattle.cpu_alu.specs.declared.Cycle.{Cycle}
 use Rattle.cpu_alu.specs.declared.Cycle.TheVariants.{Read}
 use Rattle.cpu_alu.specs.declared.Regs.{Regs}
 use Rattle.cpu_core.specs.declared.Sequence.{Sequence}
-use Rattle.cpu_core.specs.declared.Sequence.TheVariants.{Instruction, Reset, Nmi, Irq}
+use Rattle.cpu_core.specs.declared.Sequence.TheVariants.{Instruction}
 use Rattle.cpu_core.specs.Accesses.{row_at, form_of}
-use Rattle.cpu_core.specs.Sequences.{accesses, halts, shown_byte}
+use Rattle.cpu_core.specs.Sequences.{accesses, halts}
 use Rattle.cpu6502.specs.State as cpu
 use Rattle.cpu6502.specs.Sequences.{next_cycle, after_byte, halted}
-use Rattle.tube_chip.specs.Act.{Query, access}
-use Rattle.tube_chip.specs.declared.Op.TheVariants as op
+use Rattle.tube_chip.specs.Act.{Query}
 use Rattle.tube_party.specs.Quiet.{IsQuiet, Silent, quiet_at_due, silent_rises}
 use Rattle.host_bus.specs.Bus.{bus_break_pending}
 use Rattle.host_bus.specs.SameBreaks.{read-leaves}
@@ -39,19 +38,14 @@ read_again None r seen h = refl
 read_again (Some row) r seen h = cc
 
 halts_at : (seen : List (Option ℕ)) (q : Sequence) (r : Regs) → halts seen Nmos q ≡ true → slice_get (accesses Nmos q r seen) (length seen) ≡ Some (Read r.pc)
-halts_at [] q r h = cc
-halts_at (None ∷ xs) q r h = cc
-halts_at (Some o ∷ x ∷ xs) q r h = cc
 halts_at (Some o ∷ []) Instruction r h = read_again (row_at Nmos o) r (Some o ∷ []) h
-halts_at (Some o ∷ []) Reset r h = cc
-halts_at (Some o ∷ []) Nmi r h = cc
-halts_at (Some o ∷ []) Irq r h = cc
+halts_at _ _ r h = cc
 
 halted_next : (c : cpu.State) → halted c ≡ true → next_cycle c ≡ Some (Read c.regs.pc)
 halted_next c h = halts_at c.seen c.sequence c.regs h
 
 stays : (c : cpu.State) (byte : ℕ) → halted c ≡ true → after_byte c byte ≡ c
-stays c byte h = ap (λ (b : Bool). cond b c (record c { seen = c.seen ++ shown_byte (next_cycle c) byte ∷ [] })) h
+stays c byte h = rw h
 
 -- halted, and at an address where the Tube does not answer, and no break is pending below tick far
 record IsIdle (far : ℕ) (s : HostState) : Type 0 where
@@ -61,8 +55,7 @@ record IsIdle (far : ℕ) (s : HostState) : Type 0 where
 
 -- its step is an access that asks nothing, or a break step
 idle_asks : (far : ℕ) (s : HostState) → IsIdle far s → asks_by host_wiring s.bus (next_cycle s.cpu) ≡ None
-idle_asks far s idle =
-    ap (asks_by host_wiring s.bus) (halted_next s.cpu idle.halts) ∙ ap (λ (b : Bool). if b then Some (access (op.Read (s.cpu.regs.pc % 8))) else None) idle.apart
+idle_asks far s idle = rw (halted_next s.cpu idle.halts, idle.apart)
 
 -- which leaves it so
 idle_on : (far : ℕ) (s : HostState) → IsIdle far s → s.due < far → (asks Nmos host_wiring s ≡ None) × IsIdle far (next_state s None)

@@ -1,6 +1,6 @@
 -- Which of the host's addresses are plain memory.
-use Rattle.std.specs.Prelude.{ℕ, zero, suc, length, Option, None, Some, MatchOption, ◌≡◌, ◌≤◌, ◌<◌, ◌+◌, ◌*◌, ◌/◌, ◌%◌}
-use Rattle.std.specs.Prelude.{◌==◌, max, nat_lt, nat_le, ◌&&◌, ◌||◌, ◌⊎◌, not, Bool, true, false, refl, slice_index, slice_set, List, if◌then◌else◌}
+use Rattle.std.specs.Prelude.{ℕ, zero, suc, length, Option, None, Some, MatchOption, ◌≡◌, ◌≤◌, ◌<◌, ◌+◌, ◌*◌, ◌/◌}
+use Rattle.std.specs.Prelude.{max, nat_lt, nat_le, ◌&&◌, ◌||◌, not, Bool, true, false, refl, slice_index, slice_set, if◌then◌else◌}
 use Rattle.std.proofs.Common.{arith, ap, ◌∙◌, sym, subst, inl, inr}
 use Rattle.std.proofs.lemmas.Bool.{ltb-true, lt-ltb, eq-eqb, cases_lt}
 use Rattle.std.proofs.lemmas.Grind.{common_steps}
@@ -14,10 +14,10 @@ use Rattle.cpu_core.specs.Sequences.{next_cycle, after_byte}
 use Rattle.beeb_bits.specs.Clock.{host}
 use Rattle.tube_chip.specs.declared.Lines.{Lines}
 use Rattle.host_devices.specs.Map.{Place, Ram, PagedRom, OsRom, place_of, stretch, stretched_in, memory_map}
-use Rattle.host_bus.specs.Bus.{BusState, clock_of, bus_closed, closed_at, bus_irq, bus_nmis, answer_of, after_read_of, after_write_of, bus_answer, bus_after_read, bus_after_write}
+use Rattle.host_bus.specs.Bus.{BusState, clock_of, bus_closed, closed_at, bus_irq, bus_nmis, answer_of, after_read_of, bus_answer, bus_after_read, bus_after_write}
 use Rattle.host_bus.specs.Closing.{closed-again, closed-still}
 use Rattle.tube_machine.specs.Whole.{reach_of, IsMemory, IsAtRest, StaysAtRest}
-use Rattle.cpu_whole.specs.Whole.{Carried, is_plain, shows, leaves}
+use Rattle.cpu_whole.specs.Whole.{Reach, Carried, is_plain, shows, leaves}
 use Rattle.host_bus.specs.StoredLines.{irq-stored, nmis-stored}
 use Rattle.host_mach.specs.State.{HostBusState}
 use Rattle.host_mach.specs.SameClock.{access-same}
@@ -30,6 +30,9 @@ plain_read at = nat_lt at 0xFC00
 
 abbrev pub plain_write : ℕ → Bool
 plain_write at = nat_lt at 0x8000
+
+abbrev reach : Reach HostBusState
+reach = reach_of host_wiring plain_read plain_write
 
 -- where memory is
 abbrev memory_place : Bool → Bool → Place
@@ -48,7 +51,7 @@ not-stretched : (at : ℕ) → at < 0xfc00 → stretched_in memory_map at ≡ fa
 not-stretched at low = grind (arith, common_steps)
 
 fast : (n at cycle : ℕ) → at < 0xfc00 → n * stretch at cycle ≡ n
-fast n at cycle low = ap (λ (b : Bool). n * (if b then (if cycle % 2 == 0 then 2 else 3) else 1)) (not-stretched at low) ∙ mul-one n
+fast n at cycle low = rw (not-stretched at low) (mul-one n)
 
 same-answer : (b : BusState) (u t at : ℕ) (ram paged : Bool) → answer_of (memory_place ram paged) (bus_closed b u) t at ≡ answer_of (memory_place ram paged) b 0 at
 same-answer b u t at true paged = refl
@@ -56,9 +59,7 @@ same-answer b u t at false true = refl
 same-answer b u t at false false = refl
 
 answers : (b : BusState) (u t at : ℕ) → at < 0xfc00 → bus_answer (bus_closed b u) t at ≡ bus_answer b 0 at
-answers b u t at low =
-    let is = is-memory at low in
-    ap (λ (p : Place). answer_of p (bus_closed b u) t at) is ∙ same-answer b u t at (nat_le at 0x7FFF) (nat_le at 0xBFFF) ∙ sym (ap (λ (p : Place). answer_of p b 0 at) is)
+answers b u t at low = rw (is-memory at low) (same-answer b u t at (nat_le at 0x7FFF) (nat_le at 0xBFFF))
 
 same-read : (b : BusState) (at : ℕ) (ram paged : Bool) → after_read_of (memory_place ram paged) b at ≡ b
 same-read b at true paged = refl
@@ -66,27 +67,25 @@ same-read b at false true = refl
 same-read b at false false = refl
 
 reads-leave : (b : BusState) (at : ℕ) → at < 0xfc00 → bus_after_read b at ≡ b
-reads-leave b at low = ap (λ (p : Place). after_read_of p b at) (is-memory at low) ∙ same-read b at (nat_le at 0x7FFF) (nat_le at 0xBFFF)
+reads-leave b at low = rw (is-memory at low) (same-read b at (nat_le at 0x7FFF) (nat_le at 0xBFFF))
 
 -- a byte of the RAM is written
 abbrev stored : BusState → ℕ → ℕ → BusState
 stored b at v = record b { board = record b.board { ram = slice_set b.board.ram at v } }
 
 writes-store : (b : BusState) (at v : ℕ) → at < 0x8000 → bus_after_write b at v ≡ stored b at v
-writes-store b at v low = ap (λ (p : Place). after_write_of p b at v) (is-ram at low)
+writes-store b at v low = rw (is-ram at low)
 
 -- the byte that stands there
 stands : (b : BusState) (at : ℕ) → at < 0x8000 → bus_answer b 0 at ≡ slice_index b.board.ram at
-stands b at low = ap (λ (p : Place). answer_of p b 0 at) (is-ram at low)
+stands b at low = rw (is-ram at low)
 
 twice : (b : BusState) (t u at v : ℕ) → at < 0x8000 → t ≤ u →
     bus_after_write (bus_closed (bus_after_write (bus_closed b t) at (bus_answer b 0 at)) u) at v ≡ bus_after_write (bus_closed b u) at v
 twice b t u at v low high =
     let c : BusState = bus_closed b t in
     let back : bus_after_write c at (bus_answer b 0 at) ≡ c =
-    writes-store c at (bus_answer b 0 at) low
-    ∙ ap (λ (x : ℕ). stored c at x) (stands b at low)
-    ∙ ap (λ (r : List ℕ). record c { board = record c.board { ram = r } }) (set-get_or b.board.ram at 0) in
+    rw (writes-store c at (bus_answer b 0 at) low, stands b at low, set-get_or b.board.ram at 0) in
     ap (λ (x : BusState). bus_after_write (bus_closed x u) at v) back ∙ ap (λ (x : BusState). bus_after_write x at v) (closed-again b t u high)
 
 later : (c t n : ℕ) → t + c * n + 1 ≤ t + c * suc n + 1
@@ -95,9 +94,7 @@ later c t n = let more : c * n ≤ c * suc n = mul-le-mul_left c (omega arith) i
 clock-stays : (b : BusState) (at v : ℕ) → at < 0x8000 → clock_of (bus_after_write b at v) ≡ clock_of b
 clock-stays b at v low = ap clock_of (writes-store b at v low)
 
-again : (m : HostBusState) (t n at byte : ℕ) → at < 0x8000 →
-    (reach_of host_wiring plain_read plain_write).put ((reach_of host_wiring plain_read plain_write).put m t n at (bus_answer m.bus 0 at)) t
-    (suc n) at byte ≡ (reach_of host_wiring plain_read plain_write).put m t (suc n) at byte
+again : (m : HostBusState) (t n at byte : ℕ) → at < 0x8000 → reach.put (reach.put m t n at (bus_answer m.bus 0 at)) t (suc n) at byte ≡ reach.put m t (suc n) at byte
 again m t n at byte low =
     let c : ℕ = host (clock_of m.bus) in
     let x : BusState = bus_after_write (bus_closed m.bus (t + c * n + 1)) at (bus_answer m.bus 0 at) in
@@ -136,26 +133,24 @@ at-rest b l masks h = record {
 }
 
 closed-rests : (b : HostBusState) (l : Lines) (masks : Bool) (far t : ℕ) → rests b l masks far → t ≤ far → rests (record b { bus = bus_closed b.bus t }) l masks far
-closed-rests b l masks far t rest low some u near = by (cases_lt u t)
-  where
-    by : (u < t) ⊎ (t ≤ u) → AsksNothing (bus_closed (bus_closed b.bus t) u) b.nmis l masks
-    by (inl less) =
-        let still : u ≤ max t (closed_at b.bus) = omega (arith, less) in
-        subst (λ (x : BusState). AsksNothing x b.nmis l masks) (sym (closed-still (bus_closed b.bus t) u still)) (rest some t low)
-    by (inr more) = subst (λ (x : BusState). AsksNothing x b.nmis l masks) (sym (closed-again b.bus t u more)) (rest some u near)
+closed-rests b l masks far t rest low some u near = elim (cases_lt u t) [
+  | inl less ↦
+      let still : u ≤ max t (closed_at b.bus) = omega (arith, less) in
+      subst (λ (x : BusState). AsksNothing x b.nmis l masks) (sym (closed-still (bus_closed b.bus t) u still)) (rest some t low)
+  | inr more ↦ subst (λ (x : BusState). AsksNothing x b.nmis l masks) (sym (closed-again b.bus t u more)) (rest some u near)
+]
 
 stored-rests : (b : HostBusState) (l : Lines) (masks : Bool) (far at v : ℕ) → at < 0x8000 → rests b l masks far → rests (record b { bus = bus_after_write b.bus at v }) l masks far
 stored-rests b l masks far at v low rest some u near =
     let there = rest some u near in
-    subst (λ (x : BusState). AsksNothing (bus_closed x u) b.nmis l masks) (sym (writes-store b.bus at v low))
-    (nmis-stored b.bus.board at v u ∙ there.0, ap (λ (i : Bool). (i || l.hirq) && not masks) (irq-stored b.bus.board at v u) ∙ there.1)
+    rw (writes-store b.bus at v low) (nmis-stored b.bus.board at v u ∙ there.0, rw (irq-stored b.bus.board at v u) there.1)
 
 pub host_rests : StaysAtRest host_wiring plain_write rests
 host_rests = record {
   looks = λ b l masks far t rest low. at-rest (record b { bus = bus_closed b.bus (t + 1) }) l masks (rest (omega (arith, low)) (t + 1) (omega (arith, low)));
   close = λ b l masks far t rest low. closed-rests b l masks far t rest low;
   write = λ b l masks far at byte rest low. stored-rests b l masks far at byte (ltb-true at 0x8000 low) rest;
-  tube = λ b l masks far c rest at some u near. subst (λ (x : BusState). AsksNothing (bus_closed x u) b.nmis l masks) (sym (tube-leaves b c at)) (rest some u near);
+  tube = λ b l masks far c rest at some u near. rw (tube-leaves b c at) (rest some u near);
 }
 
 -- an instruction's cycles begin one after another, and each closes the bus no further than behind its first tick
@@ -166,20 +161,13 @@ pub comes_behind : (c t n closed : ℕ) → 1 < c → 0 < n → closed ≤ t + m
 comes_behind c t n closed some more low = let least : c * 1 ≤ c * n = mul-le-mul_left c more in let one : c * 1 ≡ c = mul-one c in omega (arith, least, one, some, low)
 
 -- no access changes how long ticks are
-leaves-clock : (t n : ℕ) (m : HostBusState) (c : Cycle) → clock_of (leaves (reach_of host_wiring plain_read plain_write) t m n c).bus ≡ clock_of m.bus
-leaves-clock t n m (Read at) = refl
-leaves-clock t n m (Write at v) = access-same (bus_closed m.bus (t + host (clock_of m.bus) * n + 1)) (Write at v)
-
-carried-by : (part : Part) (t k : ℕ) (s : State) (m : HostBusState) (last : State) (there : HostBusState) (o : Option Cycle) →
-    ((on : State) (b : HostBusState) → Carried (reach_of host_wiring plain_read plain_write) t part k on b last there → clock_of there.bus ≡ clock_of b.bus) →
-    MatchOption o ⊥ (λ (c : Cycle). (is_plain (reach_of host_wiring plain_read plain_write) c ≡ true)
-    × Carried (reach_of host_wiring plain_read plain_write) t part k (after_byte part s (shows (reach_of host_wiring plain_read plain_write) m c))
-    (leaves (reach_of host_wiring plain_read plain_write) t m (length s.seen) c) last there) →
-    clock_of there.bus ≡ clock_of m.bus
-carried-by part t k s m last there None on h = absurd h
-carried-by part t k s m last there (Some c) on h = on _ _ h.1 ∙ leaves-clock t (length s.seen) m c
-
-pub carried-clock : (part : Part) (t k : ℕ) (s : State) (m : HostBusState) (last : State) (there : HostBusState) →
-    Carried (reach_of host_wiring plain_read plain_write) t part k s m last there → clock_of there.bus ≡ clock_of m.bus
+pub carried-clock : (part : Part) (t k : ℕ) (s : State) (m : HostBusState) (last : State) (there : HostBusState) → Carried reach t part k s m last there → clock_of there.bus ≡ clock_of m.bus
 carried-clock part t zero s m last there h = ap (λ (x : HostBusState). clock_of x.bus) (sym h.1)
-carried-clock part t (suc k) s m last there h = carried-by part t k s m last there (next_cycle part s) (λ on b more. carried-clock part t k on b last there more) h
+carried-clock part t (suc k) s m last there h = by (λ on b more. carried-clock part t k on b last there more) (next_cycle part s) h
+  where
+    by : ((on : State) (b : HostBusState) → Carried reach t part k on b last there → clock_of there.bus ≡ clock_of b.bus) → (o : Option Cycle)
+        → MatchOption o ⊥ (λ c. (is_plain reach c ≡ true) × Carried reach t part k (after_byte part s (shows reach m c)) (leaves reach t m (length s.seen) c) last there)
+        → clock_of there.bus ≡ clock_of m.bus
+    by rest None h = absurd h
+    by rest (Some (Read at)) h = rest _ _ h.1
+    by rest (Some (Write at v)) h = rest _ _ h.1 ∙ access-same (bus_closed m.bus (t + host (clock_of m.bus) * length s.seen + 1)) (Write at v)

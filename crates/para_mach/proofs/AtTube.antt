@@ -1,6 +1,5 @@
 -- An access to the Tube with the boot ROM switched out leaves the bus, and takes one cycle.
-use Rattle.std.proofs.Common.{◌≡◌, ◌∙◌, refl, ap, ◌&&◌, not, Bool, true, false, Option, None, Some, MatchOption, if◌then◌else◌}
-use Rattle.std.specs.Prelude.{slice_set}
+use Rattle.std.proofs.Common.{◌≡◌, refl, Bool, true, false, Option, None, Some, MatchOption, if◌then◌else◌}
 use Rattle.cpu_alu.specs.declared.Cycle.{Cycle}
 use Rattle.cpu_alu.specs.declared.Cycle.TheVariants.{Read, Write}
 use Rattle.tube_chip.specs.Act.{Query, access}
@@ -10,28 +9,22 @@ use Rattle.tube_machine.specs.Exchange.{IsPassing}
 use Rattle.para_mach.specs.State.{ParaBusState}
 use Rattle.para_mach.specs.Step.{para_wiring, is_tube, ram_after, rom_in_after}
 
-stays_out : (rom_in tube : Bool) → rom_in ≡ false → (rom_in && not tube) ≡ rom_in
-stays_out false tube out = refl
-stays_out true tube out = cc
-
 there : (tube : Bool) (q : Query) (o : Op) → (if tube then Some q else None) ≡ Some (access o) → tube ≡ true
 there true q o asks = refl
 there false q o asks = cc
 
 same_rom : (b : ParaBusState) (c : Cycle) → b.rom_in ≡ false → rom_in_after b.rom_in c ≡ b.rom_in
-same_rom b (Read at) out = stays_out b.rom_in (is_tube at) out
-same_rom b (Write at v) out = stays_out b.rom_in (is_tube at) out
+same_rom b (Read at) out = rw out
+same_rom b (Write at v) out = rw out
 
 same_ram : (b : ParaBusState) (c : Cycle) (o : Op) → asks_by para_wiring b (Some c) ≡ Some (access o) → ram_after b.ram c ≡ b.ram
 same_ram b (Read at) o asks = refl
-same_ram b (Write at v) o asks = ap (λ (tube : Bool). if tube then b.ram else slice_set b.ram at v) (there (is_tube at) _ o asks)
+same_ram b (Write at v) o asks = rw (there (is_tube at) _ o asks)
 
 passes_it : (b : ParaBusState) (c : Cycle) (o : Op) → b.rom_in ≡ false → asks_by para_wiring b (Some c) ≡ Some (access o) → IsPassing para_wiring b c o
 passes_it b c o out asks = record {
   asks = asks;
-  leaves = λ t.
-      ap (λ r. record (para_wiring.close b t) { ram = r; rom_in = rom_in_after b.rom_in c }) (same_ram b c o asks)
-      ∙ ap (λ (r : Bool). record (para_wiring.close b t) { rom_in = r }) (same_rom b c out);
+  leaves = λ t. rw (same_ram b c o asks, same_rom b c out);
   fast = λ t u. refl;
 }
 

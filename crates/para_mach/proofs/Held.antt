@@ -1,24 +1,23 @@
 -- A machine that is held stands at a look, and goes past looks there; one that starts an instruction is not.
-use Rattle.std.proofs.Common.{◌≡◌, ◌∙◌, refl, sym, ap, subst, ℕ, zero, suc, ◌+◌, ◌<◌, ◌≤◌, ◌==◌, not, Bool, true, false, is_none, Option, None, Some, MatchOption, List, [], if◌then◌else◌}
+use Rattle.std.proofs.Common.{◌≡◌, ◌∙◌, refl, sym, ap, subst, ℕ, zero, suc, ◌+◌, ◌<◌, ◌≤◌, ◌==◌, not, Bool, true, false, is_none, Option, None, Some, List, [], if◌then◌else◌}
 use Rattle.std.proofs.lemmas.Bool.{ne_eqb}
 use Rattle.op_table.specs.declared.names.Part.TheVariants.{Cmos}
 use Rattle.cpu_alu.specs.declared.Cycle.{Cycle}
-use Rattle.cpu_alu.specs.declared.Regs.{Regs}
 use Rattle.cpu_core.specs.State as cpu
 use Rattle.cpu_core.specs.declared.Sequence.{Sequence}
-use Rattle.cpu_core.specs.declared.Sequence.TheVariants.{Instruction, Reset}
+use Rattle.cpu_core.specs.declared.Sequence.TheVariants.{Instruction}
 use Rattle.cpu_core.specs.Sequences.{is_start}
-use Rattle.cpu65c02.specs.Sequences.{next_cycle, after, sequence_at_look, fresh, starting}
-use Rattle.tube_chip.specs.Act.{Query, look}
+use Rattle.cpu65c02.specs.Sequences.{next_cycle, after, starting}
+use Rattle.tube_chip.specs.Act.{Query}
 use Rattle.tube_chip.specs.declared.Lines.{Lines}
 use Rattle.tube_chip.specs.declared.Op.{Op}
 use Rattle.tube_chip.specs.declared.Answer.{Answer}
 use Rattle.tube_chip.specs.declared.Answer.TheVariants.{Byte, Seen}
 use Rattle.tube_party.specs.Moves.{Shown, Looks, Talks, Sees, Hears, GoesHearing, IsAsk, shown_lines}
-use Rattle.tube_party.specs.Steps.{look_last, looks_wider, silent_all, talks_on}
+use Rattle.tube_party.specs.Steps.{After, look_last, looks_wider, silent_all, talks_on}
 use Rattle.tube_party.specs.declared.party.Ask.{Ask}
 use Rattle.tube_party.specs.declared.party.Ask.TheVariants.{Nothing, Access, Look}
-use Rattle.tube_machine.specs.Step.{asks_by, begin_leaves, after_held_cycle, after_step, closed_to, lines_in}
+use Rattle.tube_machine.specs.Step.{asks_by, after_held_cycle, after_step, closed_to, lines_in}
 use Rattle.tube_machine.specs.declared.pass.Passing.{Passing}
 use Rattle.tube_machine.specs.Passing.{IsOver, ToLook, Passes, over_at}
 use Rattle.para_mach.specs.State.{ParaBusState, ParaState, shown_regs}
@@ -30,23 +29,21 @@ use Rattle.para_mach.specs.CodeNotes.{LooksOn, IsHeldAtLook, part_kept}
 look_by : (resets prst : Bool) (s held reset taken : ParaState) → (next_cycle held.cpu ≡ None) → (reset.bus.is_held ≡ false) → (taken.bus.is_held ≡ false) →
     IsHeldAtLook (if resets then (if prst then held else reset) else taken)
 look_by true true s held reset taken a b c is = ap is_none a
-look_by true false s held reset taken a b c is = let no : true ≡ false = sym is ∙ b in cc
-look_by false prst s held reset taken a b c is = let no : true ≡ false = sym is ∙ c in cc
+look_by true false s held reset taken a b c is = cc
+look_by false prst s held reset taken a b c is = cc
 
 step_by : (o : Option Cycle) (s : ParaState) (a : Option Answer) → next_cycle s.cpu ≡ o → IsHeldAtLook s → IsHeldAtLook (after_step Cmos para_wiring o s a)
 step_by None s a over held =
     let l : Lines = lines_in a in
-    look_by (not (l.resets == s.bus.resets)) l.prst s (after_held_cycle Cmos para_wiring s) (begin_leaves s (fresh Reset (after s.cpu)) (para_wiring.reset s.bus l))
-    (begin_leaves s (fresh (sequence_at_look (para_wiring.nmi s.bus l) (para_wiring.irq s.bus l) (after s.cpu)) (after s.cpu)) (para_wiring.taken s.bus l)) over refl refl
+    look_by (not (l.resets == s.bus.resets)) l.prst s _ _ _ over refl refl
 step_by (Some c) s a over held = λ is. let no : true ≡ false = sym (held is) ∙ ap is_none over in cc
 
 pub next_held : (s : ParaState) (a : Option Answer) → IsHeldAtLook s → IsHeldAtLook (next_state s a)
 next_held s a held = step_by (next_cycle s.cpu) (closed_to para_wiring s (s.due + 1)) a refl held
 
 module _ (n : ℕ) (lines : Lines) (sure : ℕ) where
-  looks_by : (k : ℕ) (s last : ParaState) (o : Option Query) → IsHeldAtLook s → ((u : ParaState) → IsHeldAtLook u → Looks para_moves n (shown_lines lines sure) k u last → IsHeldAtLook last) →
-      MatchOption o (Looks para_moves n (shown_lines lines sure) k (next_state s None) last)
-      (λ q. (q ≡ look) × (s.due < sure) × Looks para_moves n (shown_lines lines sure) k (next_state s (Some (Seen lines))) last) → IsHeldAtLook last
+  looks_by : (k : ℕ) (s last : ParaState) (o : Option Query) → IsHeldAtLook s → ((u : ParaState) → IsHeldAtLook u → Looks para_moves n (shown_lines lines sure) k u last → IsHeldAtLook last)
+      → After para_moves n lines sure k s last o → IsHeldAtLook last
   looks_by k s last None held on h = on (next_state s None) (next_held s None held) h
   looks_by k s last (Some q) held on h = on (next_state s (Some (Seen lines))) (next_held s (Some (Seen lines)) held) h.2
 
@@ -55,36 +52,30 @@ module _ (n : ℕ) (lines : Lines) (sure : ℕ) where
   looks_held (suc k) s last held h = looks_by k s last (para_moves.asks s) held (λ u there on. looks_held k u last there on) h.1
 
   ask_held : (last new : ParaState) (ask : Ask) → IsHeldAtLook last → IsAsk para_moves n last ask new → IsHeldAtLook new
-  ask_held last new Nothing held is = subst IsHeldAtLook (sym is.1) held
-  ask_held last new (Access t o) held is = subst IsHeldAtLook (sym is.3) held
-  ask_held last new (Look t) held is = subst IsHeldAtLook (sym is.3) held
-
-  pub sees_held : (old new : ParaState) (ask : Ask) → IsHeldAtLook old → Sees para_moves n (shown_lines lines sure) old ask new → IsHeldAtLook new
-  sees_held old new ask held sees = ask_held sees.last new ask (looks_held sees.steps old sees.last held sees.looks) sees.asked
+  ask_held last new Nothing held is = rw is.1 held
+  ask_held last new (Access t o) held is = rw is.3 held
+  ask_held last new (Look t) held is = rw is.3 held
 
   talks_held : {D : Type 0} (answers : D → ℕ → Op → ℕ → D → Type 0) (j : ℕ) (s last : ParaState) (d e : D) → IsHeldAtLook s
       → Talks para_moves answers n (shown_lines lines sure) j s d last e → IsHeldAtLook last
   talks_held answers zero s last d e held h = looks_held h.1.0 s last held h.1.1
   talks_held answers (suc j) s last d e held h =
       let there : IsHeldAtLook h.0 = looks_held h.3.0 s h.0 held h.3.1 in
-      talks_held answers j h.1 last h.2 e (subst IsHeldAtLook (sym h.4.goes) (next_held h.0 (Some (Byte h.4.byte)) there)) h.5
+      talks_held answers j h.1 last h.2 e (rw h.4.goes (next_held h.0 (Some (Byte h.4.byte)) there)) h.5
 
-  pub hears_held : {D : Type 0} (answers : D → ℕ → Op → ℕ → D → Type 0) (old new : ParaState) (d e : D) (ask : Ask) → IsHeldAtLook old
-      → Hears para_moves answers n (shown_lines lines sure) old d ask new e → IsHeldAtLook new
-  hears_held answers old new d e ask held hears = ask_held hears.last new ask (talks_held answers hears.accesses old hears.last d e held hears.talks) hears.asked
+module _ {n : ℕ} {lines : Lines} {sure : ℕ} {old new : ParaState} {ask : Ask} (held : IsHeldAtLook old) where
+  pub sees_held : Sees para_moves n (shown_lines lines sure) old ask new → IsHeldAtLook new
+  sees_held sees = ask_held n lines sure sees.last new ask (looks_held n lines sure sees.steps old sees.last held sees.looks) sees.asked
+
+  pub hears_held : {D : Type 0} {answers : D → ℕ → Op → ℕ → D → Type 0} {d e : D} → Hears para_moves answers n (shown_lines lines sure) old d ask new e → IsHeldAtLook new
+  hears_held {answers = answers} {d} {e} hears = ask_held n lines sure hears.last new ask (talks_held n lines sure answers hears.accesses old hears.last d e held hears.talks) hears.asked
 
 -- ---- Held
 
 -- the reset line stands for one more reset
 held_look : (s : ParaState) (l : Lines) → next_cycle s.cpu ≡ None → l.prst ≡ true → (l.resets ≡ s.bus.resets → ⊥)
     → next_state s (Some (Seen l)) ≡ after_held_cycle Cmos para_wiring (closed_to para_wiring s (s.due + 1))
-held_look s l over stands other =
-    let x : ParaState = closed_to para_wiring s (s.due + 1) in
-    let taken : ParaState = begin_leaves x (fresh (sequence_at_look (para_wiring.nmi x.bus l) (para_wiring.irq x.bus l) (after s.cpu)) (after s.cpu)) (para_wiring.taken x.bus l) in
-    let reset : ParaState = begin_leaves x (fresh Reset (after s.cpu)) (para_wiring.reset x.bus l) in
-    ap (λ (o : Option Cycle). after_step Cmos para_wiring o x (Some (Seen l))) over
-    ∙ ap (λ (b : Bool). if not b then (if l.prst then after_held_cycle Cmos para_wiring x else reset) else taken) (ne_eqb l.resets s.bus.resets other)
-    ∙ ap (λ (b : Bool). if b then after_held_cycle Cmos para_wiring x else reset) stands
+held_look s l over stands other = rw (over, ne_eqb l.resets s.bus.resets other, stands)
 
 -- so far a machine passed looks at that line
 pub record IsHeldOn (n : ℕ) (lines : Lines) (sure : ℕ) (start s : ParaState) : Type 0 where
@@ -93,45 +84,37 @@ pub record IsHeldOn (n : ℕ) (lines : Lines) (sure : ℕ) (start s : ParaState)
   pub kept : part_kept s.bus.ram s.bus ≡ part_kept start.bus.ram start.bus
   pub before : s.bus.closed ≤ s.due + 1
 
-pub held_more : (n : ℕ) (lines : Lines) (sure : ℕ) (start s new : ParaState) → IsHeldOn n lines sure start s → lines.prst ≡ true → (lines.resets ≡ start.bus.resets → ⊥) → s.due < n → s.due < sure →
+pub held_more : {n : ℕ} {lines : Lines} {sure : ℕ} {start s new : ParaState} → IsHeldOn n lines sure start s → lines.prst ≡ true → (lines.resets ≡ start.bus.resets → ⊥) → s.due < n → s.due < sure →
     new ≡ next_state s (Some (Seen lines)) → new.bus.closed ≤ new.due + 1 → IsHeldOn n lines sure start new
-held_more n lines sure start s new so_far stands other low early is before =
+held_more {n} {lines} {sure} {start} {s} {new} so_far stands other low early is before =
     let same : s.bus.resets ≡ start.bus.resets = ap (λ (b : ParaBusState). b.resets) so_far.kept in
     let stays : new ≡ after_held_cycle Cmos para_wiring (closed_to para_wiring s (s.due + 1)) = is ∙ held_look s lines so_far.over stands (λ e. other (e ∙ same)) in
     record {
       came = (
         suc so_far.came.0,
-        subst (λ (x : ParaState). Looks para_moves n (shown_lines lines sure) (suc so_far.came.0) start x) (sym is)
-            (look_last para_moves n lines sure so_far.came.0 start s so_far.came.1 low (ap (asks_by para_wiring s.bus) so_far.over) early),
+        rw is (look_last para_moves n lines sure so_far.came.0 start s so_far.came.1 low (ap (asks_by para_wiring s.bus) so_far.over) early),
       );
-      over = ap (λ (x : ParaState). next_cycle x.cpu) stays ∙ so_far.over;
-      kept = ap (λ (x : ParaState). part_kept x.bus.ram x.bus) stays ∙ so_far.kept;
+      over = rw stays so_far.over;
+      kept = rw stays so_far.kept;
       before = before;
     }
 
 -- ---- Room
 
 -- the steps of a run, and what is asked then; its looks may be nearer than they need be
-module _ (n : ℕ) (lines : Lines) (near sure : ℕ) {D : Type 0} (answers : D → ℕ → Op → ℕ → D → Type 0) where
-  talks_wider : (j : ℕ) (s last : ParaState) (d e : D) → near ≤ sure → Talks para_moves answers n (shown_lines lines near) j s d last e → Talks para_moves answers n (shown_lines lines sure) j s d last e
-  talks_wider zero s last d e low h = (h.0, (h.1.0, looks_wider para_moves n lines near sure h.1.0 s last low h.1.1))
-  talks_wider (suc j) s last d e low h =
-      (h.0, h.1, h.2, (h.3.0, looks_wider para_moves n lines near sure h.3.0 s h.0 low h.3.1), h.4, talks_wider j h.1 last h.2 e low h.5)
+module _ (n : ℕ) (lines : Lines) {near sure : ℕ} {D : Type 0} (answers : D → ℕ → Op → ℕ → D → Type 0) (low : near ≤ sure) where
+  talks_wider : (j : ℕ) (s last : ParaState) (d e : D) → Talks para_moves answers n (shown_lines lines near) j s d last e → Talks para_moves answers n (shown_lines lines sure) j s d last e
+  talks_wider zero s last d e h = (h.0, (h.1.0, looks_wider para_moves n lines near sure h.1.0 s last low h.1.1))
+  talks_wider (suc j) s last d e h = (h.0, h.1, h.2, (h.3.0, looks_wider para_moves n lines near sure h.3.0 s h.0 low h.3.1), h.4, talks_wider j h.1 last h.2 e h.5)
 
-  pub hears_wider : (old new : ParaState) (d e : D) (ask : Ask) → near ≤ sure → Hears para_moves answers n (shown_lines lines near) old d ask new e
-      → GoesHearing para_moves answers n (shown_lines lines sure) old d ask new e
-  hears_wider old new d e ask low hears = record {
-    accesses = hears.accesses;
-    last = hears.last;
-    talks = talks_wider hears.accesses old hears.last d e low hears.talks;
-    asked = hears.asked;
-  }
+module _ {n : ℕ} {lines : Lines} {near sure : ℕ} {D : Type 0} {answers : D → ℕ → Op → ℕ → D → Type 0} (low : near ≤ sure) {old new : ParaState} {d e : D} {ask : Ask} where
+  pub hears_wider : Hears para_moves answers n (shown_lines lines near) old d ask new e → GoesHearing para_moves answers n (shown_lines lines sure) old d ask new e
+  hears_wider hears = record { accesses = hears.accesses; last = hears.last; talks = talks_wider n lines answers low hears.accesses old hears.last d e hears.talks; asked = hears.asked }
 
-  pub goes_on_wider : (old last new : ParaState) (d e : D) (ask : Ask) → near ≤ sure → (j : ℕ) × Talks para_moves answers n (shown_lines lines near) j old d last e
+  pub goes_on_wider : {last : ParaState} → (j : ℕ) × Talks para_moves answers n (shown_lines lines near) j old d last e
       → LooksOn n (shown_lines lines sure) last ask new → GoesHearing para_moves answers n (shown_lines lines sure) old d ask new e
-  goes_on_wider old last new d e ask low came goes =
-      let all : (j : ℕ) × Talks para_moves answers n (shown_lines lines sure) j old d goes.last e =
-      talks_on para_moves answers n lines sure came.0 0 old last goes.last d e e (talks_wider came.0 old last d e low came.1) (refl, (goes.steps, goes.looks)) in
+  goes_on_wider {last} came goes =
+      let all = talks_on para_moves answers n lines sure came.0 0 old last goes.last d e e (talks_wider n lines answers low came.0 old last d e came.1) (refl, (goes.steps, goes.looks)) in
       record { accesses = all.0; last = goes.last; talks = all.1; asked = goes.asked }
 
 -- ---- Taken back
@@ -161,7 +144,7 @@ to_look_held : (n : ℕ) (v : Shown) (s u : ParaState) → IsHeldAtLook s → To
 to_look_held n v s u held looks =
     let last : ParaState = looks.goes.last in
     let there : IsHeldAtLook last = looks_held n v.lines 0 looks.goes.steps s last held (silent_all para_moves n v.lines 0 looks.goes.steps s last looks.goes.runs) in
-    subst IsHeldAtLook (sym looks.next) (next_held looks.last (Some (Seen v.lines)) (subst IsHeldAtLook (sym looks.goes.asked.3) there))
+    rw looks.next (next_held looks.last (Some (Seen v.lines)) (rw looks.goes.asked.3 there))
 
 -- by the registers that are shown
 pub passes_held : (passing : Passing) (n : ℕ) (v : Shown) (k : ℕ) (s last : ParaState) → IsHeldAtLook s → Passes para_moves (over_at (λ b at. peek_of b.ram b.rom b.rom_in at) passing) n v k s last →
@@ -170,5 +153,5 @@ passes_held passing n v zero s last held h = (h, subst IsHeldAtLook h held)
 passes_held passing n v (suc k) s last held h =
     let u : ParaState = h.1.0 in
     let rest = passes_held passing n v k u last (to_look_held n v s u held h.1.1.0) h.1.1.1 in
-    let over : IsOver passing s.due (shown_regs s).pc (para_peek s) = subst (λ (r : Regs). IsOver passing s.due r.pc (para_peek s)) (sym (shown_at s held h.0.0)) h.0.1 in
+    let over : IsOver passing s.due (shown_regs s).pc (para_peek s) = rw (shown_at s held h.0.0) h.0.1 in
     ((over, (u, (h.1.1.0, rest.0))), rest.1)

@@ -1,5 +1,5 @@
 -- Writes that were noted are rolled back.
-use Rattle.std.proofs.Common.{◌≡◌, ◌∙◌, refl, sym, ap, ℕ, List, [], ◌∷◌, ◌++◌}
+use Rattle.std.proofs.Common.{◌≡◌, refl, ap, ℕ, List, [], ◌∷◌, ◌++◌}
 use Rattle.std.proofs.lemmas.List.{set-get_or, set-set}
 use Rattle.std.specs.Prelude.{slice_index, slice_set}
 use Rattle.para_mach.specs.declared.notes.Stood.{Stood}
@@ -13,6 +13,4 @@ put_back_last (y ∷ ys) x ram = ap (λ (r : List ℕ). slice_set r y.at y.byte)
 -- a write is rolled back by the byte that stood there
 pub put_back_written : (xs ys : List Stood) (x : Stood) (ram : List ℕ) (byte : ℕ) → ys ≡ xs ++ x ∷ [] → slice_index ram x.at ≡ x.byte → put_back ys (slice_set ram x.at byte) ≡ put_back xs ram
 put_back_written xs ys x ram byte is stood =
-    ap (λ (l : List Stood). put_back l (slice_set ram x.at byte)) is
-    ∙ put_back_last xs x (slice_set ram x.at byte)
-    ∙ ap (put_back xs) (set-set ram x.at byte x.byte ∙ ap (λ (b : ℕ). slice_set ram x.at b) (sym stood) ∙ set-get_or ram x.at 0)
+    rw (is, put_back_last xs x (slice_set ram x.at byte), set-set ram x.at byte x.byte, ← stood, set-get_or ram x.at 0)

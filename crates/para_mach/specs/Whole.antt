@@ -1,9 +1,9 @@
 -- Which of the second processor's addresses are plain memory, and which of its looks ask for nothing.
-use Rattle.std.specs.Prelude.{ℕ, suc, ◌≡◌, ◌≤◌, ◌<◌, ◌+◌, ◌*◌, ◌&&◌, max, nat_lt, nat_le, Bool, true, false, not, refl, List, slice_set, if◌then◌else◌}
+use Rattle.std.specs.Prelude.{ℕ, suc, ◌≡◌, ◌≤◌, ◌<◌, ◌+◌, ◌*◌, ◌&&◌, max, nat_lt, nat_le, Bool, true, false, not, refl, slice_set, if◌then◌else◌}
 use Rattle.std.proofs.Common.{arith, ap, ◌∙◌, sym}
 use Rattle.std.proofs.lemmas.Bool.{and_left, ltb-true, lt-ltb, lt-leb, eq-eqb}
 use Rattle.std.proofs.lemmas.List.{set-set}
-use Rattle.std.proofs.Math.Nat.{mul-le-mul_left, mul-one}
+use Rattle.std.proofs.Math.Nat.{mul-le-mul_left}
 use Rattle.cpu_alu.specs.declared.Cycle.TheVariants.{Read}
 use Rattle.tube_chip.specs.declared.Lines.{Lines}
 use Rattle.beeb_bits.specs.Clock.{para}
@@ -46,9 +46,7 @@ latest c t u high = omega (arith, high)
 
 twice-apart : (b : ParaBusState) (t u at x y : ℕ) → t ≤ u → written_by false (closed_at (written_by false (closed_at b t) at x) u) at y ≡ written_by false (closed_at b u) at y
 twice-apart b t u at x y high =
-    ap (λ (r : List ℕ). record b { ram = r; rom_in = (b.rom_in && true) && true; closed = max u (max t b.closed) }) (set-set b.ram at x y)
-    ∙ ap (λ (i : Bool). record b { ram = slice_set b.ram at y; rom_in = i && true; closed = max u (max t b.closed) }) (and-true b.rom_in)
-    ∙ ap (λ (c : ℕ). record b { ram = slice_set b.ram at y; rom_in = b.rom_in && true; closed = c }) (latest b.closed t u high)
+    rw (set-set b.ram at x y, and-true b.rom_in, and-true b.rom_in, latest b.closed t u high)
 
 -- a byte that is written twice
 twice : (tube : Bool) → tube ≡ false → (b : ParaBusState) (t u at x y : ℕ) → t ≤ u → written_by tube (closed_at (written_by tube (closed_at b t) at x) u) at y ≡ written_by tube (closed_at b u) at y
@@ -63,7 +61,7 @@ pub comes_later : (closed c t n k : ℕ) → closed ≤ t + max 1 (c * n) → n 
 comes_later closed c t n k low high = let more : c * n ≤ c * k = mul-le-mul_left c high in omega (arith, low, more)
 
 read-leaves : (b : ParaBusState) (at : ℕ) → plain_read at ≡ true → para_wiring.after b (Read at) ≡ b
-read-leaves b at low = ap (λ (tube : Bool). record b { rom_in = b.rom_in && not tube }) (read-apart at low) ∙ ap (λ (i : Bool). record b { rom_in = i }) (and-true b.rom_in)
+read-leaves b at low = rw (read-apart at low, and-true b.rom_in)
 
 pub para_memory : IsMemory para_wiring plain_read plain_write
 para_memory = record {
@@ -95,6 +93,3 @@ para_rests = record {
   write = λ b l masks far at byte rest low. rest;
   tube = λ b l masks far c rest at. rest;
 }
-
-pub comes_behind : (c t n closed : ℕ) → 1 < c → 0 < n → closed ≤ t + max 1 (c * n) → closed ≤ t + c * n
-comes_behind c t n closed some more low = let least : c * 1 ≤ c * n = mul-le-mul_left c more in let one : c * 1 ≡ c = mul-one c in omega (arith, least, one, some, low)

@@ -218,7 +218,7 @@ impl ParaMachine {
 
     // Goes on from where it is, with the accesses that the desk answers, and notes that. It may leave off at any look.
     #[inline(never)]
-    fn go_on<K: Desk>(
+    fn go_noting<K: Desk>(
         &mut self,
         until: Tick,
         lines: &Lines,
@@ -349,7 +349,7 @@ impl Rewinds for ParaMachine {
     {
         // A machine that is held is noted too.
         self.mark(past);
-        Some(self.go_on(until, lines, sure, &mut past.undo_log, desk))
+        Some(self.go_noting(until, lines, sure, &mut past.undo_log, desk))
     }
 
     #[inline(always)]
@@ -365,7 +365,7 @@ impl Rewinds for ParaMachine {
         if past.undo_log.room() < FEWEST {
             return ask;
         }
-        self.go_on(until, lines, sure, &mut past.undo_log, desk)
+        self.go_noting(until, lines, sure, &mut past.undo_log, desk)
     }
 
     #[inline(never)]

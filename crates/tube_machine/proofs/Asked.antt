@@ -1,6 +1,6 @@
 -- An instruction whose last access is the Tube's and is answered in passing, and a branch behind it that leads back: where the registers are then as they
 -- were, the same comes again.
-use Rattle.std.proofs.Common.{◌≡◌, ◌≤◌, ◌<◌, ◌∙◌, ◌+◌, ◌-◌, ◌*◌, refl, sym, ap, subst, ℕ, zero, suc, Bool, true, false, Option, Some, IsSome, MatchOption, arith}
+use Rattle.std.proofs.Common.{◌≡◌, ◌≤◌, ◌<◌, ◌∙◌, ◌+◌, ◌-◌, ◌*◌, refl, sym, ap, ℕ, zero, suc, Bool, true, false, Some, IsSome, arith}
 use Rattle.op_table.specs.declared.names.Part.{Part}
 use Rattle.cpu_alu.specs.declared.Cycle.{Cycle}
 use Rattle.cpu_alu.specs.declared.Regs.{Regs}
@@ -15,8 +15,8 @@ use Rattle.cpu_whole.specs.declared.outside.LastAccess.{LastAccess}
 use Rattle.tube_chip.specs.declared.Answer.TheVariants.{Byte}
 use Rattle.tube_chip.specs.declared.Lines.{Lines}
 use Rattle.tube_chip.specs.declared.Op.{Op}
-use Rattle.tube_chip.specs.Act.{Query, access}
-use Rattle.tube_party.specs.Moves.{FitsAnswer, Talks, IsAnswered, IsAnsweredAgain, shown_lines}
+use Rattle.tube_chip.specs.Act.{access}
+use Rattle.tube_party.specs.Moves.{Talks, IsAnswered, IsAnsweredAgain, shown_lines}
 use Rattle.tube_party.specs.Steps.{talks_on}
 use Rattle.tube_machine.specs.Wiring.{Wiring, IsWired, StaysPlain}
 use Rattle.tube_machine.specs.Step.{At, at_of, is_break, asks, asks_by, after_look, closed_to, next_state, moves_of}
@@ -99,7 +99,7 @@ module _ (part : Part) {B D : Type 0} {w : Wiring B} (wired : IsWired w) {reads 
   ended from = at_of (fresh Instruction (outcome part o r byte)) (w.close m (top from + n)) (top from + n)
 
   at_tube : (t : ℕ) → IsAtTube w (w.close m t) c
-  at_tube t = at-tube part w m (w.close m t) c (wired.tube_close m t) (subst (λ (q : Option Query). MatchOption q ⊥ (λ x. FitsAnswer x (Byte 0))) (sym passing.asks) tt)
+  at_tube t = at-tube part w m (w.close m t) c (wired.tube_close m t) (rw passing.asks tt)
 
   free_to : (u far : ℕ) → IsFree part w far m → IsFree part w far (w.close m u)
   free_to u far clear t low = wired.pending_close m u t ∙ clear t low
@@ -168,9 +168,9 @@ module _ (part : Part) {B D : Type 0} {w : Wiring B} (wired : IsWired w) {reads 
     goes v high =
         let pends : w.pending b (top from + (n - 1)) ≡ false = free_to (top from + 1) bound free (top from + (n - 1)) (omega (arith, fits, some)) in
         sym (rw (pends, (outside from).over byte))
-        ∙ taken part w wired there c b byte n (outside from).next unbroken (subst (λ (x : B). IsAtTube w x c) (sym same_on) (at_tube (top from + 1)))
-        (sym (ap (λ (x : B). w.after x c) same_on ∙ passing.leaves (top from + 1))) cycle_on
-        (ap (λ (x : B). w.takes x (top from) c) same_on ∙ passing.fast (top from) (top from + 1) ∙ sym (ap w.cycle same_on))
+        ∙ taken part w wired there c b byte n (outside from).next unbroken (rw same_on (at_tube (top from + 1)))
+        (rw same_on (sym (passing.leaves (top from + 1)))) cycle_on
+        (rw same_on (passing.fast (top from) (top from + 1)))
         ∙ sym (next_closed part w wired there v (Some (Byte byte)) high)
 
     looked : ended from ≡ after_look part w (closed_to w over_there (over_there.due + 1)) lines
@@ -257,27 +257,19 @@ module _ (part : Part) {B D : Type 0} {w : Wiring B} (wired : IsWired w) {reads 
         IsServed part w plain answers lines bound (at_of (fresh Instruction r) (w.close m u) s) d (at (s + period)) e
     round s u d e low before fits answered =
         let t : ℕ = s + n * o.cycles + n in
-        let ask : IsServed part w plain answers lines bound (at_of (fresh Instruction r) (w.close m u) s) d (behind t) e =
-        asked-whole s u d e low before (omega (arith, fits)) (omega (arith, fits, room)) answered in
+        let ask = asked-whole s u d e low before (omega (arith, fits)) (omega (arith, fits, room)) answered in
         let there : t + n * k ≡ s + period = omega arith in
-        let on : IsOnward part w plain lines bound (behind t) (at (s + period)) =
-        subst (λ (x : ℕ). IsOnward part w plain lines bound (behind t) (at x)) there (branch t (omega (arith, before)) (omega (arith, fits))) in
-        served-then ask (served-onward on)
+        served-then ask (served-onward (rw there at (branch t (omega (arith, before)) (omega (arith, fits)))))
 
     -- so many times
     pub rounds : (j s t : ℕ) (d e : D) → t + period ≡ s + n * o.cycles → w.closed m ≤ s + 1 → s + period * j ≤ bound → IsAnsweredAgain answers asked byte period j d t e →
         IsServed part w plain answers lines bound (at s) d (at (s + period * j)) e
     rounds zero s t d e here before fits again =
         let same : s ≡ s + period * 0 = omega arith in
-        subst (λ (x : ℕ). IsServed part w plain answers lines bound (at s) d (at x) e) same
-        (subst (λ (x : D). IsServed part w plain answers lines bound (at s) d (at s) x) again
-        (served-none (plain_to s) (closed_then s s (omega arith) before) (begins part Instruction r)))
+        rw (← same, ← again) (served-none (plain_to s) (closed_then s s (omega arith) before) (begins part Instruction r))
     rounds (suc j) s t d e here before fits again =
         let more : period * suc j ≡ period * j + period = next-more period j in
-        let one : IsServed part w plain answers lines bound (at s) d (at (s + period)) again.0 =
-        round s s d again.0 (omega arith) before (omega (arith, fits, more)) (subst (λ (x : ℕ). answers d x asked byte again.0) here again.1.0) in
-        let rest_of : IsServed part w plain answers lines bound (at (s + period)) again.0 (at (s + period + period * j)) e =
-        rounds j (s + period) (t + period) again.0 e (omega (arith, here)) (omega (arith, before)) (omega (arith, fits, more)) again.1.1 in
+        let one = round s s d again.0 (omega arith) before (omega (arith, fits, more)) (rw here at again.1.0) in
+        let others = rounds j (s + period) (t + period) again.0 e (omega (arith, here)) (omega (arith, before)) (omega (arith, fits, more)) again.1.1 in
         let there : s + period + period * j ≡ s + period * suc j = omega (arith, more) in
-        subst (λ (x : ℕ). IsServed part w plain answers lines bound (at s) d (at x) e) there
-        (served-then one rest_of)
+        rw there at (served-then one others)

@@ -5,12 +5,12 @@ use Rattle.std.proofs.lemmas.Option.{slice_get_within}
 use Rattle.std.specs.Prelude.{slice_get}
 use Rattle.op_table.specs.declared.names.Part.TheVariants.{Cmos}
 use Rattle.op_table.specs.declared.names.Mode.{Mode}
-use Rattle.op_table.specs.declared.names.Mode.TheVariants.{Acc, Zp, Abs, AbsX, AbsY, IndY, Ind, IndAbsX, Spare}
+use Rattle.op_table.specs.declared.names.Mode.TheVariants.{Acc, Zp, Abs, AbsX, AbsY, IndY, Ind, Spare}
 use Rattle.op_table.specs.declared.names.Mnemonic.{Mnemonic}
-use Rattle.op_table.specs.declared.names.Mnemonic.TheVariants.{Brk, Jsr, Rti, Rts, Bra, Jmp}
+use Rattle.op_table.specs.declared.names.Mnemonic.TheVariants.{Jmp}
 use Rattle.op_table.specs.declared.rows.Row.{Row}
 use Rattle.op_table.specs.Forms.{Form, forms, form_at}
-use Rattle.op_table.specs.Rows.{Use, Reads, Stores, Shifts, Modifies, Pushes, Pulls, Branches, use_of, read_cycles, store_cycles, modify_cycles}
+use Rattle.op_table.specs.Rows.{Use, Reads, use_of, read_cycles, store_cycles, modify_cycles}
 use Rattle.op_table.specs.Rows.{shift_cycles, jump_cycles, cycles_by, cycles_of, spare, row_or_spare, cmos_row}
 use Rattle.cpu_alu.specs.declared.Regs.{Regs}
 use Rattle.cpu_alu.specs.declared.Cycle.{Cycle}
@@ -19,7 +19,7 @@ use Rattle.cpu_alu.specs.declared.uses.BusUse.{BusUse}
 use Rattle.cpu_alu.specs.declared.uses.BusUse.TheVariants as uses
 use Rattle.cpu_alu.specs.Instructions.{bus_use, takes_branch, modified_value, stored_value}
 use Rattle.cpu_core.specs.declared.Sequence.{Sequence}
-use Rattle.cpu_core.specs.declared.Sequence.TheVariants.{Instruction, Reset, Nmi, Irq}
+use Rattle.cpu_core.specs.declared.Sequence.TheVariants.{Instruction}
 use Rattle.cpu_core.specs.Accesses.{byte, cycle_between, waits, lasts_longer, reach, address, operand, last_place, modify_form, branch_form, jump_form, again, implied_form, form}
 use Rattle.cpu_core.specs.Sequences.{accesses}
 use Rattle.cpu_core.specs.State as cpu
@@ -51,21 +51,11 @@ few_jump _ = omega arith
 
 few_by : (u : Use) (w : Mode) → cycles_by Cmos u w ≤ 8
 few_by Reads w = few_read w
-few_by Stores w = few_store w
-few_by Shifts w = few_shift w
-few_by Modifies w = few_modify w
-few_by Pushes w = omega arith
-few_by Pulls w = omega arith
-few_by Branches w = omega arith
+few_by _ w = omega (arith, few_store, few_shift, few_modify)
 
 few_of : (name : Mnemonic) (w : Mode) → cycles_of Cmos name w ≤ 8
-few_of Brk w = omega arith
-few_of Jsr w = omega arith
-few_of Rti w = omega arith
-few_of Rts w = omega arith
-few_of Bra w = omega arith
 few_of Jmp w = few_jump w
-few_of name w = few_by (use_of name) w
+few_of name w = omega (arith, few_by (use_of name) w)
 
 few_if : (b : Bool) (x y : ℕ × ℕ) → x.1 ≤ 8 → y.1 ≤ 8 → (let p : ℕ × ℕ = if b then x else y in p).1 ≤ 8
 few_if true x y p q = p
@@ -94,9 +84,7 @@ at_most_one false c = omega arith
 
 reach_most : (w : Mode) (always : Bool) (r : Regs) (seen : List (Option ℕ)) → length (reach Cmos w always r seen) ≤ 4
 reach_most AbsX always r seen = omega (arith, at_most_one)
-reach_most AbsY always r seen = omega (arith, at_most_one)
-reach_most IndY always r seen = omega (arith, at_most_one)
-reach_most _ always r seen = omega arith
+reach_most _ always r seen = omega (arith, at_most_one)
 
 with_more : (n k : ℕ) (xs ys : List Cycle) → length xs ≤ n → length ys ≤ k → length (xs ++ ys) ≤ n + k
 with_more n k xs ys g h = omega (arith, length-append xs ys)
@@ -132,7 +120,6 @@ branch_most false r seen = omega arith
 
 jump_most : (w : Mode) (r : Regs) (seen : List (Option ℕ)) → length (jump_form Cmos w r seen) ≤ 10
 jump_most Ind r seen = omega arith
-jump_most IndAbsX r seen = omega arith
 jump_most _ r seen = omega arith
 
 form_most : (u : BusUse) (row : Row) (r : Regs) (seen : List (Option ℕ)) → row.cycles ≤ 8 → length (form Cmos u row r seen) ≤ 10
@@ -156,9 +143,7 @@ most_accesses : (q : Sequence) (r : Regs) (seen : List (Option ℕ)) → length 
 most_accesses Instruction r seen =
     let row : Row = cmos_row (byte seen 0) in
     omega (arith, form_most (bus_use row.mnemonic) row r seen (few_cycles (byte seen 0)))
-most_accesses Reset r seen = omega arith
-most_accesses Nmi r seen = omega arith
-most_accesses Irq r seen = omega arith
+most_accesses _ r seen = omega arith
 
 within : (o : Option Cycle) (xs : List Cycle) (k : ℕ) → slice_get xs k ≡ o → is_none o ≡ false → k < length xs
 within (Some c) xs k is some = slice_get_within xs k c is

@@ -1,8 +1,8 @@
 -- Where the machine stops, and how it goes on from there.
 use Rattle.std.proofs.Common.{◌≡◌, ◌∙◌, ◌&&◌, ◌||◌, refl, sym, ap, subst, ℕ, zero, suc, ◌+◌, ◌-◌, ◌*◌, ◌<◌, ◌≤◌, ◌⊎◌, inl, inr, max, min, length}
 use Rattle.std.specs.Prelude.{nat_lt, not}
-use Rattle.std.proofs.lemmas.Bool.{ltb-true}
-use Rattle.std.proofs.Common.{Bool, true, false, is_none, Option, Some, None, IsSome, MatchOption, arith, if◌then◌else◌}
+use Rattle.std.proofs.lemmas.Bool.{ltb-true, and_right}
+use Rattle.std.proofs.Common.{Bool, true, false, is_none, Option, Some, None, IsSome, arith, if◌then◌else◌}
 use Rattle.std.proofs.Math.Nat.{mul-le-mul_left, mul-zero}
 use Rattle.op_table.specs.declared.names.Part.{Part}
 use Rattle.op_table.specs.declared.names.Part.TheVariants.{Cmos}
@@ -16,7 +16,7 @@ use Rattle.tube_chip.specs.declared.Lines.{Lines}
 use Rattle.tube_chip.specs.declared.Answer.{Answer}
 use Rattle.tube_chip.specs.declared.Answer.TheVariants.{Seen}
 use Rattle.tube_party.specs.Moves.{Looks, Hears, IsAsk, IsUnsure, shown_lines}
-use Rattle.tube_party.specs.Steps.{silent_last, look_last}
+use Rattle.tube_party.specs.Steps.{After, silent_last, look_last}
 use Rattle.tube_party.specs.declared.party.Ask.{Ask}
 use Rattle.tube_party.specs.declared.party.Ask.TheVariants.{Nothing, Access, Look}
 use Rattle.tube_machine.specs.Wiring.{Wiring, IsWired}
@@ -38,19 +38,13 @@ look-by true true o asked is = cc
 look-by true false o asked is = cc
 look-by false has o asked is = cc
 
-none-both : (p : Bool) → (p && false) ≡ false
-none-both true = refl
-none-both false = refl
-
 ready-tail : (over : Bool) (t n : ℕ) → 1 < n → (if over then (if false || over then t + (n - 1) else t + n) + 1 else (if false || over then t + (n - 1) else t + n)) ≡ t + n
 ready-tail true t n some = omega (arith, some)
 ready-tail false t n some = refl
 
 alone-parts : (low breaks has : Bool) → (low && breaks && not has) ≡ true → (low ≡ true) × ((breaks ≡ true) × (has ≡ false))
 alone-parts true true false is = (refl, (refl, refl))
-alone-parts true true true is = cc
-alone-parts true false has is = cc
-alone-parts false breaks has is = cc
+alone-parts _ _ _ is = cc
 
 -- where no room is left, the run began with little of it
 pub cramped : {counts : Type 0} {n sure : ℕ} {first last : Spent} → HasSpent counts n sure first last → counts → last.room ≡ 0 → last.seen < 16 → IsCramped n sure first.due first.room
@@ -102,9 +96,8 @@ module _ (part : Part) {B : Type 0} (w : Wiring B) (wired : IsWired w) where
   next-cycle s a = cycle-by (is_break part w s) (next_cycle part s.cpu) (closed_to w s (s.due + 1)) a ∙ wired.cycle_close s.bus (s.due + 1)
 
   module _ (n : ℕ) (lines : Lines) (sure : ℕ) where
-    looks-cycle-by : (k : ℕ) (s last : At B) (o : Option Query) → ((u : At B) → Looks (moves_of part w) n (shown_lines lines sure) k u last → w.cycle last.bus ≡ w.cycle u.bus) →
-        MatchOption o (Looks (moves_of part w) n (shown_lines lines sure) k (next_state part w s None) last)
-        (λ q. (q ≡ look) × (s.due < sure) × Looks (moves_of part w) n (shown_lines lines sure) k (next_state part w s (Some (Seen lines))) last) → w.cycle last.bus ≡ w.cycle s.bus
+    looks-cycle-by : (k : ℕ) (s last : At B) (o : Option Query) → ((u : At B) → Looks (moves_of part w) n (shown_lines lines sure) k u last → w.cycle last.bus ≡ w.cycle u.bus)
+        → After (moves_of part w) n lines sure k s last o → w.cycle last.bus ≡ w.cycle s.bus
     looks-cycle-by k s last None on h = on (next_state part w s None) h ∙ next-cycle s None
     looks-cycle-by k s last (Some q) on h = on (next_state part w s (Some (Seen lines))) h.2 ∙ next-cycle s (Some (Seen lines))
 
@@ -157,10 +150,7 @@ module _ (part : Part) {B : Type 0} (w : Wiring B) (wired : IsWired w) where
           let n_is : n ≡ w.cycle s.bus = even x.bus s.due c ∙ wired.cycle_close s.bus (s.due + 1) in
           let runs : halted part s.cpu ≡ false = ap (λ (q : Part). halted q s.cpu) cmos in
           let q : Bool = w.pending x.bus (s.due + (n - 1)) in
-          let none : (q && halted part s.cpu) ≡ false = ap (λ (b : Bool). q && b) runs ∙ none-both q in (
-            ap (λ (y : At B). ready part y.cpu y.due) step
-                ∙ ap (λ (b : Bool). if over then (if b || over then s.due + (n - 1) else s.due + n) + 1 else (if b || over then s.due + (n - 1) else s.due + n)) none
-                ∙ ready-tail over s.due n (omega (arith, n_is, wired.some s.bus))
-                ∙ ap (λ (k : ℕ). s.due + k) n_is,
+          let none : (q && halted part s.cpu) ≡ false = and_right q (halted part s.cpu) runs in (
+            rw (step, none) (ready-tail over s.due n (omega (arith, n_is, wired.some s.bus)) ∙ ap (λ (k : ℕ). s.due + k) n_is),
             seen-more part s.cpu new.cpu byte (ap (λ (y : At B). y.cpu) step) cmos,
           )

@@ -1,5 +1,5 @@
 -- An access to the Tube that was answered, and one that asked nothing.
-use Rattle.std.proofs.Common.{◌≡◌, ◌∙◌, sym, ap, subst, ℕ, ◌+◌, ◌-◌, ◌&&◌, Bool, true, false, Option, Some, None, MatchOption, refl, if◌then◌else◌, ◌%◌}
+use Rattle.std.proofs.Common.{◌≡◌, ◌∙◌, sym, ap, ℕ, ◌+◌, ◌-◌, ◌&&◌, Bool, true, false, Option, Some, None, MatchOption, refl, if◌then◌else◌, ◌%◌}
 use Rattle.op_table.specs.declared.names.Part.{Part}
 use Rattle.cpu_alu.specs.declared.Cycle.{Cycle}
 use Rattle.cpu_alu.specs.declared.Cycle.TheVariants.{Read, Write}
@@ -14,7 +14,7 @@ use Rattle.tube_machine.specs.Exchange.{IsAtTube, IsAskedByte, LeavesBus}
 use Rattle.tube_machine.specs.NoBreak.{plain-asks, plain-next}
 use Rattle.tube_chip.specs.declared.Op.{Op}
 use Rattle.tube_chip.specs.declared.Op.TheVariants as op
-use Rattle.tube_chip.specs.Act.{Query, access}
+use Rattle.tube_chip.specs.Act.{access}
 use Rattle.tube_party.specs.Moves.{FitsAnswer}
 
 -- what a write shows does not hang on a byte
@@ -49,7 +49,7 @@ module _ (part : Part) {B : Type 0} (w : Wiring B) where
   pub asked-at-tube : (wired : IsWired w) (s : At B) (c : Cycle) (t : ℕ) → next_cycle part s.cpu ≡ Some c → is_break part w s ≡ false → IsAskedByte part w s → IsAtTube w (w.close s.bus t) c
   asked-at-tube wired s c t is none asked =
       at-tube s.bus (w.close s.bus t) c (wired.tube_close s.bus t)
-      (subst (λ (o : Option Query). MatchOption o ⊥ (λ q. FitsAnswer q (Byte 0))) (plain-asks part w s none ∙ ap (asks_by w s.bus) is) asked)
+      (rw (plain-asks part w s none, is) at asked)
 
   given-shown : (s : cpu.State) (b : B) (t byte : ℕ) (c : Cycle) → next_cycle part s ≡ Some c → IsAtTube w b c → after_byte part s byte ≡ after_byte part s (byte_of w b t (Some (Byte byte)) c)
   given-shown s b t byte (Read at) is there = rw there
@@ -76,5 +76,5 @@ module _ (part : Part) {B : Type 0} (w : Wiring B) where
   passed wired s b byte n none at closed ticks =
       let c : Cycle = at.cycle in
       let there : IsAtTube w (w.close s.bus (s.due + 1)) c =
-      at-tube s.bus (w.close s.bus (s.due + 1)) c (wired.tube_close s.bus (s.due + 1)) (subst (λ (o : Option Query). MatchOption o ⊥ (λ q. FitsAnswer q (Byte 0))) (sym at.passing.asks) tt) in
+      at-tube s.bus (w.close s.bus (s.due + 1)) c (wired.tube_close s.bus (s.due + 1)) (rw at.passing.asks tt) in
       taken wired s c b byte n at.next none there (closed ∙ sym (at.passing.leaves (s.due + 1))) ticks (at.passing.fast s.due (s.due + 1))

@@ -1,5 +1,5 @@
 -- An instruction that is done whole comes to its look, and goes past it.
-use Rattle.std.proofs.Common.{◌≡◌, ◌≤◌, ◌<◌, ◌+◌, ◌-◌, ◌*◌, refl, sym, subst, ℕ, zero, suc, Bool, true, false, arith}
+use Rattle.std.proofs.Common.{◌≡◌, ◌≤◌, ◌<◌, ◌+◌, ◌-◌, ◌*◌, refl, ℕ, zero, suc, Bool, true, false, arith}
 use Rattle.op_table.specs.declared.names.Part.{Part}
 use Rattle.cpu_alu.specs.declared.Regs.{Regs}
 use Rattle.cpu_alu.specs.declared.flags.TheConstants.{INTERRUPT}
@@ -20,7 +20,7 @@ use Rattle.tube_machine.proofs.WholeSteps.{whole-last}
 
 -- one more
 pub passes_more : {S : Type 0} (m : Moves S) (over : S → Type 0) (n : ℕ) (v : Shown) (k : ℕ) (s u new : S) → Passes m over n v k s u → over u → ToLook m n v u new → Passes m over n v (suc k) s new
-passes_more {S} m over n v zero s u new h is looks = (subst over (sym h) is, (new, (subst (λ (x : S). ToLook m n v x new) (sym h) looks, refl)))
+passes_more m over n v zero s u new h is looks = (rw h is, (new, (rw h looks, refl)))
 passes_more m over n v (suc k) s u new h is looks = (h.0, (h.1.0, (h.1.1.0, passes_more m over n v k h.1.0 u new h.1.1.1 is looks)))
 
 module _ (part : Part) {B : Type 0} {w : Wiring B} (wired : IsWired w) {plain : B → Lines → Bool} (stays : StaysPlain w plain) (far until : ℕ) (lines : Lines) (sure n : ℕ)

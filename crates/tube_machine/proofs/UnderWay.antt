@@ -6,7 +6,7 @@ use Rattle.op_table.specs.declared.names.Part.{Part}
 use Rattle.cpu_alu.specs.declared.Cycle.{Cycle}
 use Rattle.cpu_alu.specs.declared.Regs.{Regs}
 use Rattle.cpu_core.specs.declared.Sequence.{Sequence}
-use Rattle.cpu_core.specs.declared.Sequence.TheVariants.{Instruction, Reset, Nmi, Irq}
+use Rattle.cpu_core.specs.declared.Sequence.TheVariants.{Instruction}
 use Rattle.cpu_core.specs.State as cpu
 use Rattle.cpu_core.specs.Sequences.{next_cycle, after_byte, after, sequence_at_look, fresh}
 use Rattle.tube_chip.specs.Act.{look}
@@ -44,9 +44,7 @@ behind-most from due = by (nat_lt from due)
 -- a sequence that begins has a first access
 pub begins : (part : Part) (sequence : Sequence) (r : Regs) → IsSome (next_cycle part (fresh sequence r))
 begins part Instruction r = refl
-begins part Reset r = refl
-begins part Nmi r = refl
-begins part Irq r = refl
+begins part _ r = refl
 
 on-by : (o : Option Cycle) (t n : ℕ) → IsSome o → (if is_none o then t + (n - 1) else t + n) ≡ t + n
 on-by (Some d) t n h = refl
@@ -129,7 +127,7 @@ module _ (part : Part) {B : Type 0} {w : Wiring B} (wired : IsWired w) {plain : 
       → next_cycle part c ≡ None → t < until → t < sure → w.pending b t ≡ false →
       new ≡ after_look part w (closed_to w (at_of c b t) (t + 1)) lines → Came part w until lines sure start new
   sees-on until lines sure start c b t u new came high over low early none is =
-      subst (Came part w until lines sure start) (sym (look-next c b t u over none lines high is))
+      rw (look-next c b t u over none lines high is)
       (suc came.0, look_last (moves_of part w) until lines sure came.0 start (at_of c (w.close b u) t) came.1 low (look-asks c b t u over none) early)
 
   module _ {far n until : ℕ} {lines : Lines} {sure : ℕ} {start s : At B} where

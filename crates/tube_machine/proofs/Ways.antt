@@ -1,5 +1,5 @@
 -- Steps of a run, with what answers in passing, one behind another.
-use Rattle.std.proofs.Common.{◌≡◌, ◌∙◌, refl, sym, ap, subst, ℕ, zero, suc, ◌+◌, ◌<◌, ◌≤◌, inl, inr, length, Bool, false, true, Option, Some, None, IsSome, Ok, Err}
+use Rattle.std.proofs.Common.{◌≡◌, ◌∙◌, refl, ap, ℕ, zero, suc, ◌+◌, ◌<◌, ◌≤◌, inl, inr, length, Bool, false, true, Option, Some, None, IsSome, Ok, Err}
 use Rattle.op_table.specs.declared.names.Part.{Part}
 use Rattle.op_table.specs.declared.names.Part.TheVariants.{Cmos}
 use Rattle.cpu_alu.specs.declared.Cycle.{Cycle}
@@ -18,7 +18,7 @@ use Rattle.tube_machine.specs.Step.{At, is_break, asks_by, next_state, moves_of}
 use Rattle.tube_machine.specs.Exchange.{IsDone, owed_at, ready}
 use Rattle.tube_machine.specs.Whole.{IsServed}
 use Rattle.tube_machine.specs.declared.bus.Unable.TheVariants.{Tube}
-use Rattle.tube_machine.proofs.UnderWay.{IsUnderWay, Came, caught-up, came-there}
+use Rattle.tube_machine.proofs.UnderWay.{IsUnderWay, caught-up, came-there}
 use Rattle.tube_machine.proofs.Stops.{more, looks-cycle, next-cycle, next-rises, silent-by, cost}
 
 -- what answers goes from d to e on the way from one state to another
@@ -46,8 +46,8 @@ module _ (part : Part) {B D : Type 0} {w : Wiring B} (wired : IsWired w) {answer
   way-asks {f = f} low done = record {
     accesses = way.0;
     last = new;
-    talks = subst (λ (x : D). Talks (moves_of part w) answers n v way.0 s d new x) done.2 way.1;
-    asked = (ap (λ (x : At B). x.due) done.1, subst (λ (x : At B). x.due < n) (sym done.1) low, done.0, done.1);
+    talks = rw done.2 at way.1;
+    asked = (rw done.1, rw done.1 low, done.0, done.1);
     unsure = tt;
   }
 
@@ -72,12 +72,12 @@ pub record IsTalking (part : Part) {B D : Type 0} (w : Wiring B) (plain : B → 
   pub first : plain start.bus lines ≡ true → plain mid.bus lines ≡ true
   pub way : IsUnderWay part w plain far n until lines sure mid s since
 
-module _ (part : Part) {B D : Type 0} {w : Wiring B} (wired : IsWired w) {plain : B → Lines → Bool} (stays : StaysPlain w plain) {answers : D → ℕ → Op → ℕ → D → Type 0}
+module _ {part : Part} {B D : Type 0} {w : Wiring B} (wired : IsWired w) {plain : B → Lines → Bool} (stays : StaysPlain w plain) {answers : D → ℕ → Op → ℕ → D → Type 0}
     {far n until : ℕ} {lines : Lines} {sure : ℕ} {start : At B} {d : D} where
   -- what is owed is done
   pub left-off : {s : At B} {e : D} {since : ℕ} {b : B} → IsTalking part w plain answers far n until lines sure start d s e since → b ≡ w.close s.bus (owed_at n since s.due (w.closed s.bus))
       → Way (moves_of part w) answers until (shown_lines lines sure) start d (record s { bus = b }) e
-  left-off {s} at is = then-came (moves_of part w) (shown_lines lines sure) at.talks (subst (λ (x : B). Came part w until lines sure at.mid (record s { bus = x })) (sym is) at.way.looks)
+  left-off {s} at is = then-came (moves_of part w) (shown_lines lines sure) at.talks (rw is at.way.looks)
 
   pub not-yet : {s : At B} {since : ℕ} → IsUnderWay part w plain far n until lines sure start s since → IsTalking part w plain answers far n until lines sure start d s d since
   not-yet way = record { mid = start; talks = (0, (refl, (0, refl))); first = λ is. is; way = way }
@@ -115,7 +115,7 @@ module _ (part : Part) {B D : Type 0} {w : Wiring B} (wired : IsWired w) {answer
   done-rises = next-rises part w wired s done-next.0 done-next.1
 
   pub done-cycle : w.cycle new.bus ≡ w.cycle s.bus
-  done-cycle = ap (λ (x : At B). w.cycle x.bus) done-next.1 ∙ next-cycle part w wired s done-next.0
+  done-cycle = rw done-next.1 (next-cycle part w wired s done-next.0)
 
   -- where each access takes one cycle, it takes one
   pub done-cost : IsSome (next_cycle part s.cpu) → part ≡ Cmos → w.has_tube s.bus ≡ true → ((b : B) (t : ℕ) (c : Cycle) → w.takes b t c ≡ w.cycle b) →

@@ -1,7 +1,8 @@
 -- A whole instruction and the look behind it are steps of the machine.
 use Rattle.std.proofs.Common.{◌≡◌, ◌≤◌, ◌<◌, ◌∙◌, ◌+◌, ◌-◌, ◌*◌, refl, sym, ap, subst, ℕ, zero, suc, max, length, [], List, Bool}
-use Rattle.std.proofs.Common.{true, false, ◌&&◌, Option, Some, None, IsSome, MatchOption, arith}
+use Rattle.std.proofs.Common.{true, false, Option, Some, None, IsSome, MatchOption, arith}
 use Rattle.std.proofs.Math.Nat.{mul-one}
+use Rattle.std.proofs.lemmas.Bool.{and_right}
 use Rattle.op_table.specs.declared.names.Part.{Part}
 use Rattle.cpu_alu.specs.declared.Cycle.{Cycle}
 use Rattle.cpu_alu.specs.declared.Cycle.TheVariants.{Read, Write}
@@ -20,10 +21,6 @@ use Rattle.tube_machine.specs.Exchange.{IsQuick, IsAtTube}
 use Rattle.tube_machine.specs.Whole.{reach_of, IsMemory, IsAtRest, StaysAtRest, IsOnward}
 use Rattle.tube_machine.proofs.Spends.{one-more, seen-on}
 use Rattle.tube_machine.proofs.UnderWay.{IsUnderWay, IsFree, at-same, plain-look, came-there, quick-more, quick-past, quick-plain}
-
-none-both : (has tube : Bool) → tube ≡ false → (has && tube) ≡ false
-none-both true tube is = is
-none-both false tube is = refl
 
 pub next-more : (c n : ℕ) → c * suc n ≡ c * n + c
 next-more c n = let same : suc n ≡ n + 1 = omega arith in ap (λ (k : ℕ). c * k) same ∙ one-more c n
@@ -53,7 +50,7 @@ module _ (part : Part) where
       by (Some c) is h = record { cycle = c; next = is; plain = h.0; rest = h.1 }
 
   some-first : {M : Type 0} → (g : Reach M) (t k : ℕ) (s : cpu.State) (m : M) (last : cpu.State) (there : M) → Carried g t part (suc k) s m last there → IsSome (next_cycle part s)
-  some-first g t k s m last there h = subst (λ (o : Option Cycle). IsSome o) (sym (first-of g t k s m last there h).next) refl
+  some-first g t k s m last there h = rw (first-of g t k s m last there h).next
 
   -- a halted part stays where it is
   stays-halted : {M : Type 0} → (g : Reach M) (t k : ℕ) (s : cpu.State) (m : M) (last : cpu.State) (there : M) → halted part s ≡ true → Carried g t part k s m last there → last ≡ s
@@ -63,7 +60,7 @@ module _ (part : Part) where
       let byte : ℕ = shows g m one.cycle in
       let b = leaves g t m (length s.seen) one.cycle in
       let same : after_byte part s byte ≡ s = rw halts in
-      stays-halted g t k s b last there halts (subst (λ (x : cpu.State). Carried g t part k x b last there) same one.rest)
+      stays-halted g t k s b last there halts (rw same at one.rest)
 
   -- so that none of an instruction that comes to its end is halted
   none-halted : {M : Type 0} → (g : Reach M) (t k : ℕ) (s : cpu.State) (m : M) (last : cpu.State) (there : M)
@@ -86,8 +83,8 @@ module _ (part : Part) {B : Type 0} {w : Wiring B} (wired : IsWired w) {reads wr
       IsQuick w m due c (Some (shows reach m c)) (leaves reach t m j c)
   is-quick t j due m (Read at) is there before =
       let x : B = w.close m (due + 1) in (
-        rw (none-both (w.has_tube m) (w.is_tube at) (memory.read_apart at is)),
-        rw (none-both (w.has_tube x) (w.is_tube at) (memory.read_apart at is)) (sym (memory.shows m due (due + 1) at is)),
+        rw (and_right (w.has_tube m) (w.is_tube at) (memory.read_apart at is)),
+        rw (and_right (w.has_tube x) (w.is_tube at) (memory.read_apart at is)) (sym (memory.shows m due (due + 1) at is)),
         sym (memory.read_leaves x at is),
         memory.read_ticks x due at is ∙ wired.cycle_close m (due + 1),
       )
@@ -96,7 +93,7 @@ module _ (part : Part) {B : Type 0} {w : Wiring B} (wired : IsWired w) {reads wr
       let new : B = w.after x (Write at byte) in
       let same : w.after (w.close m (t + w.cycle m * j + 1)) (Write at byte) ≡ new = ap (λ (u : ℕ). w.after (w.close m (u + 1)) (Write at byte)) (sym there) in
       let closed : w.closed new ≡ max (due + 1) (w.closed m) = memory.write_closed x at byte is ∙ wired.closed m (due + 1) in (
-        rw (none-both (w.has_tube m) (w.is_tube at) (memory.write_apart at is)),
+        rw (and_right (w.has_tube m) (w.is_tube at) (memory.write_apart at is)),
         refl,
         ap (λ (b : B). w.close b (due + 1)) same ∙ wired.still new (due + 1) (omega (arith, closed)),
         memory.write_ticks x due at byte is ∙ wired.cycle_close m (due + 1),
@@ -127,13 +124,13 @@ module _ (part : Part) {B : Type 0} {w : Wiring B} (wired : IsWired w) {reads wr
   closes-by t k s m last there u (Some (Read at)) low rec h =
       let same : w.answer (w.close m u) 0 at ≡ w.answer m 0 at = memory.shows m 0 u at h.0 in
       let c : Closes t k (after_byte part s (w.answer m 0 at)) m last there u = rec (after_byte part s (w.answer m 0 at)) h.1 in
-      (c.0, ((h.0, subst (λ (x : ℕ). Carried reach t part k (after_byte part s x) (w.close m u) last c.0) (sym same) c.1.0), c.1.1))
+      (c.0, ((h.0, rw same c.1.0), c.1.1))
   closes-by t k s m last there u (Some (Write at byte)) low rec h =
       let j : ℕ = length s.seen in
       let same : w.after (w.close (w.close m u) (t + w.cycle (w.close m u) * j + 1)) (Write at byte) ≡ w.after (w.close m (t + w.cycle m * j + 1)) (Write at byte) =
       ap (λ (n : ℕ). w.after (w.close (w.close m u) (t + n * j + 1)) (Write at byte)) (wired.cycle_close m u)
       ∙ ap (λ (b : B). w.after b (Write at byte)) (wired.again m u (t + w.cycle m * j + 1) (omega (arith, low))) in
-      (there, ((h.0, subst (λ (x : B). Carried reach t part k (after_byte part s 0) x last there) (sym same) h.1), λ v from. refl))
+      (there, ((h.0, rw same h.1), λ v from. refl))
 
   pub carried-closed : (t k : ℕ) (s : cpu.State) (m : B) (last : cpu.State) (there : B) (u : ℕ) → u ≤ t + 1 → Carried reach t part k s m last there → Closes t k s m last there u
   carried-closed t zero s m last there u low h = (w.close m u, ((h.0, refl), λ v from. wired.again m u v from ∙ ap (λ (b : B). w.close b v) h.1))
@@ -141,8 +138,8 @@ module _ (part : Part) {B : Type 0} {w : Wiring B} (wired : IsWired w) {reads wr
 
   -- a plain access is none of the Tube's
   apart : (c : Cycle) → is_plain reach c ≡ true → (b : B) → IsAtTube w b c → ⊥
-  apart (Read at) is b tube = let none = none-both (w.has_tube b) (w.is_tube at) (memory.read_apart at is) in cc
-  apart (Write at byte) is b tube = let none = none-both (w.has_tube b) (w.is_tube at) (memory.write_apart at is) in cc
+  apart (Read at) is b tube = let none = and_right (w.has_tube b) (w.is_tube at) (memory.read_apart at is) in cc
+  apart (Write at byte) is b tube = let none = and_right (w.has_tube b) (w.is_tube at) (memory.write_apart at is) in cc
 
   module _ {rests : B → Lines → Bool → ℕ → Type 0} (stays_at_rest : StaysAtRest w writes rests) where
     rests-on : (t j due : ℕ) (m : B) (c : Cycle) (lines : Lines) (masks : Bool) (far : ℕ) → is_plain reach c ≡ true → due ≡ t + w.cycle m * j → due < far →
@@ -225,7 +222,7 @@ module _ (part : Part) {B : Type 0} {w : Wiring B} (wired : IsWired w) {reads wr
                   absurd (apart one.cycle one.plain x (subst (λ (c : Cycle). IsAtTube w x c) cycle tube))
 
           more-there : (t k : ℕ) (s : cpu.State) (m there : B) → Carried reach t part k s m last there → IsSome (next_cycle part s)
-          more-there t zero s m there h = subst (λ (o : Option Cycle). IsSome o) (sym (ap (next_cycle part) h.0 ∙ next)) refl
+          more-there t zero s m there h = rw (h.0, next)
           more-there t (suc k) s m there h = some-first part reach t k s m last there h
 
           -- all its accesses up to that one are plain: they are steps, and then comes that access
@@ -233,7 +230,7 @@ module _ (part : Part) {B : Type 0} {w : Wiring B} (wired : IsWired w) {reads wr
               s.due + n * k ≡ top → top ≤ far → top ≤ until → top ≤ quiet → IsUnderWay part w plain far n until lines sure start (at_of last there top) since
           to-tube zero s since t there top mid h fits far_on in_run still =
               let same : s ≡ at_of last there top = at-same h.0 h.1 (omega (arith, fits)) in
-              subst (λ (x : At B). IsUnderWay part w plain far n until lines sure start x since) same mid.way
+              rw same at mid.way
           to-tube (suc k) s since t there top mid h fits far_on in_run still =
               let sum : n * suc k ≡ n * k + n = next-more n k in
               let one = first-of part reach t k s.cpu s.bus last there h in
@@ -268,7 +265,8 @@ module _ (part : Part) {B : Type 0} {w : Wiring B} (wired : IsWired w) {reads wr
 
         pub whole-last : (k due : ℕ) (r new : Regs) (m there : B) → 0 < k → IsUnderWay part w plain far n until lines sure start (at_of (fresh Instruction r) m due) due →
             IsDone part reach due r m k new there → w.closed m ≤ due + 1 → due + n * k ≤ far → due + n * k ≤ until → due + n * k ≤ quiet → rests m lines masks quiet
-            → has_flag r.p INTERRUPT ≡ masks → plain start.bus lines ≡ true → IsLast due (at_of (fresh Instruction new) (w.close there (due + n * k)) (due + n * k)) × rests (w.close there (due + n * k)) lines masks quiet
+            → has_flag r.p INTERRUPT ≡ masks → plain start.bus lines ≡ true →
+            IsLast due (at_of (fresh Instruction new) (w.close there (due + n * k)) (due + n * k)) × rests (w.close there (due + n * k)) lines masks quiet
         whole-last zero due r new m there more way done before far_on in_run still rest held first = absurd (omega (arith, more))
         whole-last (suc k) due r new m there more way done before far_on in_run still rest held first =
             let top : ℕ = due + n * suc k in
@@ -306,7 +304,7 @@ module _ (part : Part) {B : Type 0} {w : Wiring B} (wired : IsWired w) {reads wr
                 tick = tick;
                 looked = sym same ∙ look-on on b u (quick-plain part wired stays mid.way b one.next is_quick first) rest_on (omega (arith, tick, still, some)) held_on;
               },
-              stays_at_rest.close there lines masks quiet top (subst (λ (x : B). rests x lines masks quiet) bus rest_on) still,
+              stays_at_rest.close there lines masks quiet top (rw bus at rest_on) still,
             )
 
         -- an instruction done whole, and the look behind it
@@ -337,7 +335,7 @@ module _ (part : Part) {B : Type 0} {w : Wiring B} (wired : IsWired w) {reads wr
             let c = carried-closed due k (fresh Instruction r) m done.last there u (omega (arith, low)) done.carried in
             let again : IsDone part reach due r (w.close m u) k new c.0 = record { last = done.last; carried = c.1.0; over = done.over; regs = done.regs; masks = done.masks } in
             let closed : w.closed (w.close m u) ≡ max u (w.closed m) = wired.closed m u in
-            subst (λ (b : B). IsUnderWay part w plain far n until lines sure start (at_of (fresh Instruction new) b top) top × rests b lines masks quiet) (c.1.1 top (omega (arith, low)))
+            rw (c.1.1 top (omega (arith, low))) at
             (whole-on k due r new (w.close m u) c.0 more way again (omega (arith, closed, before, low)) far_on in_run early still rest held first)
 
 -- what whole instructions come to

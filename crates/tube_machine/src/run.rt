@@ -295,7 +295,7 @@ fn go_asking<N, P: Processor, B: TubeBus<N>, D: Desk>(
 /// Goes on from a step at tick `from`, and gives the tick of the step at which it leaves off. It does no look at which a break is pending, and no
 /// access whose cycle could end at one.
 #[inline(always)]
-pub(crate) fn go_on<N, P: Processor, B: TubeBus<N>, D: Desk>(
+pub(crate) fn go_quick<N, P: Processor, B: TubeBus<N>, D: Desk>(
     cpu: &mut P,
     bus: &mut B,
     notes: &mut N,

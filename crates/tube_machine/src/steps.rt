@@ -9,7 +9,7 @@ ghost use Rattle.tube_machine.specs.Exchange.{ready, IsDone, LeavesBus, IsRun, I
 
 use crate::bus::{TubeBus, Unable};
 use crate::processor::Processor;
-use crate::run::{Stop, go_on};
+use crate::run::{Stop, go_quick};
 use beeb_bits::Tick;
 use tube_chip::{Answer, Lines, Op};
 use tube_party::{Ask, Closed, Desk};
@@ -232,7 +232,9 @@ pub fn carry_on<N, P: Processor, B: TubeBus<N>, D: Desk>(
         result ≡ Left.Full → (B.endless ≡ false) × (P.part ≡ Cmos → cramped) }
 {
     loop {
-        let (at, stop) = go_on::<N, P, B, D>(cpu, bus, notes, *due, until.0, sure.0, lines, desk);
+        let (at, stop) = go_quick::<N, P, B, D>(
+            cpu, bus, notes, *due, until.0, sure.0, lines, desk,
+        );
         *due = at;
         match stop {
             Stop::Look => return Left::Look,

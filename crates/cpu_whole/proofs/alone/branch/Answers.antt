@@ -7,4 +7,4 @@ pub returns-clause-done : goal.returns-clause-done
 returns-clause-done g c =
     λ t some.
     let taken : takes_branch c.args.row.mnemonic c.args.r.now ≡ false = search rules in
-    branch_past c.requires.runs.first c.requires.row c.requires.uses taken c.requires.runs.second c.move_past.ensures
+    branch_past c.requires.runs c.requires.row c.requires.uses taken c.move_past.ensures

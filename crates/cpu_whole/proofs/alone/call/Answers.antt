@@ -5,7 +5,7 @@ use Rattle.cpu_whole.proofs.alone.call.Goals as goal
 pub returns-clause-done : goal.returns-clause-done
 returns-clause-done g c =
     λ some.
-    called c.requires.runs.first c.requires.row g.M.Plain.is_plain c.requires.uses c.requires.runs.second c.requires.runs.third
+    called c.requires.runs c.requires.row g.M.Plain.is_plain c.requires.uses
     (rw (c.put-2.ensures.put, c.put.ensures.put, c.stack-top.ensures, c.stack.ensures, c.place-back.ensures))
     (rw (c.move_stack.ensures, c.word-r.ensures, c.requires.first, c.byte-high.ensures, c.place-back.ensures))
 

@@ -4,4 +4,4 @@ use Rattle.cpu_whole.proofs.alone.jump_to.Goals as goal
 pub returns-clause-done : goal.returns-clause-done
 returns-clause-done g c =
     λ t.
-    jumped c.requires.runs.first c.requires.row c.requires.uses c.requires.mode c.requires.runs.second c.requires.runs.third (rw (c.word-r.ensures, c.requires.first, c.requires.high))
+    jumped c.requires.runs c.requires.row c.requires.uses c.requires.mode (rw (c.word-r.ensures, c.requires.first, c.requires.high))

@@ -1,6 +1,6 @@
 use Rattle.std.proofs.Common.{◌≡◌, ◌||◌, true, refl}
 use Rattle.cpu_alu.specs.Addresses.{crosses_page}
-use Rattle.cpu_whole.proofs.Operands.{absolute_y}
+use Rattle.cpu_whole.proofs.Operands.{absolute_x, absolute_y}
 use Rattle.cpu_whole.proofs.ways.absolute_y.Goals as goal
 
 pub returns-clause-reached : goal.returns-clause-reached
@@ -9,4 +9,4 @@ returns-clause-reached g c =
     let idle = λ (h : (c.args.always || crosses_page c.args.first c.args.r.now.y) ≡ true).
     rw (c.requires.first, c.byte-high.ensures, c.place.ensures) at (c.indexed.ensures.idle some h _ c.requires.runs.third) in
     rw (c.indexed.ensures.at, c.indexed.ensures.cycles some, c.requires.first, c.byte-high.ensures, c.place.ensures)
-    (absolute_y g.M.Plain.reach t c.args.part c.args.always c.args.r.now (g.M.Plain.state c.args.memory.now) _ refl c.requires.runs.second c.requires.runs.third (λ h. idle (rw c.requires.first h)))
+    (absolute_y (absolute_x _ _ _ c.requires.runs _ refl (λ h. idle (rw c.requires.first h))))

@@ -7,4 +7,4 @@ returns-clause-reached g c =
     let low = rw c.requires.first at c.low_byte-low.ensures.read in
     let next = rw (c.in_zero_page.ensures, c.requires.first) at c.low_byte-high.ensures.read in
     rw (c.word.ensures, c.low_byte-low.ensures.byte, c.low_byte-high.ensures.byte, c.in_zero_page.ensures, c.requires.first)
-    (pointer g.M.Plain.reach t c.args.part c.args.always c.args.r.now (g.M.Plain.state c.args.memory.now) c.requires.runs.second low next)
+    (pointer _ _ _ c.requires.runs low next)

@@ -11,4 +11,4 @@ returns-clause-reached g c =
     let first = rw (c.in_zero_page.ensures, c.requires.first) at c.low_byte-low.ensures.read in
     let next = rw (c.in_zero_page-2.ensures, sum, c.requires.first) at c.low_byte-high.ensures.read in
     rw (c.word.ensures, c.low_byte-low.ensures.byte, c.low_byte-high.ensures.byte, c.in_zero_page.ensures, c.in_zero_page-2.ensures, sum, c.requires.first)
-    (pointer_x g.M.Plain.reach t c.args.part c.args.always c.args.r.now (g.M.Plain.state c.args.memory.now) c.requires.runs.second idle first next)
+    (pointer_x _ _ _ c.requires.runs idle first next)

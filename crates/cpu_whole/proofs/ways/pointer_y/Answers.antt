@@ -11,5 +11,5 @@ returns-clause-reached g c =
     let idle = λ (h : (c.args.always || crosses_page c.low_byte-low.result c.args.r.now.y) ≡ true).
     rw (c.low_byte-low.ensures.byte, c.low_byte-high.ensures.byte, c.in_zero_page.ensures, c.requires.first) at (c.indexed.ensures.idle some h _ c.requires.runs.second) in
     rw (c.indexed.ensures.at, c.indexed.ensures.cycles some, c.low_byte-low.ensures.byte, c.low_byte-high.ensures.byte, c.in_zero_page.ensures, c.requires.first)
-    (pointer_y g.M.Plain.reach t c.args.part c.args.always c.args.r.now (g.M.Plain.state c.args.memory.now) _ refl c.requires.runs.second low next
+    (pointer_y _ _ _ c.requires.runs _ refl low next
     (λ h. idle (rw (c.low_byte-low.ensures.byte, c.requires.first) h)))

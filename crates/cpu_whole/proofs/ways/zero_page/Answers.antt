@@ -3,4 +3,4 @@ use Rattle.cpu_whole.proofs.ways.zero_page.Goals as goal
 
 pub returns-clause-reached : goal.returns-clause-reached
 returns-clause-reached g c =
-    λ t. rw c.requires.first (zero_page g.M.Plain.reach t c.args.part c.args.always c.args.r.now (g.M.Plain.state c.args.memory.now) c.requires.runs.second)
+    λ t. rw c.requires.first (zero_page _ _ _ c.requires.runs)

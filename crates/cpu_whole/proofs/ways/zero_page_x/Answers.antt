@@ -7,4 +7,4 @@ returns-clause-reached g c =
     λ t.
     let low = g.M.Plain.is_plain.low_read c.args.first (omega arith) in
     let idle = idle_read g.M.Plain.reach c.args.part _ _ (rw c.requires.first at low) c.requires.runs.second in
-    rw (c.in_zero_page.ensures, c.requires.first) (zero_page_x g.M.Plain.reach t c.args.part c.args.always c.args.r.now (g.M.Plain.state c.args.memory.now) c.requires.runs.second idle)
+    rw (c.in_zero_page.ensures, c.requires.first) (zero_page_x _ _ _ c.requires.runs idle)

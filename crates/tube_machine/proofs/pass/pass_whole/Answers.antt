@@ -5,9 +5,7 @@ use Rattle.cpu_alu.specs.declared.flags.TheConstants.{INTERRUPT}
 use Rattle.cpu_alu.specs.Flags.{has_flag}
 use Rattle.cpu_core.specs.declared.Sequence.TheVariants.{Instruction}
 use Rattle.cpu_core.specs.Sequences.{fresh}
-use Rattle.tube_party.specs.Moves.{shown_lines}
-use Rattle.tube_machine.specs.Step.{At, at_of, moves_of}
-use Rattle.tube_machine.specs.Passing.{over_at}
+use Rattle.tube_machine.specs.Step.{At, at_of}
 use Rattle.tube_machine.proofs.UnderWay.{at-same, begins, caught-up}
 use Rattle.tube_machine.proofs.WholeSteps.{begins-there, whole-on}
 use Rattle.tube_machine.proofs.ToLooks.{passes_more, whole-looks}
@@ -44,29 +42,25 @@ loop-due-preserved g c =
     let due : ℕ = c.loop-due.due in
     let top : ℕ = due + n * k in
     let bound : ℕ = c.args.bound in
-    let start : At g.B.TubeBus.State = at_of (g.P.Processor.core c.args.cpu.now) (g.B.TubeBus.state c.args.bus.now) c.args.from in
-    let m = g.B.TubeBus.state c.loop-due.bus in
     let there = g.B.TubeBus.state c.whole_if_over-cycles.new.bus in
-    let new = c.whole_if_over-cycles.new.regs in
     let some : 0 < k = omega (arith, c.if-cycles-eq0.false) in
     let done = rw c.kind.ensures at (c.whole_if_over-cycles.ensures.done some) in
     let few : n * k ≤ n * 8 = mul-le-mul_left n c.whole_if_over-cycles.ensures.few in
     let ends : top ≤ c.min-end.result = omega (arith, few, c.loop-due-test.true) in
     let in_bound : top ≤ bound = omega (arith, ends, c.min-end.ensures) in
     let still : top ≤ c.args.quiet = omega (arith, ends, c.min-end.ensures) in
-    let masks = has_flag (g.P.Processor.core c.args.cpu.now).regs.p INTERRUPT in
     let went =
-    whole-on part bus.wired bus.memory bus.stays_at_rest bus.stays_plain bound bound c.args.lines.now bound n start masks c.args.quiet
-    k due c.loop-due.regs new m there some so_far.way done so_far.before in_bound in_bound in_bound still so_far.rests so_far.held c.requires.plain in
+    whole-on _ bus.wired bus.memory bus.stays_at_rest bus.stays_plain _ _ _ _ _ _ _ _ _ _ _ _ _ _ some
+    so_far.way done so_far.before in_bound in_bound in_bound still so_far.rests so_far.held c.requires.plain in
     record {
       way = rw c.close.ensures.closed went.0;
       passes = λ until sure in_run early.
           let passed = so_far.passes until sure in_run early in
-          let looks = whole-looks part bus.wired bus.stays_plain bound until c.args.lines.now sure n bus.memory bus.stays_at_rest masks c.args.quiet k due c.loop-due.regs new m there some
+          let looks = whole-looks _ bus.wired bus.stays_plain _ until _ _ _ bus.memory bus.stays_at_rest _ _ _ _ _ _ _ _ some
           so_far.way.cycle (so_far.way.kept c.requires.plain) so_far.way.free done so_far.before in_bound
           (omega (arith, in_bound, in_run)) (omega (arith, in_bound, early)) still so_far.rests so_far.held in (
             suc passed.0,
-            rw c.close.ensures.closed (passes_more (moves_of part bus.wiring) (over_at bus.peek c.args.passing) until (shown_lines c.args.lines.now sure) passed.0 start _ _ passed.1
+            rw c.close.ensures.closed (passes_more _ _ _ _ _ _ _ _ passed.1
                 (refl, c.whole_if_over-cycles.ensures.over some) looks),
           );
       before =

@@ -12,15 +12,16 @@ use Rattle.tube_machine.proofs.run.ask_whole.Goals.{then-back-gt0+then-from-peri
 pub take_in-requires : goal.take_in-requires
 take_in-requires g c = (c.last_access-last.ensures.outside 0 (omega (arith, c.if-last-eq0.false))).kind
 
+-- so many periods fit as were asked for at most
+fits-more : (p from : ℕ) {due end j most : ℕ} → due ≡ from + p * (1 + j) → j ≤ most → from + p * (most + 1) ≤ end → due ≤ end
+fits-more p from {j = j} {most} is few fits = let more : p * (1 + j) ≤ p * (most + 1) = mul-le-mul_left p (omega (arith, few)) in omega (arith, is, more, fits)
+
 pub returns-clause-high : goal.returns-clause-high
 returns-clause-high g c =
     let n : ℕ = c.cycle-cycle.result in
     let few : n * c.last_access-last.result.cycles ≤ n * 5 = mul-le-mul_left n c.last_access-last.ensures.few in
     elim c.if-back-gt0.branch [
-      | then-back-gt0+then-from-period v ↦
-          let p : ℕ = c.args.from + n * c.last_access-last.result.cycles + n + n * c.branch_to-back.result - c.args.from in
-          let more : p * (1 + v.again-more.result) ≤ p * (v.times_more.result + 1) = mul-le-mul_left p (omega (arith, v.again-more.ensures.few)) in
-          omega (arith, v.due-is, more, v.times_more.ensures)
+      | then-back-gt0+then-from-period v ↦ fits-more _ _ v.due-is v.again-more.ensures.few v.times_more.ensures
       | else-back-gt0 v ↦ omega (arith, v.due-is, few, c.requires.fits, c.cycle-cycle.ensures.value)
     ]
 
@@ -29,10 +30,7 @@ close-requires-clause-room g c =
     let n : ℕ = c.cycle-cycle.result in
     let few : n * c.last_access-last.result.cycles ≤ n * 5 = mul-le-mul_left n c.last_access-last.ensures.few in
     elim c.if-back-gt0.branch [
-      | then-back-gt0+then-from-period v ↦
-          let p : ℕ = c.args.from + n * c.last_access-last.result.cycles + n + n * c.branch_to-back.result - c.args.from in
-          let more : p * (1 + v.again-more.result) ≤ p * (v.times_more.result + 1) = mul-le-mul_left p (omega (arith, v.again-more.ensures.few)) in
-          omega (arith, v.due-is, more, v.times_more.ensures, c.requires.room)
+      | then-back-gt0+then-from-period v ↦ omega (arith, fits-more _ _ v.due-is v.again-more.ensures.few v.times_more.ensures, c.requires.room)
       | else-back-gt0 v ↦ omega (arith, v.due-is, few, c.requires.fits, c.cycle-cycle.ensures.value, c.requires.room)
     ]
 
@@ -77,14 +75,15 @@ returns-clause-served g c =
           let j : ℕ = v.again-more.result in
           let period : p ≡ q = omega arith in
           let back = λ (t : ℕ). rw (regs, c.kind-part.ensures) at (c.branch_to-back.ensures.done t v.if-back-gt0.true) in
-          let more : p * (1 + j) ≤ p * (v.times_more.result + 1) = mul-le-mul_left p (omega (arith, v.again-more.ensures.few)) in
           let again = rw period at v.again-more.ensures.again in
           let sum : q * (1 + j) ≡ q + q * j = mul-add q 1 j ∙ ap (λ (x : ℕ). x + q * j) (mul-one q) in
           let due : c.if-back-gt0.due ≡ from + q + q * j = omega (arith, sum, v.due-is, ap (λ (x : ℕ). x * (1 + j)) period) in
-          let limit : from + q + q * j ≤ end = omega (arith, due, v.due-is, more, v.times_more.ensures) in
-          let once = round part bus.wired bus.memory bus.stays_at_rest bus.stays_plain g.D.Desk.answers end byte c.cycle-cycle.ensures.value c.requires.plain c.requires.free outside passing some rest.1 refl
+          let limit : from + q + q * j ≤ end = omega (arith, due, fits-more _ _ v.due-is v.again-more.ensures.few v.times_more.ensures) in
+          let once = round part bus.wired bus.memory bus.stays_at_rest bus.stays_plain g.D.Desk.answers end byte
+          c.cycle-cycle.ensures.value c.requires.plain c.requires.free outside passing some rest.1 refl
           k v.if-back-gt0.true back rest.0 from 0 _ _ (omega arith) c.requires.before (omega (arith, limit)) c.in-Some-ask.ensures in
-          let others = rounds part bus.wired bus.memory bus.stays_at_rest bus.stays_plain g.D.Desk.answers end byte c.cycle-cycle.ensures.value c.requires.plain c.requires.free outside passing some rest.1 refl
+          let others = rounds part bus.wired bus.memory bus.stays_at_rest bus.stays_plain g.D.Desk.answers end byte
+          c.cycle-cycle.ensures.value c.requires.plain c.requires.free outside passing some rest.1 refl
           k v.if-back-gt0.true back rest.0 j (from + q) (from + n * o.cycles) _ _ (omega arith) (omega (arith, c.requires.before)) limit again in
           rw (v.desk-is, v.at-is, due) (rw zero at (served-then once others))
       | else-back-gt0 v ↦

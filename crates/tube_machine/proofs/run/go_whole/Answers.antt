@@ -1,7 +1,5 @@
 use Rattle.std.proofs.Common.{◌≡◌, ◌≤◌, ◌<◌, ◌+◌, ◌*◌, ◌∙◌, ℕ, ap, refl, arith}
 use Rattle.std.proofs.Math.Nat.{mul-le-mul_left}
-use Rattle.cpu_alu.specs.declared.flags.TheConstants.{INTERRUPT}
-use Rattle.cpu_alu.specs.Flags.{has_flag}
 use Rattle.cpu_core.specs.declared.Sequence.TheVariants.{Instruction}
 use Rattle.cpu_core.specs.Sequences.{fresh}
 use Rattle.tube_machine.specs.Step.{At, at_of}
@@ -42,10 +40,8 @@ loop-due-preserved g c =
     let due : ℕ = c.loop-due.due in
     let u : ℕ = behind c.args.from due in
     let top : ℕ = due + n * k in
-    let start : At g.B.TubeBus.State = at_of (fresh Instruction c.args.at) (g.B.TubeBus.state c.args.bus.now) c.args.from in
     let m = g.B.TubeBus.state c.loop-due.bus in
     let there = g.B.TubeBus.state c.whole-cycles.new.self in
-    let new = c.whole-cycles.new.regs in
     let quiet : ℕ = c.loop-due.invariant.rests.0 in
     let some : 0 < k = omega (arith, c.if-cycles-eq0.false) in
     let done = rw c.kind.ensures at (c.whole-cycles.ensures.done some) in
@@ -55,8 +51,7 @@ loop-due-preserved g c =
     let gone : c.args.from < top = omega (arith, c.loop-due.invariant.low, more, c.cycle-cycle.ensures.some) in
     let here : behind c.args.from top ≡ top = behind-some c.args.from top gone in
     let went = λ (far until sure : ℕ) (far_on : c.args.end ≤ far) (in_run : c.args.end ≤ until) (early : c.args.end ≤ sure) (free : IsFree part w far (g.B.TubeBus.state c.args.bus.now)).
-    whole-behind part g.B.TubeBus.wired g.B.TubeBus.memory g.B.TubeBus.stays_at_rest g.B.TubeBus.stays_plain far until c.args.lines.now sure n start
-    (has_flag (c.args.at).p INTERRUPT) quiet k due u c.loop-due.regs new m there some
+    whole-behind _ g.B.TubeBus.wired g.B.TubeBus.memory g.B.TubeBus.stays_at_rest g.B.TubeBus.stays_plain _ _ _ _ _ _ _ _ _ _ _ _ _ _ _ some
     (behind-most c.args.from due)
     (c.loop-due.invariant.way far until sure far_on in_run early free) done c.loop-due.invariant.before (omega (arith, ends, far_on))
     (omega (arith, ends, in_run)) (omega (arith, ends, early)) (omega (arith, ends, c.loop-due.invariant.rests.1.0))

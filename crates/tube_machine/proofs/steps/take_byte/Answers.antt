@@ -1,4 +1,4 @@
-use Rattle.std.proofs.Common.{◌+◌, ◌∙◌, sym, ap}
+use Rattle.std.proofs.Common.{◌+◌, ◌∙◌}
 use Rattle.tube_machine.specs.Step.{At, at_of}
 use Rattle.tube_machine.specs.Exchange.{IsAtTube}
 use Rattle.tube_machine.proofs.Taken.{asked-at-tube, taken}
@@ -11,8 +11,7 @@ returns-clause-taken g c =
     let s : At g.B.TubeBus.State = at_of (g.P.Processor.core c.args.cpu.now) (g.B.TubeBus.state c.args.bus.now) c.args.due.now in
     let there : IsAtTube w (w.close s.bus (s.due + 1)) c.want.result = asked-at-tube part w g.B.TubeBus.wired s c.want.result (s.due + 1) c.want.ensures c.requires.access c.requires.asked in
     let close = c.close.ensures.closed in
-    let fast = c.answered.ensures.fast c.args.due.now in
     c.end_cycle.ensures.cycled
     ∙ taken part w g.B.TubeBus.wired s c.want.result (g.B.TubeBus.state c.answered.new.self) c.args.byte c.cycle-cycle.result c.want.ensures c.requires.access there
-    (c.answered.ensures.after ∙ ap (λ (b : g.B.TubeBus.State). w.after b c.want.result) close) c.cycle-cycle.ensures.value
-    (ap (λ (b : g.B.TubeBus.State). w.takes b c.args.due.now c.want.result) (sym close) ∙ fast ∙ ap w.cycle close)
+    (rw (← close) c.answered.ensures.after) c.cycle-cycle.ensures.value
+    (rw (← close) (c.answered.ensures.fast c.args.due.now))

@@ -4,7 +4,7 @@ use Rattle.tube_machine.specs.Step.{at_of}
 use Rattle.tube_machine.specs.Exchange.{spent}
 use Rattle.tube_machine.proofs.Ways.{IsTalking}
 use Rattle.tube_machine.specs.Exchange.{HasSpent, ready}
-use Rattle.tube_machine.proofs.run.go_on.Given as goal
+use Rattle.tube_machine.proofs.run.go_quick.Given as goal
 
 -- the steps so far asked nothing or saw the lines, and the next one is an access
 abbrev pub invariant-loop-due : goal.invariant-loop-due

@@ -6,8 +6,8 @@ use Rattle.tube_machine.specs.Exchange.{owed_at}
 use Rattle.tube_machine.proofs.UnderWay.{after-look, at-look, caught-up, quick-more, quick-last, quick-past, quick-plain}
 use Rattle.tube_machine.proofs.Ways.{left-off, not-yet, then-came, served-on}
 use Rattle.tube_machine.proofs.Spends.{none-spent, spent-more, spent-whole, spent-on, seen-more, ready-look, ready-on}
-use Rattle.tube_machine.proofs.run.go_on.Goals as goal
-use Rattle.tube_machine.proofs.run.go_on.Goals.{then-last+else-due-bound, else-last}
+use Rattle.tube_machine.proofs.run.go_quick.Goals as goal
+use Rattle.tube_machine.proofs.run.go_quick.Goals.{then-last+else-due-bound, else-last}
 
 pub loop-due-init : goal.loop-due-init
 loop-due-init g c =
@@ -21,10 +21,11 @@ loop-due-init g c =
           let over : next_cycle part core ≡ None = search rules in
           let bound = c.bound_of-bound.ensures in
           let plain = bound.plain (omega (arith, v.if-due-bound.false)) in
-          let way = at-look part wired stays {far = c.break_tick-next_break.result} {until = c.args.until} {sure = c.args.sure} {start = start} c.cycle-cycle.ensures.value over c.requires.before c.break_tick-next_break.ensures.none plain
+          let way = at-look part wired stays {far = c.break_tick-next_break.result} {until = c.args.until} {sure = c.args.sure} {start = start}
+          c.cycle-cycle.ensures.value over c.requires.before c.break_tick-next_break.ensures.none plain
           (omega (arith, v.if-due-bound.false, bound.until)) (omega (arith, v.if-due-bound.false, bound.sure)) (omega (arith, v.if-due-bound.false, bound.free)) v.see.ensures.seen in
           rw (v.cpu-is, v.bus-is, v.notes-is, v.desk-is, v.due-is) (record {
-            at = served-on part wired stays (not-yet part wired stays way) v.go_asking-due.ensures.served bound.free bound.until bound.sure;
+            at = served-on wired stays (not-yet wired stays way) v.go_asking-due.ensures.served bound.free bound.until bound.sure;
             noted = v.go_asking-due.ensures.noted ∙ v.see.ensures.kept c.args.notes.now;
             spent = rw (ready-look part core c.args.from over) (spent-on
                 (spent-whole 0 none-spent (omega arith) (omega arith) (omega (arith, v.if-due-bound.false, bound.sure)))
@@ -33,7 +34,7 @@ loop-due-init g c =
       | else-last v ↦
           let on : IsSome (next_cycle part core) = search rules in
           rw (v.cpu-is, v.bus-is, v.notes-is, v.desk-is, v.due-is) (record {
-            at = not-yet part wired stays (caught-up part wired stays {s = start} c.cycle-cycle.ensures.value on c.requires.before c.break_tick-next_break.ensures.none (λ is. is) (0, refl));
+            at = not-yet wired stays (caught-up part wired stays {s = start} c.cycle-cycle.ensures.value on c.requires.before c.break_tick-next_break.ensures.none (λ is. is) (0, refl));
             noted = refl;
             spent = rw (ready-on part core c.args.from on) none-spent;
           })
@@ -113,7 +114,7 @@ loop-due-preserved-then-last-2 g c =
     (omega (arith, c.if-due-bound-2.false, bound.until, c.cycle-cycle.ensures.some)) (omega (arith, c.if-due-bound-2.false, bound.sure, c.cycle-cycle.ensures.some)) tick
     c.see-then-last-2.ensures.seen) in
     record {
-      at = served-on part wired stays
+      at = served-on wired stays
           (record { mid = so_far.at.mid; talks = so_far.at.talks; first = so_far.at.first; way = way }) c.go_asking-due-then-last-2.ensures.served bound.free bound.until bound.sure;
       noted = c.go_asking-due-then-last-2.ensures.noted ∙ c.see-then-last-2.ensures.kept c.quick.new.notes ∙ c.quick.ensures.noted ∙ so_far.noted;
       spent = spent-on (spent-whole 1 so_far.spent c.quick.ensures.room (omega arith) (omega (arith, c.if-due-bound-2.false, bound.sure)))
@@ -147,11 +148,11 @@ returns-then-due-until-clause-spends g c = rw (← c.cycle-cycle.ensures.value) 
 pub returns-in-None-clause-talks : goal.returns-in-None-clause-talks
 returns-in-None-clause-talks g c =
     let w = g.B.TubeBus.wiring in
-    left-off g.P.Processor.part g.B.TubeBus.wired g.B.TubeBus.stays_plain c.loop-due.invariant.at
+    left-off g.B.TubeBus.wired g.B.TubeBus.stays_plain c.loop-due.invariant.at
     (c.catch_up.ensures.closed ∙ ap (λ x. w.close x (owed_at c.cycle-cycle.result c.loop-due.caught_up c.loop-due.due (w.closed x))) c.in-None.ensures.done)
 
 pub returns-then-due-until-clause-talks : goal.returns-then-due-until-clause-talks
-returns-then-due-until-clause-talks g c = left-off g.P.Processor.part g.B.TubeBus.wired g.B.TubeBus.stays_plain c.loop-due.invariant.at c.catch_up-2.ensures.closed
+returns-then-due-until-clause-talks g c = left-off g.B.TubeBus.wired g.B.TubeBus.stays_plain c.loop-due.invariant.at c.catch_up-2.ensures.closed
 
 pub returns-else-due-until-clause-talks : goal.returns-else-due-until-clause-talks
-returns-else-due-until-clause-talks g c = left-off g.P.Processor.part g.B.TubeBus.wired g.B.TubeBus.stays_plain c.loop-due.invariant.at c.catch_up-2.ensures.closed
+returns-else-due-until-clause-talks g c = left-off g.B.TubeBus.wired g.B.TubeBus.stays_plain c.loop-due.invariant.at c.catch_up-2.ensures.closed
