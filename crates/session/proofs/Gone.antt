@@ -1,5 +1,5 @@
 -- A side goes on past what it may answer itself.
-use Rattle.std.proofs.Common.{ℕ, ◌≡◌, ◌+◌, ◌≤◌, inl, inr, refl, sym, ◌∙◌, ap, subst, arith, List, [], length, length-append, None, Some}
+use Rattle.std.proofs.Common.{ℕ, ◌≡◌, ◌+◌, ◌≤◌, inl, inr, ◌∙◌, ap, arith, List, [], length, length-append, None, Some}
 use Rattle.beeb_bits.specs.declared.Side.{Side}
 use Rattle.tube_chip.specs.Act.{access}
 use Rattle.tube_chip.specs.Events.{Event}
@@ -11,7 +11,7 @@ use Rattle.tube_party.specs.declared.log.Log.{Log}
 use Rattle.tube_party.specs.declared.party.Ask.{Ask}
 use Rattle.tube_party.specs.declared.party.Ask.TheVariants.{Nothing, Access, Look}
 use Rattle.tube_party.specs.Moves.{Moves, IsLawful, Runs, IsAsk, course}
-use Rattle.tube_party.specs.Logs.{HasNoted, at_most_one}
+use Rattle.tube_party.specs.Logs.{at_most_one}
 use Rattle.session.specs.CodeSight.{byte_answer, readings_seen, observed_events}
 use Rattle.session.specs.CodeStation.{Station}
 use Rattle.session.specs.CodeObserved.{HasObserved, IsOver}
@@ -25,19 +25,19 @@ module _ {S : Type 0} {m : Moves S} (lawful : IsLawful m) (side : Side) (n : ℕ
   pub events_low : (k : ℕ) (s : S) (events : List Event) (last : S) → Runs m side n k s (course events last) → (m.due s ≤ m.due last) × AllBelow (m.due last) events
   events_low k s events last h =
       along m side n last (λ s b. (m.due s ≤ m.due last) × AllBelow (m.due last) b) (omega arith, low_nil)
-      (λ s b _ r. let x = lawful.rises s None in let y = r.0 in (omega arith, r.1))
-      (λ s e b _ t _ r. let x = lawful.rises s (Some e.answer) in (omega arith, low_cons e b (omega arith) r.1)) k s events h
+      (λ s b _ _ r. let x = lawful.rises s None in let y = r.0 in (omega arith, r.1))
+      (λ s e b _ t _ _ r. let x = lawful.rises s (Some e.answer) in (omega arith, low_cons e b (omega arith) r.1)) k s events h
 
   -- and below the end
   pub events_under : (k : ℕ) (s : S) (events : List Event) (last : S) → Runs m side n k s (course events last) → AllBelow n events
-  events_under k s events last h = along m side n last (λ s b. AllBelow n b) low_nil (λ s b _ r. r) (λ s e b low t _ r. low_cons e b (omega arith) r) k s events h
+  events_under k s events last h = along m side n last (λ s b. AllBelow n b) low_nil (λ s b _ _ r. r) (λ s e b low t _ _ r. low_cons e b (omega arith) r) k s events h
 
   -- a run has at most as many accesses as ticks
   pub events_few : (k : ℕ) (s : S) (events : List Event) (last : S) → Runs m side n k s (course events last) → length (accesses events) + m.due s ≤ m.due last
   events_few k s events last h =
       along m side n last (λ s b. length (accesses b) + m.due s ≤ m.due last) (omega arith)
-      (λ s b _ r. let x = lawful.rises s None in omega arith)
-      (λ s e b _ _ _ r.
+      (λ s b _ _ r. let x = lawful.rises s None in omega arith)
+      (λ s e b _ _ _ _ r.
       let x = lawful.rises s (Some e.answer) in
       let one = at_most_one e.tick e.side e.query e.answer in
       let all = length-append (entry_of e.tick e.side e.query e.answer) (accesses b) in
@@ -63,36 +63,28 @@ module _ {S : Type 0} {m : Moves S} (lawful : IsLawful m) (side : Side) (n : ℕ
       let a = events_few _ s h.events h.last h.runs in
       omega arith
 
--- what it observed are the events that the pass has
-gone_here : {S : Type 0} {m : Moves S} (lawful : IsLawful m) {n : ℕ} {r : Readings} {t : ℕ} (x y : Station S) {ask : Ask} {events : List Event}
-    → own_horizon x.at.pass ≤ m.due x.at.state → own_horizon x.at.pass ≤ n → t ≤ n
-    → events ≡ observed_events m x.at.pass.side (readings_seen r) t t x.at.state → y.at.pass ≡ after_add x.at.pass events
-    → ((u : ℕ) → own_horizon x.at.pass ≤ u → AllBelow u events → own_horizon y.at.pass ≤ u)
-    → HasObserved m x.at.pass.side n r t x.at.state x.log ask y.at.state y.log → IsOver r t ask → GoneOn m n x ask y
-gone_here {m} lawful {n} {r} {t} x y {events} later open_ within events_are pass past h over =
-    let side = x.at.pass.side in
-    let e : h.events ≡ events = observed_is lawful _ n r t within h over t (omega arith) ∙ sym events_are in
-    let runs = subst (λ l. Runs m side n h.steps x.at.state (course l h.last)) e h.runs in
-    let low = events_low lawful _ n _ _ events h.last runs in
-    record {
-      events = events;
-      steps = h.steps;
-      last = h.last;
-      runs = runs;
-      asked = h.asked;
-      noted = subst (λ l. HasNoted (accesses l) x.log y.log) e h.noted;
-      pass = pass;
-      next = past (m.due h.last) (omega arith) low.1;
-      open_ = past n open_ (events_under lawful _ n _ _ events h.last runs);
-    }
-
 -- A pass has what its party will observe, and then the party goes on as far as it observes anything.
 pub gone_on : {S : Type 0} {m : Moves S} (lawful : IsLawful m) {n : ℕ} {r : Readings} {t : ℕ} (x y : Station S) {ask : Ask} {q : Carried} {side : Side}
     → y.at.pass ≡ q → side ≡ x.at.pass.side → own_horizon x.at.pass ≤ m.due x.at.state → own_horizon x.at.pass ≤ n → t ≤ n
     → q ≡ after_add x.at.pass (observed_events m x.at.pass.side (readings_seen r) t t x.at.state)
     → ((u : ℕ) → own_horizon x.at.pass ≤ u → AllBelow u (observed_events m x.at.pass.side (readings_seen r) t t x.at.state) → own_horizon q ≤ u)
     → HasObserved m side n r t x.at.state x.log ask y.at.state y.log → IsOver r t ask → GoneOn m n x ask y
-gone_on {m} lawful {n} {r} {t} x y {ask} back own later open_ within pass past h over =
-    gone_here lawful x y later open_ within refl (back ∙ pass)
-    (λ u a b. subst (λ z. own_horizon z ≤ u) (sym back) (past u a b))
-    (subst (λ z. HasObserved m z n r t x.at.state x.log ask y.at.state y.log) own h) over
+gone_on {m} lawful {n} {r} {t} x y {ask} back own later open_ within pass past went over =
+    let p = x.at.pass in
+    let h = rw own at went in
+    let events : List Event = observed_events m p.side (readings_seen r) t t x.at.state in
+    let e : h.events ≡ events = observed_is lawful _ n r t within h over t (omega arith) in
+    let runs = rw e at h.runs in
+    let low = events_low lawful _ n _ _ events h.last runs in
+    let high : (u : ℕ) → own_horizon p ≤ u → AllBelow u events → own_horizon y.at.pass ≤ u = λ u le all. rw back (past u le all) in
+    record {
+      events = events;
+      steps = h.steps;
+      last = h.last;
+      runs = runs;
+      asked = h.asked;
+      noted = rw e at h.noted;
+      pass = back ∙ pass;
+      next = high (m.due h.last) (omega arith) low.1;
+      open_ = high n open_ (events_under lawful _ n _ _ events h.last runs);
+    }

@@ -4,11 +4,9 @@ use Rattle.std.proofs.lemmas.List.Elements.{All-append}
 use Rattle.beeb_bits.specs.declared.Side.{Side}
 use Rattle.beeb_bits.specs.declared.Tick.{Tick}
 use Rattle.tube_chip.specs.declared.Answer.TheVariants.{Byte}
-use Rattle.tube_chip.specs.declared.Lines.{Lines}
 use Rattle.tube_chip.specs.declared.Op.{Op}
 use Rattle.tube_chip.specs.Act.{access}
 use Rattle.tube_chip.specs.Events.{Event}
-use Rattle.tube_trace.specs.declared.Entry.{Entry}
 use Rattle.tube_trace.specs.Entries.{accesses}
 use Rattle.tube_cell.specs.declared.local.Readings.{Readings}
 use Rattle.tube_cell.specs.Views.{AllBelow}
@@ -20,10 +18,10 @@ use Rattle.tube_party.specs.Logs.{HasNoted, none_noted}
 use Rattle.tube_side.specs.CodeSteps.{event_at}
 use Rattle.session.specs.declared.desk.StatusDesk.{StatusDesk}
 use Rattle.session.specs.CodeSight.{byte_seen, byte_answer, readings_seen, IsSeen}
-use Rattle.tube_party.specs.CodePassing.{passed_entry}
 use Rattle.session.specs.CodeDesk.{Shown, IsRead}
 use Rattle.session.specs.CodeObserved.{HasObserved, IsOver}
-use Rattle.session.proofs.Runs.{SomeRuns, asking, append}
+use Rattle.tube_party.proofs.Runs.{Over, Asking, SomeRuns, runs_of, glances_of}
+use Rattle.session.proofs.Runs.{append}
 use Rattle.session.proofs.Kept.{noted_both}
 use Rattle.session.proofs.Observing.{looked, seen_on}
 use Rattle.tube_cell.proofs.Law.{low_cons, low_nil}
@@ -46,13 +44,6 @@ pub record HasGone {S : Type 0} (m : Moves S) (side : Side) (n : ℕ) (r : Readi
 pub read_leaves : {side : Side} {r : Readings} {t tick : ℕ} {op : Op} {byte : ℕ} {d e : Shown} → IsAt side r t d → IsRead d tick op byte e → IsAt side r t e
 read_leaves at h = record { side_is = h.side_is ∙ at.side_is; status_is = h.status_is ∙ at.status_is; below_is = h.below_is ∙ at.below_is }
 
--- and so do all reads of a run
-pub leaves_desk : {S : Type 0} (m : Moves S) {side : Side} (n : ℕ) {r : Readings} {t : ℕ} (lines : Lines) (sure j : ℕ) (s last : S) {d : Shown} (e : Shown)
-    → IsAt side r t d → Talks m IsRead n (shown_lines lines sure) j s d last e → IsAt side r t e
-leaves_desk m {side} n {r} {t} lines sure zero s last e at h = subst (λ x. IsAt side r t x) h.0 at
-leaves_desk m n lines sure (suc j) s last e at h =
-    leaves_desk m n lines sure j h.1 last e (read_leaves at h.4.answered) h.5
-
 module _ {S : Type 0} {m : Moves S} (lawful : IsLawful m) {side : Side} {n : ℕ} {r : Readings} {t : ℕ} where
   -- it is where it was
   pub is_here : (s : S) (log : Log) → HasGone m side n r t s log s log
@@ -60,9 +51,9 @@ module _ {S : Type 0} {m : Moves S} (lawful : IsLawful m) {side : Side} {n : ℕ
 
   -- it went there, and on
   goes_on : {s u v : S} {a b c : Log} → HasGone m side n r t s a u b → HasGone m side n r t u b v c → HasGone m side n r t s a v c
-  goes_on {s} {u} {v} f g = record {
+  goes_on f g = record {
     events = f.events ++ g.events;
-    runs = append m _ n u v _ _ s f.events f.runs.1 g.runs;
+    runs = append m _ n _ f.events f.runs.1 g.runs;
     seen = seen_on _ _ _ f.seen g.seen;
     low = All-append (λ e. e.tick < t) f.events g.events f.low g.low;
     noted = noted_both f.events g.events f.noted g.noted;
@@ -71,13 +62,13 @@ module _ {S : Type 0} {m : Moves S} (lawful : IsLawful m) {side : Side} {n : ℕ
   -- among looks
   by_looks : (k : ℕ) (s u : S) (log : Log) → Looks m n (shown_lines r.lines t) k s u → HasGone m side n r t s log u log
   by_looks k s u log looks =
-      let l = looked lawful side (readings_seen r) n r.lines refl t k s u looks in
+      let l = looked lawful side (readings_seen r) n r.lines refl (glances_of m n (shown_lines r.lines t) k looks) in
       record {
         events = l.events;
-        runs = (k, l.runs);
+        runs = runs_of m side n l.runs;
         seen = l.seen;
         low = l.low;
-        noted = subst (λ (z : List Entry). HasNoted z log log) (sym l.silent) (none_noted log);
+        noted = rw l.silent (none_noted log);
       }
 
   -- by one read
@@ -87,40 +78,40 @@ module _ {S : Type 0} {m : Moves S} (lawful : IsLawful m) {side : Side} {n : ℕ
       let event : Event = event_at (m.due s) side (access op) (Byte byte) in
       record {
         events = event ∷ [];
-        runs = (suc zero, asking m side n zero s (access op) (Byte byte) [] (m.next s (Some (Byte byte))) under asks (refl, refl));
+        runs = runs_of m side n (Asking (access op) (Byte byte) under asks Over);
         seen = (ap byte_answer (ap (λ z. byte_seen z op) (sym at.status_is) ∙ h.byte_is), tt);
         low = low_cons event [] (omega arith) low_nil;
-        noted = subst (λ z. HasNoted (passed_entry z (m.due s) op byte ∷ []) d.log e.log) at.side_is h.noted;
+        noted = rw at.side_is at h.noted;
       }
 
-  -- among looks and reads
-  by_talks : (j : ℕ) (s last : S) {d : Shown} (e : Shown) → IsAt side r t d → Talks m IsRead n (shown_lines r.lines t) j s d last e → HasGone m side n r t s d.log last e.log
-  by_talks zero s last {d} e at h = subst (λ x. HasGone m side n r t s d.log last x.log) h.0 (by_looks _ s _ d.log h.1.1)
+  -- among looks and reads, which leave the desk such a one
+  by_talks : (j : ℕ) (s last : S) {d : Shown} (e : Shown) → IsAt side r t d → Talks m IsRead n (shown_lines r.lines t) j s d last e
+      → HasGone m side n r t s d.log last e.log × IsAt side r t e
+  by_talks zero s last {d} e at h = subst (λ x. HasGone m side n r t s d.log last x.log × IsAt side r t x) h.0 (by_looks _ s _ d.log h.1.1, at)
   by_talks (suc j) s last {d} e at h =
       let read = by_read h.0 h.4.below h.4.asks at h.4.answered in
       let rest = by_talks j h.1 last e (read_leaves at h.4.answered) h.5 in
-      goes_on (by_looks _ s _ d.log h.3.1)
-      (goes_on (subst (λ z. HasGone m side n r t h.0 d.log z h.2.log) (sym h.4.goes) read) rest)
+      (goes_on (by_looks _ s _ d.log h.3.1) (goes_on (rw h.4.goes read) rest.0), rest.1)
 
   -- it went on, and this is asked next
   pub hears_on : {s u new : S} {a : Log} {d e : Shown} {ask : Ask} → IsAt side r t d → HasGone m side n r t s a u d.log → GoesHearing m IsRead n (shown_lines r.lines t) u d ask new e
-      → HasObserved m side n r t s a ask new e.log
+      → HasObserved m side n r t s a ask new e.log × IsAt side r t e
   hears_on {u} {e} at gone went =
-      let all = goes_on gone (by_talks _ u _ e at went.talks) in
-      record { events = all.events; steps = all.runs.0; last = went.last; runs = all.runs.1; seen = all.seen; low = all.low; asked = went.asked; noted = all.noted }
+      let talked = by_talks _ u _ e at went.talks in
+      let all = goes_on gone talked.0 in
+      (record { events = all.events; steps = all.runs.0; last = went.last; runs = all.runs.1; seen = all.seen; low = all.low; asked = went.asked; noted = all.noted }, talked.1)
 
   -- the same, where the desk is asked, which stays such a one
   pub observes_on : {s u new : S} {a : Log} {d e : Shown} {ask asked : Ask} → ask ≡ asked → IsAt side r t d → HasGone m side n r t s a u d.log
       → Hears m IsRead n (shown_lines r.lines d.below) u d ask new e → HasObserved m side n r t s a asked new e.log × IsUnsure t asked × IsAt side r t e
-  observes_on {u} {new} {d} {e} {asked} is at gone hears =
-      let h : Hears m IsRead n (shown_lines r.lines t) u d asked new e = subst (λ z. Hears m IsRead n (shown_lines r.lines z) u d asked new e) at.below_is
-      (subst (λ z. Hears m IsRead n (shown_lines r.lines d.below) u d z new e) is hears) in
-      let went : GoesHearing m IsRead n (shown_lines r.lines t) u d asked new e = record { accesses = h.accesses; last = h.last; talks = h.talks; asked = h.asked } in
-      (hears_on at gone went, h.unsure, leaves_desk m n r.lines t _ u _ e at h.talks)
+  observes_on {u} {new} {d} {e} {asked = asked} is at gone hears =
+      let h = subst (λ z. Hears m IsRead n (shown_lines r.lines z) u d asked new e) at.below_is (rw is at hears) in
+      let went = hears_on at gone (record { accesses = h.accesses; last = h.last; talks = h.talks; asked = h.asked }) in
+      (went.0, h.unsure, went.1)
 
   -- the desk was left as it was
   pub still_observed : {s new : S} {a : Log} {d e : StatusDesk} {ask : Ask} → e ≡ d → HasObserved m side n r t s a ask new d.log → HasObserved m side n r t s a ask new e.log
-  still_observed {s} {new} {a} {ask} is h = subst (λ (x : StatusDesk). HasObserved m side n r t s a ask new x.log) (sym is) h
+  still_observed {s} {new} {a} {ask} is h = rw is h
 
   -- the read was done that was asked
   pub reads_on : {s new v : S} {a : Log} (tick : Tick) {op : Op} {byte : ℕ} {d e : Shown} → IsAt side r t d → HasObserved m side n r t s a (Access tick op) new d.log → IsRead d tick.0 op byte e
@@ -128,7 +119,7 @@ module _ {S : Type 0} {m : Moves S} (lawful : IsLawful m) {side : Side} {n : ℕ
   reads_on {s} {a} tick {op} {byte} {d} {e} at h read is =
       let due = h.asked.0 in
       let so_far : HasGone m side n r t s a h.last d.log = record { events = h.events; runs = (h.steps, h.runs); seen = h.seen; low = h.low; noted = h.noted } in
-      let one = by_read h.last (omega arith) h.asked.2 at (subst (λ x. IsRead d x op byte e) due read) in
+      let one = by_read h.last (omega arith) h.asked.2 at (rw due at read) in
       subst (λ z. HasGone m side n r t s a z e.log) (ap (λ z. m.next z (Some (Byte byte))) (sym h.asked.3) ∙ sym is)
       (goes_on so_far one)
 
@@ -136,7 +127,7 @@ module _ {S : Type 0} {m : Moves S} (lawful : IsLawful m) {side : Side} {n : ℕ
 pub heard : {S : Type 0} {m : Moves S} (lawful : IsLawful m) {side : Side} {n : ℕ} (r : Readings) {t : ℕ} {s : S} {d : Shown} {ask : Ask} {new : S} {e : Shown}
     → d.side ≡ side → d.status ≡ r.status → d.below ≡ t → GoesHearing m IsRead n (shown_lines r.lines t) s d ask new e → HasObserved m side n r t s d.log ask new e.log
 heard lawful {side} {n} r {t} {s} {d} own shows at went =
-    hears_on lawful (record { side_is = own; status_is = shows; below_is = at }) (is_here lawful s d.log) went
+    (hears_on lawful (record { side_is = own; status_is = shows; below_is = at }) (is_here lawful s d.log) went).0
 
 -- what left off at no access is over
 pub over_unasked : (r : Readings) (t : ℕ) (ask : Ask) → ((u : Tick) (op : Op) → ask ≡ Access u op → ⊥) → IsUnsure t ask → IsOver r t ask

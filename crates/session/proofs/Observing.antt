@@ -1,7 +1,6 @@
 -- What a side observes that goes ahead: what is cut off it, and what runs make it.
-use Rattle.std.proofs.Common.{ℕ, zero, suc, ◌≡◌, ◌+◌, ◌<◌, ◌≤◌, ◌==◌, nat_lt, true, false, cond, refl, sym, ◌∙◌, ap, subst, ⊎_elim, arith, List, [], ◌∷◌, ◌++◌, Option, None, Some}
-use Rattle.std.proofs.Common.{MatchOption, slice_index}
-use Rattle.std.proofs.lemmas.Bool.{cases_lt}
+use Rattle.std.proofs.Common.{ℕ, zero, suc, ◌≡◌, ◌+◌, ◌<◌, ◌≤◌, ◌==◌, nat_lt, true, false, cond, refl, sym, ◌∙◌, ap, subst, arith, List, [], ◌∷◌, ◌++◌, Option, None, Some}
+use Rattle.std.proofs.Common.{slice_index}
 use Rattle.std.proofs.lemmas.Bool.Decides.{nat_tests}
 use Rattle.beeb_bits.specs.declared.Side.{Side}
 use Rattle.tube_chip.specs.declared.Answer.{Answer}
@@ -16,17 +15,12 @@ use Rattle.tube_trace.specs.Entries.{accesses}
 use Rattle.tube_cell.specs.declared.local.Readings.{Readings}
 use Rattle.tube_cell.specs.Views.{AllBelow, below, is_observation, shown_to}
 use Rattle.tube_cell.specs.Steps.{Watches}
-use Rattle.tube_party.specs.Moves.{Moves, IsLawful, Runs, Looks, shown_lines, course}
+use Rattle.tube_party.specs.Moves.{Moves, IsLawful, Runs, shown_lines, course}
 use Rattle.tube_side.specs.CodeSteps.{event_at}
 use Rattle.session.specs.CodeSight.{Sight, byte_seen, byte_answer, readings_seen, joins, observed_by, observed_events, IsSeen}
-use Rattle.tube_cell.proofs.Law.{low_cons, low_head, low_nil, low_tail}
-use Rattle.session.proofs.Runs.{Then}
-
-nat_lt-yes : (m n : ℕ) → m < n → nat_lt m n ≡ true
-nat_lt-yes m n h = grind (arith, nat_tests)
-
-nat_lt-no : (m n : ℕ) → n ≤ m → nat_lt m n ≡ false
-nat_lt-no m n h = grind (arith, nat_tests)
+use Rattle.tube_cell.proofs.Law.{by_lt, nat_lt-true, nat_lt-false, low_cons, low_head, low_nil, low_tail}
+use Rattle.tube_party.proofs.Runs.{Steps, Over, Silent, Asking, Glances, Here, Past, Seeing}
+use Rattle.session.proofs.Runs.{along}
 
 -- what a query sees is what the chip answers to an observation
 abbrev pub Shows : State → Side → Sight → Type 0
@@ -47,19 +41,33 @@ module _ {S : Type 0} {m : Moves S} (lawful : IsLawful m) (side : Side) (v : Sig
   abbrev observed : ℕ → ℕ → S → List Event
   observed limit k s = observed_events m side v limit k s
 
+  -- behind a step that has this answer
+  abbrev later : ℕ → ℕ → S → Answer → List Event
+  later limit k s a = observed limit k (after s a)
+
   -- by what the step asks
   abbrev observed_as : ℕ → ℕ → S → Option Query → List Event
-  observed_as limit k s o = observed_by v side (m.due s) (observed limit k (silent s)) (λ a. observed limit k (after s a)) o
+  observed_as limit k s o = observed_by v side (m.due s) (observed limit k (silent s)) (later limit k s) o
+
+  -- what holds of no events, behind a step that asks nothing, and with the event of one that is answered in front, holds of what is observed
+  by_step : (P : List Event → Type 0) (limit k : ℕ) (s : S) → P []
+      → (m.due s < limit → m.asks s ≡ None → P (observed limit k (silent s)))
+      → ((q : Query) (a : Answer) → m.due s < limit → m.asks s ≡ Some q → v q ≡ Some a → P (event_at (m.due s) side q a ∷ later limit k s a))
+      → P (observed limit (suc k) s)
+  by_step P limit k s none on asked = by_lt (m.due s) limit (λ b. P (cond b (observed_as limit k s (m.asks s)) [])) (λ lt. by_ask lt (m.asks s) refl) (λ _. none)
+    where
+      by_answer : m.due s < limit → (q : Query) → m.asks s ≡ Some q → (o : Option Answer) → v q ≡ o → P (joins side (m.due s) q (later limit k s) o)
+      by_answer lt q is None sees = none
+      by_answer lt q is (Some a) sees = asked q a lt is sees
+
+      by_ask : m.due s < limit → (o : Option Query) → m.asks s ≡ o → P (observed_as limit k s o)
+      by_ask lt None is = on lt is
+      by_ask lt (Some q) is = by_answer lt q is (v q) refl
 
   -- none from the limit on
   pub none_late : (limit k : ℕ) (s : S) → limit ≤ m.due s → observed limit k s ≡ []
   none_late limit zero s le = refl
-  none_late limit (suc k) s le = rw (nat_lt-no (m.due s) limit le) refl
-
-  -- below the limit, by what is asked
-  one_more : (limit k : ℕ) (s : S) → m.due s < limit
-      → observed limit (suc k) s ≡ observed_as limit k s (m.asks s)
-  one_more limit k s lt = rw (nat_lt-yes (m.due s) limit lt) refl
+  none_late limit (suc k) s le = rw (nat_lt-false (m.due s) limit le) refl
 
   -- enough steps are enough
   pub enough : (limit j k : ℕ) (s : S) → limit ≤ m.due s + j → limit ≤ m.due s + k → observed limit j s ≡ observed limit k s
@@ -68,90 +76,52 @@ module _ {S : Type 0} {m : Moves S} (lawful : IsLawful m) (side : Side) (v : Sig
   enough limit (suc j) (suc k) s a b =
       let x : m.due s < m.due (silent s) = lawful.rises s None in
       let p = enough limit j k (silent s) (omega arith) (omega arith) in
-      let later : (y : Answer) → observed limit j (after s y) ≡ observed limit k (after s y) =
+      let q : (y : Answer) → later limit j s y ≡ later limit k s y =
       λ y. let z : m.due s < m.due (after s y) = lawful.rises s (Some y) in enough limit j k (after s y) (omega arith) (omega arith) in
-      (λ i. cond (nat_lt (m.due s) limit) (observed_by v side (m.due s) (p i) (λ y. later y i) (m.asks s)) [])
+      (λ i. cond (nat_lt (m.due s) limit) (observed_by v side (m.due s) (p i) (λ y. q y i) (m.asks s)) [])
 
   -- each is below the limit
-  limit_by : (limit at : ℕ) (xs : List Event) (later : Answer → List Event) (o : Option Query) → at < limit → AllBelow limit xs → ((a : Answer) → AllBelow limit (later a))
-      → AllBelow limit (observed_by v side at xs later o)
-  limit_by limit at xs later None lt a b = a
-  limit_by limit at xs later (Some q) lt a b = elim (v q) as (λ o. AllBelow limit (joins side at q later o)) [
-    | None ↦ low_nil
-    | Some a ↦ low_cons (event_at at side q a) (later a) lt (b a)
-  ]
-
   pub below_limit : (limit k : ℕ) (s : S) → AllBelow limit (observed limit k s)
   below_limit limit zero s = low_nil
   below_limit limit (suc k) s =
-      ⊎_elim (λ (lt : m.due s < limit). subst (AllBelow limit) (sym (one_more limit k s lt))
-      (limit_by limit (m.due s) (observed limit k (silent s)) (λ a. observed limit k (after s a)) (m.asks s) lt (below_limit limit k (silent s))
-      (λ a. below_limit limit k (after s a))))
-      (λ (ge : limit ≤ m.due s). subst (AllBelow limit) (sym (none_late limit (suc k) s ge)) low_nil)
-      (cases_lt (m.due s) limit)
+      by_step (AllBelow limit) limit k s low_nil (λ _ _. below_limit limit k (silent s)) (λ q a lt _ _. low_cons _ _ lt (below_limit limit k (after s a)))
 
   -- a cut before all of them leaves none
-  cut_early_by : (t at : ℕ) (xs : List Event) (later : Answer → List Event) (o : Option Query) → t ≤ at → below t xs ≡ [] → below t (observed_by v side at xs later o) ≡ []
-  cut_early_by t at xs later None le e = e
-  cut_early_by t at xs later (Some q) le e = elim (v q) as (λ o. below t (joins side at q later o) ≡ []) [
-    | None ↦ refl
-    | Some a ↦ rw (nat_lt-no at t le) refl
-  ]
-
   cut_early : (t limit k : ℕ) (s : S) → t ≤ m.due s → below t (observed limit k s) ≡ []
   cut_early t limit zero s le = refl
   cut_early t limit (suc k) s le =
-      let x : m.due s < m.due (silent s) = lawful.rises s None in
-      let e = cut_early_by t (m.due s) (observed limit k (silent s)) (λ a. observed limit k (after s a)) (m.asks s) le (cut_early t limit k (silent s) (omega arith)) in
-      elim (nat_lt (m.due s) limit) as (λ b. below t (cond b (observed_as limit k s (m.asks s)) []) ≡ []) [
-        | true ↦ e
-        | false ↦ refl
-      ]
+      by_step (λ l. below t l ≡ []) limit k s refl
+      (λ _ _. let x : m.due s < m.due (silent s) = lawful.rises s None in cut_early t limit k (silent s) (omega arith))
+      (λ q a _ _ _. rw (nat_lt-false (m.due s) t le) refl)
 
   cut_by : (t at : ℕ) (xs : List Event) {us : List Event} (ys vs : Answer → List Event) (o : Option Query) → at < t → below t xs ≡ us → ((a : Answer) → below t (ys a) ≡ vs a)
       → below t (observed_by v side at xs ys o) ≡ observed_by v side at us vs o
   cut_by t at xs ys vs None lt e f = e
   cut_by t at xs ys vs (Some q) lt e f = elim (v q) as (λ o. below t (joins side at q ys o) ≡ joins side at q vs o) [
     | None ↦ refl
-    | Some a ↦ rw (nat_lt-yes at t lt) (ap (λ l. event_at at side q a ∷ l) (f a))
+    | Some a ↦ rw (nat_lt-true at t lt) (ap (λ l. event_at at side q a ∷ l) (f a))
   ]
 
   -- cut at an earlier tick they are those below it
   pub cut : (t limit k : ℕ) (s : S) → t ≤ limit → below t (observed limit k s) ≡ observed t k s
   cut t limit zero s le = refl
   cut t limit (suc k) s le =
-      ⊎_elim
-      (λ (lt : m.due s < t).
-      ap (below t) (one_more limit k s (omega arith))
-      ∙ cut_by t (m.due s) (observed limit k (silent s)) (λ a. observed limit k (after s a))
-      (λ a. observed t k (after s a)) (m.asks s) lt (cut t limit k (silent s) le) (λ a. cut t limit k (after s a) le)
-      ∙ sym (one_more t k s lt))
-      (λ (ge : t ≤ m.due s). cut_early t limit (suc k) s ge ∙ sym (none_late t (suc k) s ge))
-      (cases_lt (m.due s) t)
+      by_lt (m.due s) t (λ b. below t (observed limit (suc k) s) ≡ cond b (observed_as t k s (m.asks s)) [])
+      (λ lt. rw (nat_lt-true (m.due s) limit (omega arith))
+      (cut_by t (m.due s) (observed limit k (silent s)) (later limit k s) (later t k s) (m.asks s) lt (cut t limit k (silent s) le) (λ a. cut t limit k (after s a) le)))
+      (λ ge. cut_early t limit (suc k) s ge)
 
   -- ---- they are observations of a chip that shows what they see
-
-  watches_joins : (c : State) (limit at from : ℕ) (q : Query) (later : Answer → List Event) (o : Option Answer) → ((a : Answer) → o ≡ Some a → (is_observation q ≡ true) × ((act c side q).1 ≡ a))
-      → from ≤ at → at < limit → ((a : Answer) → Watches side (at + 1) c (later a) limit) → Watches side from c (joins side at q later o) limit
-  watches_joins c limit at from q later None shows le lt on = tt
-  watches_joins c limit at from q later (Some a) shows le lt on = let h = shows a refl in (refl, h.0, le, lt, h.1, on a)
-
-  watches_by : (c : State) (limit at from : ℕ) (xs : List Event) (later : Answer → List Event) (o : Option Query) → Shows c side v → from ≤ at → at < limit → Watches side from c xs limit
-      → ((a : Answer) → Watches side (at + 1) c (later a) limit) → Watches side from c (observed_by v side at xs later o) limit
-  watches_by c limit at from xs later None shows le lt silent on = silent
-  watches_by c limit at from xs later (Some q) shows le lt silent on = watches_joins c limit at from q later (v q) (shows q) le lt on
 
   pub watches : (c : State) (limit k : ℕ) (s : S) (from : ℕ) → Shows c side v → from ≤ m.due s → Watches side from c (observed limit k s) limit
   watches c limit zero s from shows le = tt
   watches c limit (suc k) s from shows le =
-      let x : m.due s < m.due (silent s) = lawful.rises s None in
-      let later : (a : Answer) → Watches side (m.due s + 1) c (observed limit k (after s a)) limit =
-      λ a. let y : m.due s < m.due (after s a) = lawful.rises s (Some a) in watches c limit k (after s a) (m.due s + 1) shows (omega arith) in
-      ⊎_elim (λ (lt : m.due s < limit). subst (λ l. Watches side from c l limit) (sym (one_more limit k s lt))
-      (watches_by c limit (m.due s) from (observed limit k (silent s)) (λ a. observed limit k (after s a)) (m.asks s) shows le lt
-      (watches c limit k (silent s) from shows (omega arith)) later))
-      (λ (ge : limit ≤ m.due s). subst (λ l. Watches side from c l limit) (sym (none_late limit (suc k) s ge)) tt)
-      (cases_lt (m.due s) limit)
+      by_step (λ l. Watches side from c l limit) limit k s tt
+      (λ _ _. let x : m.due s < m.due (silent s) = lawful.rises s None in watches c limit k (silent s) from shows (omega arith))
+      (λ q a lt _ sees.
+      let h = shows q a sees in
+      let x : m.due s < m.due (after s a) = lawful.rises s (Some a) in
+      (refl, h.0, le, lt, h.1, watches c limit k (after s a) (m.due s + 1) shows (omega arith)))
 
   -- ---- a run whose queries see what they see is what is observed
 
@@ -161,91 +131,59 @@ module _ {S : Type 0} {m : Moves S} (lawful : IsLawful m) (side : Side) (v : Sig
     silent_same zero s is far = refl
     silent_same (suc j) s is far =
         let x : m.due s < m.due (silent s) = lawful.rises s None in
-        ⊎_elim
-        (λ (lt : m.due s < limit). enough limit (suc j) j (silent s) (omega arith) (omega arith)
-        ∙ sym (one_more limit j s lt ∙ ap (observed_as limit j s) is))
-        (λ (ge : limit ≤ m.due s). none_late limit (suc j) (silent s) (omega arith) ∙ sym (none_late limit (suc j) s ge))
-        (cases_lt (m.due s) limit)
+        by_lt (m.due s) limit (λ b. observed limit (suc j) (silent s) ≡ cond b (observed_as limit j s (m.asks s)) [])
+        (λ lt. rw is (enough limit (suc j) j (silent s) (omega arith) (omega arith)))
+        (λ ge. none_late limit (suc j) (silent s) (omega arith))
 
-    asked_same : (j : ℕ) (s : S) (q : Query) (a : Answer) {rest : List Event} → m.due s < limit → m.asks s ≡ Some q → v q ≡ Some a → rest ≡ observed limit j (after s a)
-        → event_at (m.due s) side q a ∷ rest ≡ observed limit (suc j) s
-    asked_same j s q a lt is sees on =
-        sym (one_more limit j s lt
-        ∙ ap (observed_as limit j s) is
-        ∙ ap (joins side (m.due s) q (λ y. observed limit j (after s y))) sees
-        ∙ ap (λ l. event_at (m.due s) side q a ∷ l) (sym on))
-
-    event_is : (e : Event) {t : ℕ} {q : Query} → e.tick ≡ t → e.side ≡ side → e.query ≡ q → e ≡ event_at t side q e.answer
-    event_is e a b c = (λ i. event_at (a i) (b i) (c i) e.answer)
-
-    first_by : (fuel : ℕ) (s : S) {q : Query} (e : Event) (rest : List Event) → m.asks s ≡ Some q → e.tick < limit → limit ≤ m.due s + fuel → e.tick ≡ m.due s → e.side ≡ side → e.query ≡ q
-        → v e.query ≡ Some e.answer → ((j : ℕ) → limit ≤ m.due (after s e.answer) + j → rest ≡ observed limit j (after s e.answer)) → e ∷ rest ≡ observed limit fuel s
-    first_by zero s e rest is lt far at own query sees on = absurd (omega arith)
-    first_by (suc j) s {q} e rest is lt far at own query sees on =
+    first_by : (fuel : ℕ) (s : S) (e : Event) (rest : List Event) → m.asks s ≡ Some e.query → e.tick < limit → limit ≤ m.due s + fuel → e.tick ≡ m.due s → e.side ≡ side
+        → v e.query ≡ Some e.answer → ((j : ℕ) → limit ≤ m.due (after s e.answer) + j → rest ≡ later limit j s e.answer) → e ∷ rest ≡ observed limit fuel s
+    first_by zero s e rest is lt far at own sees on = absurd (omega arith)
+    first_by (suc j) s e rest is lt far at own sees on =
         let y : m.due s < m.due (after s e.answer) = lawful.rises s (Some e.answer) in
-        let sees_it : v q ≡ Some e.answer = ap v (sym query) ∙ sees in
-        ap (λ x. x ∷ rest) (event_is e at own query) ∙ asked_same j s q e.answer (omega arith) is sees_it (on j (omega arith))
-
-    made_by : (k fuel : ℕ) (s : S) (events : List Event) (o : Option Query) → m.asks s ≡ o → limit ≤ m.due s + fuel
-        → ((u : S) (es : List Event) (more : ℕ) → Runs m side n k u (course es last) → IsSeen v es → AllBelow limit es → limit ≤ m.due u + more → es ≡ observed limit more u)
-        → Then m side n k s events last o → IsSeen v events → AllBelow limit events → events ≡ observed limit fuel s
-    made_by k fuel s events None is far on h sees low =
-        let x : m.due s < m.due (silent s) = lawful.rises s None in
-        on (silent s) events fuel h sees low (omega arith) ∙ silent_same fuel s is far
-    made_by k fuel s [] (Some q) is far on h sees low = absurd h
-    made_by k fuel s (e ∷ rest) (Some q) is far on h sees low =
-        first_by fuel s e rest is (low_head e rest low) far h.0 h.1 h.2 sees.0
-        (λ j more. on (after s e.answer) rest j h.3 sees.1 (low_tail e rest low) more)
+        rw (nat_lt-true (m.due s) limit (omega arith), is, sees) (λ i. event_at (at i) (own i) e.query e.answer ∷ on j (omega arith) i)
 
     -- Where its events are below the limit, and nothing is observed below it at its end, they are what is observed.
     pub made : (k fuel : ℕ) (s : S) (events : List Event) → Runs m side n k s (course events last) → IsSeen v events → AllBelow limit events → limit ≤ m.due s + fuel
         → events ≡ observed limit fuel s
-    made zero fuel s events h sees low far = h.0 ∙ sym (ap (observed limit fuel) h.1 ∙ stops fuel)
-    made (suc k) fuel s events h sees low far = made_by k fuel s _ _ refl far (λ u es more runs saw under enough'. made k more u es runs saw under enough') h.1 sees low
+    made k fuel s events runs seen low far =
+        along m side n last (λ s es. IsSeen v es → AllBelow limit es → (more : ℕ) → limit ≤ m.due s + more → es ≡ observed limit more s) (λ _ _ more _. sym (stops more))
+        (λ s es _ is on seen low more far.
+        let x : m.due s < m.due (silent s) = lawful.rises s None in
+        on seen low more (omega arith) ∙ silent_same more s is far)
+        (λ s e es _ at own is on seen low more far. first_by more s e es is (low_head e es low) far at own seen.0 (on seen.1 (low_tail e es low)))
+        k s events runs seen low fuel far
 
   -- nothing is observed from a step on whose query is not answered
   pub stops_at : (limit k : ℕ) (s : S) (q : Query) → m.asks s ≡ Some q → v q ≡ None → observed limit k s ≡ []
   stops_at limit zero s q is none = refl
-  stops_at limit (suc k) s q is none =
-      let e : observed_as limit k s (m.asks s) ≡ [] =
-      ap (observed_as limit k s) is
-      ∙ ap (joins side (m.due s) q (λ a. observed limit k (after s a))) none in
-      elim (nat_lt (m.due s) limit) as (λ b. cond b (observed_as limit k s (m.asks s)) [] ≡ []) [
-        | true ↦ e
-        | false ↦ refl
-      ]
+  stops_at limit (suc k) s q is none = by_step (λ l. l ≡ []) limit k s refl (λ _ bare. absurd (cc)) (λ x a _ asks sees. absurd (cc))
 
   -- ---- a run among looks
 
   module _ (n : ℕ) (lines : Lines) (sees_lines : v look ≡ Some (Seen lines)) where
     -- its events: each is a look below a tick, and sees the lines
-    pub record IsLooks (sure k : ℕ) (s last : S) : Type 0 where
+    pub record IsLooks (sure : ℕ) (s last : S) : Type 0 where
       pub events : List Event
-      pub runs : Runs m side n k s (course events last)
+      pub runs : Steps m side n last s events
       pub seen : IsSeen v events
       pub silent : accesses events ≡ []
       pub low : AllBelow sure events
 
-    looked_by : (sure k : ℕ) (s last : S) (o : Option Query) → m.asks s ≡ o → m.due s < n → ((u : S) → Looks m n (shown_lines lines sure) k u last → IsLooks sure k u last)
-        → MatchOption o (Looks m n (shown_lines lines sure) k (silent s) last)
-        (λ q. (q ≡ look) × (m.due s < sure) × Looks m n (shown_lines lines sure) k (m.next s (Some (Seen lines))) last) → IsLooks sure (suc k) s last
-    looked_by sure k s last None is under on h =
-        let r = on (silent s) h in
-        record { events = r.events; runs = (under, rw is r.runs); seen = r.seen; silent = r.silent; low = r.low }
-    looked_by sure k s last (Some q) is under on h =
-        let r = on (after s (Seen lines)) h.2 in
+    pub looked : {sure : ℕ} {last s : S} → Glances m n (shown_lines lines sure) last s → IsLooks sure s last
+    looked Here = record { events = []; runs = Over; seen = tt; silent = refl; low = low_nil }
+    looked (Past low none on) =
+        let r = looked on in
+        record { events = r.events; runs = Silent low none r.runs; seen = r.seen; silent = r.silent; low = r.low }
+    looked (Seeing {s = s} low is before on) =
+        let r = looked on in
         let e : Event = event_at (m.due s) side look (Seen lines) in
         record {
           events = e ∷ r.events;
-          runs = (under, rw is (refl, refl, sym h.0, r.runs));
+          runs = Asking look (Seen lines) low is r.runs;
           seen = (sees_lines, r.seen);
           silent = r.silent;
-          low = low_cons e r.events h.1 r.low;
+          low = low_cons e r.events before r.low;
         }
-
-    pub looked : (sure k : ℕ) (s last : S) → Looks m n (shown_lines lines sure) k s last → IsLooks sure k s last
-    looked sure zero s last h = record { events = []; runs = (refl, h); seen = tt; silent = refl; low = low_nil }
-    looked sure (suc k) s last h = looked_by sure k s last (m.asks s) refl h.0 (λ u on. looked sure k u last on) h.1
 
 -- ---- what chips show
 
@@ -289,7 +227,7 @@ access_shows c side (Write number written) a e = absurd (cc)
 access_shows c side Reset a e = absurd (cc)
 
 pub readings_show : (c : State) (side : Side) {r : Readings} → r ≡ shown_to side c → Shows c side (readings_seen r)
-readings_show c side is = subst (λ (x : Readings). Shows c side (readings_seen x)) (sym is) shows
+readings_show c side is = rw is shows
   where
     shows : Shows c side (readings_seen (shown_to side c))
     shows look a e = (refl, cc)
@@ -299,4 +237,4 @@ readings_show c side is = subst (λ (x : Readings). Shows c side (readings_seen 
 pub watches_shown : {S : Type 0} {m : Moves S} (lawful : IsLawful m) (side : Side) (c : State) {r : Readings} (end : ℕ) (s : S) (from : ℕ) {events : List Event}
     → r ≡ shown_to side c → events ≡ observed_events m side (readings_seen r) end end s → from ≤ m.due s → Watches side from c events end
 watches_shown lawful side c {r} end s from shown is le =
-    subst (λ l. Watches side from c l end) (sym is) (watches lawful side (readings_seen r) c end end s from (readings_show c side shown) le)
+    rw is (watches lawful side (readings_seen r) c end end s from (readings_show c side shown) le)

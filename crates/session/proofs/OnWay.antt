@@ -1,9 +1,8 @@
 -- Where a machine stands that went ahead, and once what it did there is settled.
-use Rattle.std.proofs.Common.{ℕ, zero, suc, ◌≡◌, ◌+◌, ◌<◌, ◌≤◌, inl, inr, refl, sym, ◌∙◌, ap, subst, arith, List, [], ◌∷◌, ◌++◌, append-nil, length, take}
+use Rattle.std.proofs.Common.{ℕ, ◌≡◌, ◌+◌, ◌≤◌, min, inl, inr, refl, sym, ◌∙◌, ap, subst, arith, List, [], ◌++◌, append-nil, length, take}
 use Rattle.std.proofs.Common.{Option, None, Some, MatchOption, IfSome, IfNone}
 use Rattle.std.proofs.lemmas.List.{take_all}
 use Rattle.beeb_bits.specs.declared.Side.TheVariants.{Para}
-use Rattle.tube_chip.specs.declared.Answer.{Answer}
 use Rattle.tube_chip.specs.Act.{Query, access}
 use Rattle.tube_chip.specs.Events.{Event}
 use Rattle.tube_trace.specs.declared.Entry.{Entry}
@@ -23,14 +22,15 @@ use Rattle.session.specs.CodeSight.{Sight, byte_answer, readings_seen, IsSeen}
 use Rattle.session.specs.CodeStation.{place, Station}
 use Rattle.session.specs.CodeLookahead.{MovedOn}
 use Rattle.session.specs.CodeObserved.{HasObserved, IsOver}
-use Rattle.session.specs.CodeWay.{way_of, Outset, outset, observed_past, IsReached, IsNoted, IsOnWay, IsSettled, IsNoEarlier, Trip, IsStillThere, IsOnTrip, HasGoneFurther}
+use Rattle.session.specs.CodeWay.{way_of, Outset, outset, observed_past, IsReached, IsOnWay, IsSettled, IsNoEarlier, Trip, IsStillThere, IsOnTrip, HasGoneFurther}
 use Rattle.tube_side.specs.CodeTrust.{HasTrusted, HasPassed}
-use Rattle.session.specs.declared.way.Checkpoint.{Checkpoint}
-use Rattle.session.proofs.Runs.{Then, append, rises}
-use Rattle.session.proofs.Kept.{noted_on, counted_on, still_kept}
+use Rattle.tube_party.proofs.Runs.{Steps, Over, Silent, Asking, steps_of, runs_of}
+use Rattle.session.proofs.Runs.{append, rises}
+use Rattle.tube_party.proofs.Ways.{still_kept}
+use Rattle.session.proofs.Kept.{noted_on, counted_on}
 use Rattle.session.proofs.Gone.{events_low, events_under}
 use Rattle.session.proofs.Observing.{none_late, below_limit, cut, watches, made, readings_show, seen_on}
-use Rattle.session.proofs.UnderWay.{here}
+use Rattle.session.proofs.UnderWay.{asks_there}
 
 -- what is observed makes a way
 pub is_way : {S : Type 0} {m : Moves S} (lawful : IsLawful m) (n : ℕ) (from : Outset S) → IsWay (way_of m n from)
@@ -42,6 +42,11 @@ is_way {m} lawful n from =
       watches = λ c t is. watches lawful Para v c t n from.state (m.due from.state) (readings_show c Para is) (omega arith);
     }
 
+pub one_reached : (n : ℕ) (ask : Ask) (t u : ℕ) → IsReached n ask t → IsReached n ask u → t ≡ u
+one_reached n Nothing t u a b = omega arith
+one_reached n (Access v op) t u a b = omega arith
+one_reached n (Look v) t u a b = omega arith
+
 module _ {S : Type 0} {m : Moves S} (lawful : IsLawful m) (n : ℕ) (from : Outset S) where
   abbrev sight : Sight
   sight = readings_seen from.at.mark.readings
@@ -51,7 +56,7 @@ module _ {S : Type 0} {m : Moves S} (lawful : IsLawful m) (n : ℕ) (from : Outs
       → HasObserved m Para n from.at.mark.readings far x.at.state x.log ask2 y.at.state y.log → IsOnWay m n from ask2 y
   goes_both {x = x} y w stood h =
       let events = h.events in
-      let all = append m Para n w.last h.last events w.steps from.state w.events w.runs (h.steps, subst (λ z. Runs m Para n h.steps z (course events h.last)) stood h.runs) in
+      let all = append m Para n w.steps w.events w.runs (h.steps, rw stood at h.runs) in
       let len = from.at.log.len in
       let l0 = take len x.log.list.items in
       let keep = x.log.keep in
@@ -71,7 +76,7 @@ module _ {S : Type 0} {m : Moves S} (lawful : IsLawful m) (n : ℕ) (from : Outs
         noted = record {
           kept = omega arith;
           list_is =
-              noted.list_is ∙ ap (λ (l : List Entry). note_all_leaves keep l (accesses events)) old.list_is
+              noted.list_is ∙ ap (λ l. note_all_leaves keep l (accesses events)) old.list_is
               ∙ noted_on keep w.events events l0
               ∙ (λ i. note_all_leaves (sym noted.keep_is i) (sym same i) (accesses (w.events ++ events)));
           count_is = noted.count_is ∙ ap (λ z. z + length (accesses events)) old.count_is ∙ counted_on w.events events from.at.log.count;
@@ -115,43 +120,31 @@ module _ {S : Type 0} {m : Moves S} (lawful : IsLawful m) (n : ℕ) (from : Outs
 
   -- ---- how far it goes
 
-  reaches : (last s : S) (ask : Ask) (t : ℕ) → IsAsk m n last ask s → IsReached n ask t → (t ≤ m.due last) × (t ≤ n) × ((u : ℕ) → u < n → u < m.due last → u < t)
-  reaches last s Nothing t a r = omega arith
-  reaches last s (Access v op) t a r = omega arith
-  reaches last s (Look v) t a r = omega arith
-
-  -- what asks something at a tick, and what is asked after it
-  pub no_earlier : (ask ask2 : Ask) (last s : S) → ((t : ℕ) → IsReached n ask t → (t ≤ n) × (t ≤ m.due last)) → IsAsk m n last ask2 s → IsNoEarlier n ask ask2
-  no_earlier ask Nothing last s up asked t u a b = let x = (up t a).0 in omega arith
-  no_earlier ask (Access v op) last s up asked t u a b = let x = (up t a).1 in omega arith
-  no_earlier ask (Look v) last s up asked t u a b = let x = (up t a).1 in omega arith
-
-  pub no_earlier_self : (ask : Ask) → IsNoEarlier n ask ask
-  no_earlier_self Nothing t u a b = omega arith
-  no_earlier_self (Access v op) t u a b = omega arith
-  no_earlier_self (Look v) t u a b = omega arith
+  -- the tick of what is asked
+  pub reached_at : (ask : Ask) (last s : S) (t : ℕ) → IsAsk m n last ask s → IsReached n ask t → t ≡ min n (m.due last)
+  reached_at Nothing last s t a r = omega arith
+  reached_at (Access v op) last s t a r = omega arith
+  reached_at (Look v) last s t a r = omega arith
 
   -- from what is asked it goes on: what it observes more joins its way
   pub goes_on : {ask ask2 : Ask} {far : ℕ} {x : Station S} (y : Station S) {mark : S} → (ask ≡ Nothing → ⊥) → IsOnWay m n from ask x
       → HasObserved m Para n from.at.mark.readings far x.at.state x.log ask2 y.at.state y.log → mark ≡ from.state
       → HasGoneFurther m n ask (record { from = from; here = x }) ask2 (record { from = outset mark from.at; here = y })
   goes_on {ask} {ask2} {x} y some w h is =
-      let stood = here m n w.last x.at.state ask some w.asked in
+      let stood = (asks_there m n w.last x.at.state ask some w.asked).1 in
       let way = goes_both y w stood h in
       let up = (events_low lawful _ n _ _ h.events h.last h.runs).0 in
       let due = ap m.due stood in
-      let at_most : (t : ℕ) → IsReached n ask t → (t ≤ n) × (t ≤ m.due h.last) =
-      λ t at. let r = reaches _ _ _ t w.asked at in (omega arith) in
       record {
-        way = subst (λ s. IsOnWay m n (outset s from.at) ask2 y) (sym is) way;
-        further = no_earlier ask _ _ _ at_most h.asked;
+        way = rw is way;
+        further = λ t u a b. let was = reached_at ask _ _ t w.asked a in let now = reached_at ask2 _ _ u h.asked b in omega arith;
         from_is = is;
         log = still_there w.noted.kept h.noted;
       }
 
   -- it did not go on
   pub stays_here : (ask : Ask) (x : Trip S) → IsOnTrip m n ask x → HasGoneFurther m n ask x ask x
-  stays_here ask x way = record { way = way; further = no_earlier_self ask; from_is = refl; log = record { kept = refl; keep_is = refl } }
+  stays_here ask x way = record { way = way; further = λ t u a b. let same = one_reached n ask t u a b in omega arith; from_is = refl; log = record { kept = refl; keep_is = refl } }
 
   -- ---- settled
 
@@ -163,44 +156,29 @@ module _ {S : Type 0} {m : Moves S} (lawful : IsLawful m) (n : ℕ) (from : Outs
       record {
         steps = w.steps;
         last = w.last;
-        runs = subst (λ l. Runs m Para n w.steps from.state (course l w.last)) same w.runs;
+        runs = rw same at w.runs;
         asked = w.asked;
         late = late;
-        noted = subst (λ l. IsNoted from.at.log l y.log) same w.noted;
+        noted = rw same at w.noted;
       }
 
   pub stands : {t a : ℕ} {ask : Ask} {y : Station S} → a ≡ t → t ≤ n → IsReached n ask t → IsOnWay m n from ask y → IsSettled m n from a ask y
   stands {t} {ask = ask} {y = y} is le at w =
-      let r = reaches w.last y.at.state ask t w.asked at in
+      let e = reached_at ask _ _ t w.asked at in
       let low = (events_low lawful Para n w.steps from.state w.events w.last w.runs).1 in
       let under = events_under lawful Para n w.steps from.state w.events w.last w.runs in
-      subst (λ x. IsSettled m n from x ask y) (sym is) (settled_by t w r.0 (λ i d lt. r.2 _ (under i d lt) (low i d lt)) le)
+      rw is (settled_by t w (omega arith) (λ i d lt. let a = under i d lt in let b = low i d lt in omega arith) le)
 
   module _ (two : S) (q : Query) (asks : m.asks two ≡ Some q) (none : sight q ≡ None) where
-    stuck : (k : ℕ) (s last : S) (events : List Event) (o : Option Query) → o ≡ Some q → Then m Para n k s events last o → IsSeen sight events → ⊥
-    stuck k s last events None is h seen = absurd (cc)
-    stuck k s last [] (Some x) is h seen = absurd h
-    stuck k s last (e ∷ rest) (Some x) is h seen =
-        let same : x ≡ q = cc in
-        let sees : (let o : Option Answer = None in o) ≡ Some e.answer = sym none ∙ ap sight (sym (h.2 ∙ same)) ∙ seen.0 in
-        absurd (cc)
-
-    both_by : (j k : ℕ) (s one : S) (es fs : List Event) (o : Option Query)
-        → ((u : S) (a b : List Event) → Runs m Para n j u (course a one) → IsSeen sight a → Runs m Para n k u (course b two) → IsSeen sight b → m.due one ≤ m.due two)
-        → Then m Para n j s es one o → IsSeen sight es → Then m Para n k s fs two o → IsSeen sight fs → m.due one ≤ m.due two
-    both_by j k s one es fs None on a sa b sb = on (m.next s None) es fs a sa b sb
-    both_by j k s one [] fs (Some x) on a sa b sb = absurd a
-    both_by j k s one (e ∷ es) [] (Some x) on a sa b sb = absurd b
-    both_by j k s one (e ∷ es) (f ∷ fs) (Some x) on a sa b sb =
-        let sees : (let o : Option Answer = Some e.answer in o) ≡ Some f.answer = sym sa.0 ∙ ap sight (a.2 ∙ sym b.2) ∙ sb.0 in
-        let same : e.answer ≡ f.answer = cc in
-        on (m.next s (Some e.answer)) es fs a.3 sa.1 (subst (λ z. Runs m Para n k (m.next s (Some z)) (course fs two)) (sym same) b.3) sb.1
-
     -- a run that ends at a query that is not answered ends no earlier than another from the same place
-    pub same_way : (j k : ℕ) (s one : S) (es fs : List Event) → Runs m Para n j s (course es one) → IsSeen sight es → Runs m Para n k s (course fs two) → IsSeen sight fs → m.due one ≤ m.due two
-    same_way zero k s one es fs a sa b sb = let e : m.due s ≡ m.due one = ap m.due a.1 in let r = rises lawful _ n k s fs two b in omega arith
-    same_way (suc j) zero s one es fs a sa b sb = absurd (stuck j s _ _ _ (ap m.asks b.1 ∙ asks) a.1 sa)
-    same_way (suc j) (suc k) s one es fs a sa b sb = both_by j k s _ _ _ _ (λ u c d x sx y sy. same_way j k u one c d x sx y sy) a.1 sa b.1 sb
+    same_way : {one s : S} {es fs : List Event} → Steps m Para n one s es → IsSeen sight es → Steps m Para n two s fs → IsSeen sight fs → m.due one ≤ m.due two
+    same_way Over sa b sb = let runs = runs_of m Para n b in rises lawful Para n runs.0 _ _ two runs.1
+    same_way (Silent low is on) sa Over sb = cc
+    same_way (Silent low is on) sa (Silent low2 is2 on2) sb = same_way on sa on2 sb
+    same_way (Silent low is on) sa (Asking y b low2 is2 on2) sb = cc
+    same_way (Asking x a low is on) sa Over sb = cc
+    same_way (Asking x a low is on) sa (Silent low2 is2 on2) sb = cc
+    same_way (Asking x a low is on) sa (Asking y b low2 is2 on2) sb = let same : b ≡ a = cc in same_way on sa.1 (rw same at on2) sb.1
 
   -- it went anew, as far as it observes anything below a tick that it reached before
   pub went_anew : (t : ℕ) {a : ℕ} {ask ask2 : Ask} {x : Station S} (y : Station S) {log : Log} → a ≤ t → t ≤ n → IsReached n ask t → IsOnWay m n from ask x
@@ -215,8 +193,9 @@ module _ {S : Type 0} {m : Moves S} (lawful : IsLawful m) (n : ℕ) (from : Outs
       late w Nothing h over = let b = h.0 in omega arith
       late w (Access u op) h (inl after) = let b = h.0 in omega arith
       late w (Access u op) h (inr none) =
-          let far = (reaches first.last x.at.state ask t first.asked at).0 in
-          let r = same_way w.last (access op) h.2 (ap byte_answer none) first.steps w.steps from.state first.last first.events w.events first.runs first.seen w.runs w.seen in
+          let far = reached_at ask _ _ t first.asked at in
+          let r = same_way w.last (access op) h.2 (ap byte_answer none)
+          (steps_of m Para n first.steps first.runs) first.seen (steps_of m Para n w.steps w.runs) w.seen in
           omega arith
       late w (Look u) h over = omega arith
 
@@ -230,7 +209,7 @@ went {S} m lawful {n} {from} x {y} {q} side at list keep count passed under same
     let new = observed_past m n from q.known.trust in
     let all : all_events q ≡ all_events p ++ new = (λ i. passed.events i ++ told.ahead i) ∙ append-nil (all_events p ++ new) in
     let up = (events_low lawful _ n _ _ new back.last back.runs).0 in
-    let runs : Runs m p.side n back.steps from.state (course new back.last) = subst (λ z. Runs m z n back.steps from.state (course new back.last)) (sym side) back.runs in
+    let runs : Runs m p.side n back.steps from.state (course new back.last) = rw side back.runs in
     let horizon : own_horizon y.at.pass ≡ own_horizon q = ap own_horizon same in (
       record {
         added = new;
@@ -270,25 +249,12 @@ at_reached n Nothing = (n, refl)
 at_reached n (Access t op) = (t.0, refl)
 at_reached n (Look t) = (t.0, refl)
 
-pub one_reached : (n : ℕ) (ask : Ask) (t u : ℕ) → IsReached n ask t → IsReached n ask u → t ≡ u
-one_reached n Nothing t u a b = omega arith
-one_reached n (Access v op) t u a b = omega arith
-one_reached n (Look v) t u a b = omega arith
-
 pub no_earlier_on : (n : ℕ) (first mid last : Ask) → IsNoEarlier n first mid → IsNoEarlier n mid last → IsNoEarlier n first last
 no_earlier_on n first mid last f g t u at_t at_u =
     let at = at_reached n mid in
     let x = f t at.0 at_t at.1 in
     let y = g at.0 u at.1 at_u in
     omega arith
-
-pub reached_in : {S : Type 0} (m : Moves S) {n : ℕ} {from : Outset S} {ask : Ask} {y : Station S} (t : ℕ) → IsOnWay m n from ask y → IsReached n ask t → t ≤ n
-reached_in {S} m {n} {ask} {y} t w at = go ask w.asked at
-  where
-    go : (a : Ask) → IsAsk m n w.last a y.at.state → IsReached n a t → t ≤ n
-    go Nothing h r = omega arith
-    go (Access u op) h r = let b = h.1 in omega arith
-    go (Look u) h r = omega arith
 
 -- it does not matter what the pass knows
 pub at_pass : {S : Type 0} {m : Moves S} {n : ℕ} {from : Outset S} {ask : Ask} {x : Station S} (p : Carried) → IsOnWay m n from ask x → IsOnWay m n from ask (record x { at = place x.at.state p })
@@ -299,7 +265,7 @@ pub further_on : {S : Type 0} {m : Moves S} {n : ℕ} {first mid last : Ask} {x 
     → HasGoneFurther m n first x mid y → HasGoneFurther m n mid y last z
     → HasGoneFurther m n first x last (record z { here = record z.here { at = place z.here.at.state p } })
 further_on {n} {first} {mid} {last} {y} {z} p is f g =
-    let log = subst (λ (at : Checkpoint). IsStillThere at.log y.here.log z.here.log) is g.log in
+    let log = rw is at g.log in
     record {
       way = at_pass p g.way;
       further = no_earlier_on n first mid last f.further g.further;
@@ -308,12 +274,11 @@ further_on {n} {first} {mid} {last} {y} {z} p is f g =
     }
 
 -- what was told of it stands where it went further
-pub told_on : {w : Way} (n : ℕ) (first second : Ask) {t : ℕ} (u : ℕ) {p q r : Carried} → r ≡ q → IsReached n first t → IsReached n second u → IsNoEarlier n first second
-    → HasTrusted w t p q → HasTrusted w u p r
-told_on {w} n first second {t} u {p} same at_t at_u further told =
-    let le = further t u at_t at_u in
-    subst (λ x. HasTrusted w u p x) (sym same)
-    (record { cell = told.cell; side = told.side; ahead = told.ahead; far = omega arith; trust = omega arith; para = told.para; base = told.base; trusting = told.trusting })
+pub told_on : {S : Type 0} {m : Moves S} {n : ℕ} {first second : Ask} {x y : Trip S} {w : Way} {t u : ℕ} {p q r : Carried} → HasGoneFurther m n first x second y → r ≡ q
+    → IsReached n first t → IsReached n second u → HasTrusted w t p q → HasTrusted w u p r
+told_on {t = t} {u} gone same at_t at_u told =
+    let le = gone.further t u at_t at_u in
+    rw same (record { cell = told.cell; side = told.side; ahead = told.ahead; far = omega arith; trust = omega arith; para = told.para; base = told.base; trusting = told.trusting })
 
 -- back at the mark nothing was noted
 pub cut_back : {at : LogMark} {x y : Log} (z : Log) → at.len ≡ length x.list.items → at.count ≡ x.count → IsStillThere at x y

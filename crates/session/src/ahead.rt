@@ -10,8 +10,8 @@ ghost use Rattle.tube_side.specs.CodeWays.{IsWay};
 ghost use Rattle.session.specs.CodeWay.{way_of, outset};
 ghost use Rattle.session.specs.Work.{MayWork, HasWorked};
 
-use crate::half::{Half, next_tick, step};
-use crate::lookahead::go_on;
+use crate::half::{Half, next_tick, step_when_admitted};
+use crate::lookahead::advance_to_ask;
 use crate::stride::{Stride, Strides};
 use crate::way::{Checkpoint, reached, roll_back, set_out, strides_on};
 use beeb_bits::Tick;
@@ -41,7 +41,7 @@ pub fn drive_ahead<M: Rewinds, R: Wait>(
     let mut pause = Pause::new();
     let mut stride = Stride::new(strides);
     let mut is_published = false;
-    let mut ask = go_on(rt, cell, half, n);
+    let mut ask = advance_to_ask(rt, cell, half, n);
     for _ in rt.forever() {
         if ask == Ask::Nothing {
             finish(rt, cell, &mut half.pass, n);
@@ -53,9 +53,9 @@ pub fn drive_ahead<M: Rewinds, R: Wait>(
                 ask = next;
             }
             None => {
-                step(rt, cell, half, n, ask, is_published, &mut pause);
+                step_when_admitted(rt, cell, half, n, ask, is_published, &mut pause);
                 is_published = false;
-                ask = go_on(rt, cell, half, n);
+                ask = advance_to_ask(rt, cell, half, n);
             }
         }
     }

@@ -7,7 +7,7 @@ ghost use Rattle.session.specs.CodeStation.{station};
 ghost use Rattle.session.specs.CodeTurn.{Turned};
 ghost use Rattle.session.specs.Work.{MayWork, HasWorked};
 
-use crate::lookahead::go_on;
+use crate::lookahead::advance_to_ask;
 use beeb_bits::Tick;
 use std::sync::Wait;
 use tube_cell::{Pass, TubeCell};
@@ -32,10 +32,10 @@ pub fn drive<M: Party, R: Wait>(rt: &R, cell: &TubeCell, half: &mut Half<M>, n: 
     ensures paid { IsNearlyPaid half.old.pass half.new.pass }
 {
     let mut pause = Pause::new();
-    let mut ask = go_on(rt, cell, half, n);
+    let mut ask = advance_to_ask(rt, cell, half, n);
     while ask != Ask::Nothing {
-        step(rt, cell, half, n, ask, false, &mut pause);
-        ask = go_on(rt, cell, half, n);
+        step_when_admitted(rt, cell, half, n, ask, false, &mut pause);
+        ask = advance_to_ask(rt, cell, half, n);
     }
     finish(rt, cell, &mut half.pass, n);
 }
@@ -49,7 +49,7 @@ pub(crate) fn next_tick<M: Party>(machine: &M, n: Tick, ask: Ask) -> Tick
 }
 
 /// Does the step that asks, once the other side admits it. `is_published`: the pass has nothing unpublished.
-pub(crate) fn step<M: Party, R: Wait>(
+pub(crate) fn step_when_admitted<M: Party, R: Wait>(
     rt: &R,
     cell: &TubeCell,
     half: &mut Half<M>,

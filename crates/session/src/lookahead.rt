@@ -37,7 +37,12 @@ fn see_next<D: Deeds, M: Party, R: Wait>(
 
 /// Does the machine's steps that ask nothing, and the looks and the reads of status registers that the other side's bound admits, up to the first step
 /// that asks for more.
-pub(crate) fn go_on<M: Party, R: Wait>(rt: &R, cell: &TubeCell, half: &mut Half<M>, n: Tick) -> Ask
+pub(crate) fn advance_to_ask<M: Party, R: Wait>(
+    rt: &R,
+    cell: &TubeCell,
+    half: &mut Half<M>,
+    n: Tick,
+) -> Ask
     requires ticks { n.0 ≤ MOST }
     requires cell { half.old.pass.cell ≡ cell.now }
     requires none_trusted { half.old.pass.trusted ≡ [] }

@@ -20,37 +20,38 @@ use Rattle.tube_cell.proofs.Learns.{RunsOn, none_of}
 
 -- ---- events that run on
 
-runs_from : (s : Side) (t a from more : ℕ) (c : State) (es : List Event) (last : State) (end : ℕ) → Runs s t a from c es last end → more ≤ from → Runs s t a more c es last end
-runs_from s t a from more c [] last end h le = let x = h.1 in (h.0, omega arith)
-runs_from s t a from more c (e ∷ es) last end h le = (h.0, omega arith, h.2, h.3, h.4)
+past_last-tail : (e : Event) (es : List Event) → past_last es ≤ past_last (e ∷ es)
+past_last-tail e [] = omega arith
+past_last-tail e (f ∷ es) = omega arith
 
-pub runs_later : (s : Side) (t a from : ℕ) (c : State) (es : List Event) (last : State) (end more : ℕ) → Runs s t a from c es last end → end ≤ more → Runs s t a from c es last more
-runs_later s t a from c [] last end more h le = (h.0, omega arith)
-runs_later s t a from c (e ∷ es) last end more h le = (h.0, h.1, h.2, h.3, runs_later s t (trust_past s c e a) (e.tick + 1) (chip_after_event c e) es last end more h.4 le)
+module _ (s : Side) (t : ℕ) (last : State) (end : ℕ) where
+  runs_from : (es : List Event) (a from : ℕ) (c : State) {more : ℕ} → Runs s t a from c es last end → more ≤ from → Runs s t a more c es last end
+  runs_from [] a from c h le = (h.0, omega arith)
+  runs_from (e ∷ es) a from c h le = (h.0, omega arith, h.2, h.3, h.4)
 
-runs_append : (s : Side) (t a from : ℕ) (c : State) (xs : List Event) (mid : State) (end : ℕ) (ys : List Event) (last : State) (stop : ℕ)
-    → Runs s t a from c xs mid end → Runs s t (trust_after s c a xs) end mid ys last stop
-    → Runs s t a from c (xs ++ ys) last stop
-runs_append s t a from c [] mid end ys last stop h k = runs_from s t a _ from c _ _ _ (subst (λ d. Runs s t a end d ys last stop) h.0 k) h.1
-runs_append s t a from c (x ∷ xs) mid end ys last stop h k = (h.0, h.1, h.2, h.3, runs_append s t (trust_past s c x a) (x.tick + 1) (chip_after_event c x) xs mid end ys last stop h.4 k)
+  pub runs_later : (es : List Event) (a from : ℕ) (c : State) {more : ℕ} → Runs s t a from c es last end → end ≤ more → Runs s t a from c es last more
+  runs_later [] a from c h le = (h.0, omega arith)
+  runs_later (e ∷ es) a from c h le = (h.0, h.1, h.2, h.3, runs_later es _ _ _ h.4 le)
 
-runs_local : (s : Side) (t a from : ℕ) (c : State) (es : List Event) (last : State) (end : ℕ) → Runs s t a from c es last end → last ≡ after_from c es
-runs_local s t a from c [] last end h = h.0
-runs_local s t a from c (e ∷ es) last end h = runs_local s t (trust_past s c e a) (e.tick + 1) (chip_after_event c e) es last end h.4
+  runs_append : (xs : List Event) (a from : ℕ) (c mid : State) (mid_end : ℕ) (ys : List Event) → Runs s t a from c xs mid mid_end
+      → Runs s t (trust_after s c a xs) mid_end mid ys last end → Runs s t a from c (xs ++ ys) last end
+  runs_append [] a from c mid mid_end ys h k = runs_from ys _ _ _ (rw h.0 at k) h.1
+  runs_append (x ∷ xs) a from c mid mid_end ys h k = (h.0, h.1, h.2, h.3, runs_append xs _ _ _ _ _ ys h.4 k)
 
-runs_grow : (s : Side) (t a from : ℕ) (c : State) (e : Event) (es : List Event) (last : State) (end : ℕ) → Runs s t a from c (e ∷ es) last end → e.tick + 1 ≤ past_last (e ∷ es)
-runs_grow s t a from c e [] last end h = omega arith
-runs_grow s t a from c e (f ∷ es) last end h =
-    let y = runs_grow s t (trust_past s c e a) (e.tick + 1) (chip_after_event c e) f es last end h.4 in
-    omega arith
+  runs_local : (es : List Event) (a from : ℕ) (c : State) → Runs s t a from c es last end → last ≡ after_from c es
+  runs_local [] a from c h = h.0
+  runs_local (e ∷ es) a from c h = runs_local es _ _ _ h.4
 
-runs_tight : (s : Side) (t a from : ℕ) (c : State) (es : List Event) (last : State) (end : ℕ) → Runs s t a from c es last end → Runs s t a from c es last (horizon from es)
-runs_tight s t a from c [] last end h = (h.0, omega arith)
-runs_tight s t a from c (e ∷ []) last end h = (h.0, h.1, h.2, h.3, (h.4.0, omega arith))
-runs_tight s t a from c (e ∷ f ∷ es) last end h =
-    let y = runs_grow s t _ _ _ f es _ _ h.4 in
-    let r = runs_tight s t (trust_past s c e a) (e.tick + 1) (chip_after_event c e) (f ∷ es) last end h.4 in
-    (h.0, h.1, h.2, h.3, runs_later s t (trust_past s c e a) (e.tick + 1) (chip_after_event c e) (f ∷ es) last (horizon (e.tick + 1) (f ∷ es)) (horizon from (f ∷ es)) r (omega arith))
+  runs_grow : (es : List Event) (a : ℕ) (c : State) (e : Event) → Runs s t a (e.tick + 1) c es last end → e.tick + 1 ≤ past_last (e ∷ es)
+  runs_grow [] a c e h = omega arith
+  runs_grow (f ∷ es) a c e h = let y = runs_grow es _ _ f h.4 in omega arith
+
+  runs_tight : (es : List Event) (a from : ℕ) (c : State) {more : ℕ} → Runs s t a from c es last end → horizon from es ≤ more → Runs s t a from c es last more
+  runs_tight [] a from c h le = (h.0, omega arith)
+  runs_tight (e ∷ es) a from c h le =
+      let y = runs_grow es _ _ e h.4 in
+      let z = past_last-tail e es in
+      (h.0, h.1, h.2, h.3, runs_tight es _ _ _ h.4 (omega arith))
 
 past_last-more : (xs : List Event) (e : Event) (es : List Event) → past_last (xs ++ e ∷ es) ≡ past_last (e ∷ es)
 past_last-more [] e es = refl
@@ -70,17 +71,15 @@ RunsPast s k mine ahead here = Runs s (word_of_other s k) (trust_after s k.chip 
 -- they may join
 added_runs : (s : Side) (k : Known) (mine ahead : List Event) (here : State) (es : List Event) (last : State) (end : ℕ) → RunsOn s k mine ahead here
     → RunsPast s k mine ahead here es last end → RunsOn s k mine (ahead ++ es) last
-added_runs s k mine ahead here es last end on h = runs_append s _ _ _ _ _ _ _ _ _ _ on (go es h)
+added_runs s k mine ahead here es last end on h = runs_append _ _ _ _ ahead _ _ _ _ _ es on (go es h)
   where
     go : (es : List Event) → RunsPast s k mine ahead here es last end → RunsPast s k mine ahead here es last (horizon (own_bound s k) (mine ++ (ahead ++ es)))
     go [] h = let e = ap (λ l. past_last (mine ++ l)) (append-nil ahead) in (h.0, omega arith)
     go (e ∷ es) h =
-        let trust = trust_after s k.chip k.trust ahead in
-        let from = horizon (own_bound s k) (mine ++ ahead) in
-        let a = runs_grow s (word_of_other s k) trust from here e es last end h in
+        let a = runs_grow _ _ _ _ es _ _ e h.4 in
+        let z = past_last-tail e es in
         let b : past_last (mine ++ (ahead ++ e ∷ es)) ≡ past_last (e ∷ es) = ap past_last (sym (append_assoc mine ahead (e ∷ es))) ∙ past_last-more (mine ++ ahead) e es in
-        runs_later s (word_of_other s k) trust from here (e ∷ es) last (horizon from (e ∷ es)) (horizon (own_bound s k) (mine ++ (ahead ++ e ∷ es)))
-        (runs_tight s (word_of_other s k) trust from here (e ∷ es) last end h) (omega arith)
+        (h.0, h.1, h.2, h.3, runs_tight _ _ _ _ es _ _ _ h.4 (omega arith))
 
 pub pass_added : {s : Side} {words : List ℕ} {here last : State} (es : List Event) (end : ℕ) {v w : View} → IsPassOf s words here v → v.trusted ≡ [] → w ≡ added_view v es
     → RunsPast s v.known v.mine v.ahead here es last end → IsPassOf s words last w
@@ -103,9 +102,87 @@ trust_min Host old new t a cut = go (same_readings old new)
     go false = omega arith
 trust_min Para old new t a cut = refl
 
-pub here_of : {id : TableId} {s : Side} {words : List ℕ} {old : State} {p : Carried} {v : View} → carried_of id s v ≡ p → IsPassOf s words old v → old ≡ here p
-here_of {s} view is =
-    runs_local s _ _ _ _ _ _ _ is.runs ∙ ap here view
+-- the event of an access, as the view has it, and as the contract does
+abbrev pub act_of : ℕ → Side → Op → View → Event
+act_of t s op v = access_at t s op (after_from v.known.chip v.ahead)
+
+abbrev pub see_of : ℕ → Side → View → Event
+see_of t s v = lines_at t s (lines_of (after_from v.known.chip v.ahead))
+
+pub local_of : {s : Side} {words : List ℕ} {old : State} {v : View} → IsPassOf s words old v → old ≡ after_from v.known.chip v.ahead
+local_of {s} is = runs_local _ _ _ _ _ _ _ _ is.runs
+
+module _ (s : Side) (c : State) (end : ℕ) where
+  watch_trust : (a : ℕ) (es : List Event) (from : ℕ) → Watches s from c es end → trust_after s c a es ≡ a
+  watch_trust a [] from h = refl
+  watch_trust a (e ∷ es) from h =
+      let stays = observed_stays c e.side e.query h.1 in
+      (λ i. trust_after s (stays i) (trust_stays s e.tick a stays i) es) ∙ watch_trust a es _ h.5
+
+  watch_here : (es : List Event) (from : ℕ) → Watches s from c es end → after_from c es ≡ c
+  watch_here [] from h = refl
+  watch_here (e ∷ es) from h = ap (λ d. after_from d es) (observed_stays c e.side e.query h.1) ∙ watch_here es _ h.5
+
+  -- they run on, and end no later than they
+  watch_runs : (t a : ℕ) (es : List Event) (from : ℕ) → Watches s from c es end → end + slack s ≤ bound_at s t a + 1 → Runs s t a from c es c (max from end)
+  watch_runs t a [] from h le = (refl, omega arith)
+  watch_runs t a (e ∷ es) from h le =
+      let stays = observed_stays c e.side e.query h.1 in (
+        h.0,
+        h.2,
+        omega arith,
+        h.4,
+        subst (λ (y : State × ℕ). Runs s t y.1 (e.tick + 1) y.0 es c (max from end)) (λ i. (sym stays i, sym (trust_stays s e.tick a stays) i))
+            (runs_later s t c _ es a _ c (watch_runs t a es _ h.5 le) (omega arith)),
+      )
+
+module _ {id : TableId} {s : Side} {words : List ℕ} {old : State} {p : Carried} {v : View} (view : carried_of id s v ≡ p) (is : IsPassOf s words old v) where
+  local : old ≡ after_from v.known.chip v.ahead
+  local = local_of is
+
+  pub here_of : old ≡ here p
+  here_of = local ∙ ap here view
+
+  -- one event at the local chip
+  one_runs : (e : Event) → e.side ≡ s → own_horizon p ≤ e.tick → Admits p.side (bound_here p) e.tick → Answers old e
+      → RunsPast s v.known v.mine v.ahead old (e ∷ []) (chip_after_event old e) (e.tick + 1)
+  one_runs e side later admitted answers =
+      let later' : own_horizon (carried_of id s v) ≤ e.tick = subst (λ q. own_horizon q ≤ e.tick) (sym view) later in
+      let admitted' : Admits s (bound_here (carried_of id s v)) e.tick = subst (λ q. Admits q.side (bound_here q) e.tick) (sym view) admitted in
+      (side, later', admitted', answers, (refl, omega arith))
+
+  pub acted : {new : State} {w : View} (t : ℕ) (op : Op) → p.trusted ≡ [] → own_horizon p ≤ t → Admits p.side (bound_here p) t → new ≡ chip_after old s op
+      → w ≡ added_view v (act_of t s op v ∷ []) → IsPassOf s words new w
+  acted {w} t op trusted later admitted new_is w_is =
+      let e : Event = act_of t s op v in
+      let answers : Answers old e = ap (λ c. Byte (answer_of c s op)) local in
+      subst (λ c. IsPassOf s words c w) (sym new_is)
+      (pass_added _ _ is (none_of v view trusted) w_is (one_runs e refl later admitted answers))
+
+  pub saw : {w : View} (t : ℕ) → p.trusted ≡ [] → own_horizon p ≤ t → Admits p.side (bound_here p) t → w ≡ added_view v (see_of t s v ∷ []) → IsPassOf s words old w
+  saw t trusted later admitted w_is =
+      let e : Event = see_of t s v in
+      let answers : Answers old e = ap (λ c. Seen (lines_of c)) local in
+      pass_added _ _ is (none_of v view trusted) w_is (one_runs e refl later admitted answers)
+
+  watch_old : (es : List Event) (end : ℕ) → Watches p.side (own_horizon p) (here p) es end → Watches s (horizon (own_bound s v.known) (v.mine ++ v.ahead)) old es end
+  watch_old es end h =
+      subst (λ c. Watches s (horizon (own_bound s v.known) (v.mine ++ v.ahead)) c es end) (sym local)
+      (subst (λ q. Watches q.side (own_horizon q) (here q) es end) (sym view) h)
+
+  pub saw_all : {w : View} (es : List Event) (end : ℕ) → p.trusted ≡ [] → Watches p.side (own_horizon p) (here p) es end → end + slack p.side ≤ bound_here p + 1 → w ≡ added_view v es
+      → IsPassOf s words old w
+  saw_all es end trusted watches admitted w_is =
+      let admitted' : end + slack s ≤ bound_here (carried_of id s v) + 1 = subst (λ q. end + slack q.side ≤ bound_here q + 1) (sym view) admitted in
+      pass_added _ _ is (none_of v view trusted) w_is (watch_runs s _ _ _ _ es _ (watch_old _ _ watches) admitted')
+
+  pub saw_cut : {w : View} (es : List Event) (end cut : ℕ) → CutIs s cut v → Watches p.side (own_horizon p) (here p) es end → w ≡ added_view v es → CutIs s cut w
+  saw_cut es end cut cuts watches w_is =
+      subst (CutIs s cut) (sym w_is) (λ a lt.
+      trust_after_append s v.known.chip a v.ahead es
+      ∙ watch_trust s _ _ (trust_after s v.known.chip a v.ahead) es _
+      (rw local at (watch_old _ _ watches))
+      ∙ cuts a lt)
 
 -- the other's bound, as the code has it
 pub bound_is : {id : TableId} {s : Side} {p : Carried} (v : View) {bound known : ℕ} (cut : ℕ) {trust : ℕ} → carried_of id s v ≡ p → CutIs s cut v
@@ -119,22 +196,6 @@ bound_bare p none = ap (λ l. bound_at p.side (word_of_other p.side p.known) (tr
 pub is_added : {id id' : TableId} {s : Side} {p : Carried} {v w : View} (es : List Event) → carried_of id s v ≡ p → id' ≡ id → w ≡ added_view v es → carried_of id' s w ≡ after_add p es
 is_added {s} es view cell w_is = (λ i. carried_of (cell i) s (w_is i)) ∙ ap (λ q. after_add q es) view
 
--- one event at the local chip
-one_runs : {id : TableId} {s : Side} {words : List ℕ} {old : State} {p : Carried} {v : View} (e : Event) → carried_of id s v ≡ p
-    → IsPassOf s words old v → e.side ≡ s → own_horizon p ≤ e.tick → Admits p.side (bound_here p) e.tick → Answers old e
-    → RunsPast s v.known v.mine v.ahead old (e ∷ []) (chip_after_event old e) (e.tick + 1)
-one_runs {id} {s} {v} e view is side later admitted answers =
-    let later' : own_horizon (carried_of id s v) ≤ e.tick = subst (λ q. own_horizon q ≤ e.tick) (sym view) later in
-    let admitted' : Admits s (bound_here (carried_of id s v)) e.tick = subst (λ q. Admits q.side (bound_here q) e.tick) (sym view) admitted in
-    (side, later', admitted', answers, (refl, omega arith))
-
--- the event of an access, as the view has it, and as the contract does
-abbrev pub act_of : ℕ → Side → Op → View → Event
-act_of t s op v = access_at t s op (after_from v.known.chip v.ahead)
-
-abbrev pub see_of : ℕ → Side → View → Event
-see_of t s v = lines_at t s (lines_of (after_from v.known.chip v.ahead))
-
 pub is_acted : {id id' : TableId} {s : Side} {p : Carried} {v w : View} (t : ℕ) (op : Op) → carried_of id s v ≡ p → id' ≡ id
     → w ≡ added_view v (act_of t s op v ∷ []) → carried_of id' s w ≡ after_add p (access_at t p.side op (here p) ∷ [])
 is_acted {s} t op view cell w_is = (λ i. carried_of (cell i) s (w_is i)) ∙ ap (λ q. after_add q (access_at t q.side op (here q) ∷ [])) view
@@ -142,18 +203,6 @@ is_acted {s} t op view cell w_is = (λ i. carried_of (cell i) s (w_is i)) ∙ ap
 pub is_seen : {id id' : TableId} {s : Side} {p : Carried} {v w : View} (t : ℕ) → carried_of id s v ≡ p → id' ≡ id
     → w ≡ added_view v (see_of t s v ∷ []) → carried_of id' s w ≡ after_add p (lines_at t p.side (lines_of (here p)) ∷ [])
 is_seen {s} t view cell w_is = (λ i. carried_of (cell i) s (w_is i)) ∙ ap (λ q. after_add q (lines_at t q.side (lines_of (here q)) ∷ [])) view
-
-pub local_of : {s : Side} {words : List ℕ} {old : State} {v : View} → IsPassOf s words old v → old ≡ after_from v.known.chip v.ahead
-local_of {s} is = runs_local s _ _ _ _ _ _ _ is.runs
-
-pub acted : {id : TableId} {s : Side} {words : List ℕ} {old new : State} {p : Carried} {v w : View} (t : ℕ) (op : Op) → carried_of id s v ≡ p → IsPassOf s words old v → p.trusted ≡ []
-    → own_horizon p ≤ t → Admits p.side (bound_here p) t → new ≡ chip_after old s op → w ≡ added_view v (act_of t s op v ∷ []) → IsPassOf s words new w
-acted {s} {words} {old} {v} {w} t op view is trusted later admitted new_is w_is =
-    let here_is = local_of is in
-    let e : Event = act_of t s op v in
-    let answers : Answers old e = ap (λ c. Byte (answer_of c s op)) here_is in
-    subst (λ c. IsPassOf s words c w) (sym new_is)
-    (pass_added _ _ is (none_of v view trusted) w_is (one_runs e view is refl later admitted answers))
 
 pub acted_cut : {s : Side} {words : List ℕ} {before after : State} {v w : View} (t cut : ℕ) {next : ℕ} (op : Op) → IsPassOf s words before v → CutIs s cut v
     → after ≡ chip_after before s op → next ≡ trust_next s before after t cut → w ≡ added_view v (act_of t s op v ∷ []) → CutIs s next w
@@ -165,60 +214,6 @@ acted_cut {s} {v} t cut {next} op is cuts after_is next_is w_is =
     ∙ ap (λ x. trust_next s c (chip_after c s op) t x) (cuts a lt)
     ∙ trust_min s c (chip_after c s op) t a cut
     ∙ ap (λ x. min a x) (sym (next_is ∙ (λ i. trust_next s (local i) ((after_is ∙ ap (λ d. chip_after d s op) local) i) t cut))))
-
-pub saw : {id : TableId} {s : Side} {words : List ℕ} {old : State} {p : Carried} {v w : View} (t : ℕ) → carried_of id s v ≡ p → IsPassOf s words old v → p.trusted ≡ []
-    → own_horizon p ≤ t → Admits p.side (bound_here p) t → w ≡ added_view v (see_of t s v ∷ []) → IsPassOf s words old w
-saw {s} {old} {v} t view is trusted later admitted w_is =
-    let here_is = local_of is in
-    let e : Event = see_of t s v in
-    let answers : Answers old e = ap (λ c. Seen (lines_of c)) here_is in
-    pass_added _ _ is (none_of v view trusted) w_is (one_runs e view is refl later admitted answers)
-
-watch_trust : (s : Side) (from : ℕ) (c : State) (a : ℕ) (es : List Event) (end : ℕ) → Watches s from c es end → trust_after s c a es ≡ a
-watch_trust s from c a [] end h = refl
-watch_trust s from c a (e ∷ es) end h =
-    let stays = observed_stays c e.side e.query h.1 in
-    (λ i. trust_after s (stays i) (trust_stays s e.tick a stays i) es) ∙ watch_trust s (e.tick + 1) c a es end h.5
-
-watch_here : (s : Side) (from : ℕ) (c : State) (es : List Event) (end : ℕ) → Watches s from c es end → after_from c es ≡ c
-watch_here s from c [] end h = refl
-watch_here s from c (e ∷ es) end h = ap (λ d. after_from d es) (observed_stays c e.side e.query h.1) ∙ watch_here s (e.tick + 1) c es end h.5
-
--- they run on, and end no later than they
-watch_runs : (s : Side) (t a from : ℕ) (c : State) (es : List Event) (end : ℕ) → Watches s from c es end → end + slack s ≤ bound_at s t a + 1 → Runs s t a from c es c (max from end)
-watch_runs s t a from c [] end h le = (refl, omega arith)
-watch_runs s t a from c (e ∷ es) end h le =
-    let stays = observed_stays c e.side e.query h.1 in (
-      h.0,
-      h.2,
-      (omega arith),
-      h.4,
-      subst (λ (y : State × ℕ). Runs s t y.1 (e.tick + 1) y.0 es c (max from end)) (λ i. (sym stays i, sym (trust_stays s e.tick a stays) i))
-          (runs_later s t a _ c _ c (max (e.tick + 1) end) (max from end) (watch_runs s t a (e.tick + 1) c es end h.5 le) (omega arith)),
-    )
-
-watch_old : {id : TableId} {s : Side} {words : List ℕ} {old : State} {p : Carried} {v : View} (es : List Event) (end : ℕ) → carried_of id s v ≡ p
-    → IsPassOf s words old v → Watches p.side (own_horizon p) (here p) es end
-    → Watches s (horizon (own_bound s v.known) (v.mine ++ v.ahead)) old es end
-watch_old {s} {v} es end view is h =
-    subst (λ c. Watches s (horizon (own_bound s v.known) (v.mine ++ v.ahead)) c es end) (sym (local_of is))
-    (subst (λ q. Watches q.side (own_horizon q) (here q) es end) (sym view) h)
-
-pub saw_all : {id : TableId} {s : Side} {words : List ℕ} {old : State} {p : Carried} {v w : View} (es : List Event) (end : ℕ) → carried_of id s v ≡ p → IsPassOf s words old v → p.trusted ≡ []
-    → Watches p.side (own_horizon p) (here p) es end → end + slack p.side ≤ bound_here p + 1 → w ≡ added_view v es → IsPassOf s words old w
-saw_all {id} {s} {v} es end view is trusted watches admitted w_is =
-    let admitted' : end + slack s ≤ bound_here (carried_of id s v) + 1 = subst (λ q. end + slack q.side ≤ bound_here q + 1) (sym view) admitted in
-    pass_added _ _ is (none_of v view trusted) w_is (watch_runs s (word_of_other s v.known) (trust_after s v.known.chip v.known.trust v.ahead)
-    _ _ _ _ (watch_old _ _ view is watches) admitted')
-
-pub saw_cut : {id : TableId} {s : Side} {words : List ℕ} {old : State} {p : Carried} {v w : View} (es : List Event) (end cut : ℕ) → carried_of id s v ≡ p → IsPassOf s words old v → CutIs s cut v
-    → Watches p.side (own_horizon p) (here p) es end → w ≡ added_view v es → CutIs s cut w
-saw_cut {s} {v} es end cut view is cuts watches w_is =
-    subst (CutIs s cut) (sym w_is) (λ a lt.
-    trust_after_append s v.known.chip a v.ahead es
-    ∙ watch_trust s _ _ (trust_after s v.known.chip a v.ahead) _ _
-    (subst (λ c. Watches s (horizon (own_bound s v.known) (v.mine ++ v.ahead)) c es end) (local_of is) (watch_old _ _ view is watches))
-    ∙ cuts a lt)
 
 pub saw_one_cut : (s : Side) (cut t : ℕ) (v : View) {w : View} → CutIs s cut v → w ≡ added_view v (see_of t s v ∷ []) → CutIs s cut w
 saw_one_cut s cut t v cuts w_is =
@@ -232,13 +227,13 @@ after_append c [] ys = refl
 after_append c (x ∷ xs) ys = after_append (chip_after_event c x) xs ys
 
 pub here_watched : (p : Carried) {q : Carried} (es : List Event) (end : ℕ) → Watches p.side (own_horizon p) (here p) es end → q ≡ after_add p es → here q ≡ here p
-here_watched p es end watches is = ap here is ∙ after_append p.known.chip p.ahead es ∙ watch_here _ _ _ _ _ watches
+here_watched p es end watches is = ap here is ∙ after_append p.known.chip p.ahead es ∙ watch_here _ _ _ es _ watches
 
 pub bound_watched : (p : Carried) {q : Carried} (es : List Event) (end : ℕ) → Watches p.side (own_horizon p) (here p) es end → q ≡ after_add p es → bound_here q ≡ bound_here p
 bound_watched p es end watches is =
     ap bound_here is
     ∙ ap (λ t. bound_at p.side (word_of_other p.side p.known) t)
-    (trust_after_append p.side p.known.chip p.known.trust p.ahead es ∙ watch_trust _ _ _ (trust_here p) _ _ watches)
+    (trust_after_append p.side p.known.chip p.known.trust p.ahead es ∙ watch_trust _ _ _ (trust_here p) es _ watches)
 
 pub horizon_past : (p : Carried) {q : Carried} (es : List Event) → q ≡ after_add p es → (t : ℕ) → own_horizon p ≤ t → AllBelow t es → own_horizon q ≤ t
 horizon_past p es is t le low =

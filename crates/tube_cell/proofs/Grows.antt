@@ -48,7 +48,8 @@ climbs_below n t (x ∷ xs) h = elim (nat_lt x.tick t) as (λ b. Climbs n (cond 
 
 -- ---- the host's event
 
-after_end : {c : State} (k : Known) (host para : List Event) {list : List Event} (e : Event) → k.chip ≡ after (merge host para) → list ≡ merge host para ++ e ∷ [] → c ≡ chip_after_event k.chip e → c ≡ after list
+after_end : {c : State} (k : Known) (host para : List Event) {list : List Event} (e : Event) → k.chip ≡ after (merge host para) → list ≡ merge host para ++ e ∷ []
+    → c ≡ chip_after_event k.chip e → c ≡ after list
 after_end k host para e chip is now = now ∙ ap (λ d. chip_after_event d e) chip ∙ sym (after-on _ (merge host para) e) ∙ sym (ap after is)
 
 host_fine : {k : Known} (n : Known) {host : List Event} (e : Event) → HostFine k host → e.side ≡ Host → past_last host ≤ e.tick → k.host ≤ n.host
@@ -93,33 +94,32 @@ early_of t fine le i d lt a = let h = (fine.changes i d lt a).1 in omega arith
 abbrev pub host_next : Known → Event → ℕ → ℕ → Known
 host_next k e m trust = record { chip = chip_after_event k.chip e; host = m; para = k.para; trust = trust }
 
--- an event of the host that shows the parasite the same as before
-pub good_calm : {k : Known} {host para : List Event} (e : Event) (m : ℕ) → Good k host para → e.side ≡ Host → k.host ≤ e.tick
-    → past_last host ≤ e.tick → e.tick ≤ own_bound Para k → Answers k.chip e → k.host ≤ m
-    → (is_access e.query ≡ true → e.tick < m) → ShowsSame k.chip (chip_after_event k.chip e) → Good (host_next k e m k.trust) (host ++ e ∷ []) para
-good_calm {k} {host} {para} e m good is from late admitted answers up low same =
-    let r = legal_placed host para e is (low_of e.tick host good.host_fine.climbs late) good.para_fine.sided (early_of e.tick good.para_fine from) good.legal
-    (subst (λ d. Answers d e) good.chip_is answers) (subst (λ d. ShowsSame d (chip_after_event d e)) good.chip_is same) in
-    record {
-      chip_is = ap (λ d. chip_after_event d e) good.chip_is ∙ sym r.1;
-      legal = r.0;
-      host_fine = host_fine (host_next k e m k.trust) e good.host_fine is late up low admitted (λ t le h. h);
-      para_fine = para_kept (host_next k e m k.trust) good.para_fine (omega arith) up (omega arith);
-    }
+-- an event of the host
+module _ {k : Known} {host para : List Event} (e : Event) (good : Good k host para) (is : e.side ≡ Host) (from : k.host ≤ e.tick) (late : past_last host ≤ e.tick)
+    (admitted : e.tick ≤ own_bound Para k) (answers : Answers k.chip e) where
+  -- one that shows the parasite the same as before
+  pub good_calm : (m : ℕ) → k.host ≤ m → (is_access e.query ≡ true → e.tick < m) → ShowsSame k.chip (chip_after_event k.chip e) → Good (host_next k e m k.trust) (host ++ e ∷ []) para
+  good_calm m up low same =
+      let r = legal_placed host para e is (low_of e.tick host good.host_fine.climbs late) good.para_fine.sided (early_of e.tick good.para_fine from) good.legal
+      (rw good.chip_is at answers) (rw good.chip_is at same) in
+      record {
+        chip_is = ap (λ d. chip_after_event d e) good.chip_is ∙ sym r.1;
+        legal = r.0;
+        host_fine = host_fine (host_next k e m k.trust) e good.host_fine is late up low admitted (λ t le h. h);
+        para_fine = para_kept (host_next k e m k.trust) good.para_fine (omega arith) up (omega arith);
+      }
 
--- one that may not: what is on trust from its tick on goes
-pub good_cut : {k : Known} {host para : List Event} (e : Event) (m : ℕ) → Good k host para → e.side ≡ Host → k.host ≤ e.tick → past_last host ≤ e.tick
-    → e.tick ≤ own_bound Para k → Answers k.chip e → e.tick < m
-    → Good (host_next k e m (min k.trust e.tick)) (host ++ e ∷ []) (below e.tick para)
-good_cut {k} {host} {para} e m good is from late admitted answers low =
-    let n = host_next k e m (min k.trust e.tick) in
-    let r = legal_cut host para e (low_of e.tick host good.host_fine.climbs late) (early_of e.tick good.para_fine from) good.legal (subst (λ d. Answers d e) good.chip_is answers) in
-    record {
-      chip_is = ap (λ d. chip_after_event d e) good.chip_is ∙ sym r.1;
-      legal = r.0;
-      host_fine = host_fine n e good.host_fine is late (omega arith) (λ a. low) (omega arith) (λ t le h. omega arith);
-      para_fine = para_cut n e.tick good.para_fine (omega arith) (omega arith) low refl;
-    }
+  -- one that may not: what is on trust from its tick on goes
+  good_cut : (m : ℕ) → e.tick < m → Good (host_next k e m (min k.trust e.tick)) (host ++ e ∷ []) (below e.tick para)
+  good_cut m low =
+      let n = host_next k e m (min k.trust e.tick) in
+      let r = legal_cut host para e (low_of e.tick host good.host_fine.climbs late) (early_of e.tick good.para_fine from) good.legal (rw good.chip_is at answers) in
+      record {
+        chip_is = ap (λ d. chip_after_event d e) good.chip_is ∙ sym r.1;
+        legal = r.0;
+        host_fine = host_fine n e good.host_fine is late (omega arith) (λ a. low) (omega arith) (λ t le h. omega arith);
+        para_fine = para_cut n e.tick good.para_fine (omega arith) (omega arith) low refl;
+      }
 
 -- ---- the parasite's event
 
@@ -152,7 +152,7 @@ good_para {k} {host} {para} e m a good is from late answers up trust_up low admi
     let fine = para_kept (para_next k e m a) good.para_fine up (omega arith) trust_up in
     record {
       chip_is = after_end k host para e good.chip_is joined refl;
-      legal = subst IsLegal (sym joined) (legal_end host para e first second good.legal (subst (λ d. Answers d e) good.chip_is answers));
+      legal = subst IsLegal (sym joined) (legal_end host para e first second good.legal (rw good.chip_is at answers));
       host_fine = record {
         sided = good.host_fine.sided;
         below_own = good.host_fine.below_own;
@@ -213,7 +213,7 @@ host_event {k} {host} {para} e good is from late admitted answers =
     → HostStep k (host_next k e (e.tick + 1) (cond b k.trust (min k.trust e.tick))) host para (host ++ e ∷ [])) [
       | true ↦ λ h. record {
         rest = para;
-        good = good_calm e (e.tick + 1) good is from late admitted answers (omega arith) (λ a. omega arith) (readings_from k.chip (chip_after_event k.chip e) h);
+        good = good_calm e good is from late admitted answers (e.tick + 1) (omega arith) (λ a. omega arith) (readings_from k.chip (chip_after_event k.chip e) h);
         para_word = refl;
         host_up = omega arith;
         trust = inl refl;
@@ -221,7 +221,7 @@ host_event {k} {host} {para} e good is from late admitted answers =
       }
       | false ↦ λ h. record {
         rest = below e.tick para;
-        good = good_cut e (e.tick + 1) good is from late admitted answers (omega arith);
+        good = good_cut e good is from late admitted answers (e.tick + 1) (omega arith);
         para_word = refl;
         host_up = omega arith;
         trust = taken_back k.host k.trust e.tick (e.tick + 1) from (omega arith);
@@ -270,7 +270,7 @@ host_runs (e ∷ es) {k} {host} {para} from last end good le late h =
     let m : Known = host_next k e (e.tick + 1) (trust_past Host k.chip e k.trust) in
     let on = past_last-on host e in
     let a = host_event e good h.0 (omega arith) (omega arith) (omega arith) h.3 in
-    let b = host_runs es (e.tick + 1) last end a.good (omega arith) (omega arith) h.4 in
+    let b = host_runs es _ last end a.good (omega arith) (omega arith) h.4 in
     subst (λ l. HostStep k (host_last k (e ∷ es) last end) host para l) (append_assoc host (e ∷ []) es)
     (host_then a b)
 
@@ -314,34 +314,34 @@ pub para_runs : (es : List Event) {k : Known} {host para : List Event} (from : �
     → Good (para_last k last end) host (para ++ es)
 para_runs [] {k} {host} {para} from last end good le late h =
     let f = h.1 in
-    subst (λ l. Good (para_last k last end) host l) (sym (append-nil para)) (good_raised (para_last k last end) good h.0 (omega arith) (omega arith) (omega arith))
+    rw (append-nil para) (good_raised (para_last k last end) good h.0 (omega arith) (omega arith) (omega arith))
 para_runs (e ∷ es) {k} {host} {para} from last end good le late h =
     let m : Known = para_next k e (e.tick + 1) k.trust in
     let on = past_last-on para e in
     let a = good_para e (e.tick + 1) k.trust good h.0 (omega arith) (omega arith) h.3 (omega arith) (omega arith) (λ is. omega arith)
     (λ is. omega arith) (λ is. (omega arith)) in
     subst (λ l. Good (para_last k last end) host l) (append_assoc para (e ∷ []) es)
-    (para_runs es (e.tick + 1) last end a (omega arith) (omega arith) h.4)
-
-pub para_low : (o a from : ℕ) (c : State) (es : List Event) (last : State) (end : ℕ) → Runs Para o a from c es last end → AllBelow o es
-para_low o a from c [] last end h = low_nil
-para_low o a from c (e ∷ es) last end h = low_cons e es (omega arith) (para_low o a (e.tick + 1) (chip_after_event c e) es last end h.4)
+    (para_runs es _ last end a (omega arith) (omega arith) h.4)
 
 pub para_idle : (o a from : ℕ) (c : State) (es : List Event) (last : State) (end : ℕ) → Runs Para o a from c es last end → o ≤ from → last ≡ c
 para_idle o a from c [] last end h le = h.0
 para_idle o a from c (e ∷ es) last end h le = absurd (omega arith)
 
-pub runs_end : (s : Side) (t a from : ℕ) (c : State) (es : List Event) (last : State) (end : ℕ) → Runs s t a from c es last end → from ≤ end
-runs_end s t a from c [] last end h = h.1
-runs_end s t a from c (e ∷ es) last end h =
-    let r = runs_end s t (trust_past s c e a) (e.tick + 1) (chip_after_event c e) es last end h.4 in
-    omega arith
+module _ (last : State) (end : ℕ) where
+  pub para_low : (o : ℕ) (es : List Event) (a from : ℕ) (c : State) → Runs Para o a from c es last end → AllBelow o es
+  para_low o [] a from c h = low_nil
+  para_low o (e ∷ es) a from c h = low_cons e es (omega arith) (para_low o es _ _ _ h.4)
 
-pub runs_low : (s : Side) (t a from : ℕ) (c : State) (es : List Event) (last : State) (end : ℕ) → Runs s t a from c es last end → AllBelow end es
-runs_low s t a from c [] last end h = low_nil
-runs_low s t a from c (e ∷ es) last end h =
-    let r = runs_end s t _ _ _ _ _ _ h.4 in
-    low_cons e es (omega arith) (runs_low s t (trust_past s c e a) (e.tick + 1) (chip_after_event c e) es last end h.4)
+  module _ (s : Side) (t : ℕ) where
+    pub runs_end : (es : List Event) (a from : ℕ) (c : State) → Runs s t a from c es last end → from ≤ end
+    runs_end [] a from c h = h.1
+    runs_end (e ∷ es) a from c h = let r = runs_end es _ _ _ h.4 in omega arith
+
+    pub runs_low : (es : List Event) (a from : ℕ) (c : State) → Runs s t a from c es last end → AllBelow end es
+    runs_low [] a from c h = low_nil
+    runs_low (e ∷ es) a from c h =
+        let r = runs_end es _ _ _ h.4 in
+        low_cons e es (omega arith) (runs_low es _ _ _ h.4)
 
 -- what the host's pass knows, once the parasite took its steps
 pub host_knows : {k : Known} (n : Known) {x : Known} → Knows Host k x → n.host ≡ k.host → k.para ≤ n.para → k.trust ≤ n.trust → (k.host ≤ own_bound Para k → n.chip ≡ k.chip) → Knows Host n x
@@ -356,9 +356,9 @@ host_knows n knows host para trust idle =
 
 -- ---- observations on trust
 
-pub watches_low : (s : Side) (from : ℕ) (c : State) (es : List Event) (end : ℕ) → Watches s from c es end → AllBelow end es
-watches_low s from c [] end h = low_nil
-watches_low s from c (e ∷ es) end h = low_cons e es h.3 (watches_low s (e.tick + 1) c es end h.5)
+pub watches_low : (s : Side) (end : ℕ) (c : State) (es : List Event) (from : ℕ) → Watches s from c es end → AllBelow end es
+watches_low s end c [] from h = low_nil
+watches_low s end c (e ∷ es) from h = low_cons e es h.3 (watches_low s end c es _ h.5)
 
 -- the words with this trust
 abbrev pub trusting : Known → ℕ → Known
@@ -367,19 +367,19 @@ trusting k t = record k { trust = t }
 no_change : (q : Query) → is_observation q ≡ true → is_observation q ≡ false → ⊥
 no_change q is not = true≢false (sym is ∙ not)
 
-pub watched : (es : List Event) {k : Known} {host para : List Event} (from end : ℕ) → Good k host para → own_bound Para k ≤ from → past_last para ≤ from → from ≤ end → Watches Para from k.chip es end
+pub watched : (es : List Event) {k : Known} {host para : List Event} {from end : ℕ} → Good k host para → own_bound Para k ≤ from → past_last para ≤ from → from ≤ end → Watches Para from k.chip es end
     → Good (trusting k end) host (para ++ es)
-watched [] {k} {host} {para} from end good le late stop h =
-    subst (λ l. Good (trusting k end) host l) (sym (append-nil para)) (good_raised (trusting k end) good refl (omega arith) (omega arith) (omega arith))
-watched (e ∷ es) {k} {host} {para} from end good le late stop h =
+watched [] {k} {host} {para} {end = end} good le late stop h =
+    rw (append-nil para) (good_raised (trusting k end) good refl (omega arith) (omega arith) (omega arith))
+watched (e ∷ es) {k} {host} {para} {end = end} good le late stop h =
     let l = h.3 in
     let t = e.tick + 1 in
     let on = past_last-on para e in
     let first = good_para e k.para t good h.0 (omega arith) (omega arith) h.4 (omega arith) (omega arith) (λ is. omega arith)
     (λ is. omega arith) (λ is. absurd (no_change e.query h.1 is)) in
     let stays = observed_stays k.chip e.side e.query h.1 in
-    let good' : Good (trusting k t) host (para ++ e ∷ []) = subst (λ c. Good (record k { chip = c; trust = t }) host (para ++ e ∷ [])) stays first in
-    subst (λ l. Good (trusting k end) host l) (append_assoc para (e ∷ []) es) (watched es t end good' (omega arith) (omega arith) (omega arith) h.5)
+    let good' : Good (trusting k t) host (para ++ e ∷ []) = rw stays at first in
+    rw (append_assoc para (e ∷ []) es) at (watched es good' (omega arith) (omega arith) (omega arith) h.5)
 
 past_low : (t : ℕ) (xs : List Event) → AllBelow t xs → past_last xs ≤ t
 past_low t [] all = omega arith

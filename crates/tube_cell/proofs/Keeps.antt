@@ -21,7 +21,7 @@ use Rattle.tube_cell.specs.Views.{other_bound, pick, known_with, slack, Admits, 
 use Rattle.tube_cell.specs.Rules.{Good, Knows, FitsAs, Kept, whole, spent_view, host_part, para_part, joined_view, GoesOn, firm, pending_events}
 use Rattle.tube_cell.specs.Rules.{found_view, Exchanged, published_view, Finds, Publishes, entrusted_view, Entrusts, told_view, PublishesAndEntrusts}
 use Rattle.tube_cell.specs.Rules.{added_view, look_at, looked_view, LooksAs, Looks, Ends}
-use Rattle.tube_cell.specs.Steps.{Runs, Watches, MayPublish, MayLook, MayEntrust, MayPublishAndEntrust}
+use Rattle.tube_cell.specs.Steps.{Runs, MayPublish, MayLook, MayEntrust, MayPublishAndEntrust}
 use Rattle.tube_cell.proofs.Observed.{shows_itself}
 use Rattle.tube_cell.proofs.Law.{below_lies}
 use Rattle.tube_cell.proofs.Grows.{host_last, host_runs, host_idle, para_knows, para_last, para_runs, para_low, para_idle, runs_end, runs_low}
@@ -101,47 +101,49 @@ at_again (x ∷ xs) (suc pass) v u at = at_again xs pass v u at
 after_set : (F : ℕ → View → Type 0) (views : List View) (pass : ℕ) (w : View) → ((j : ℕ) (u : View) → j ≢ pass → get_elem? views j ≡ some u → F j u) → F pass w
     → (j : ℕ) (u : View) → get_elem? (set views pass w) j ≡ some u → F j u
 after_set F views pass w rest mine j u e =
-    ⊎_elim (λ (x : (j ≡ pass) × (w ≡ u)). subst (λ (y : ℕ × View). F y.0 y.1) (λ i. (sym x.0 i, x.1 i)) mine)
+    ⊎_elim (λ (x : (j ≡ pass) × (w ≡ u)). rw (x.0, ← x.1) mine)
     (λ (x : (j ≢ pass) × (get_elem? views j ≡ some u)). rest j u x.0 x.1)
     (at_set views pass j w u e)
 
--- what holds of a pass while the rule stands so
-abbrev FitsIn : {words : List ℕ} {views : List View} → Kept words views → Role → ℕ → View → Type 0
-FitsIn k r j v = FitsAs k.known k.host k.para k.host_seat k.para_seat r j v
+-- while the rule stands so
+module _ {words : List ℕ} {views : List View} (k : Kept words views) where
+  -- what holds of a pass while the rule stands so
+  abbrev FitsIn : Role → ℕ → View → Type 0
+  FitsIn r j v = FitsAs k.known k.host k.para k.host_seat k.para_seat r j v
 
-fit_of : (s : Side) {words : List ℕ} {views : List View} (k : Kept words views) (j : ℕ) (v : View) → get_elem? views j ≡ some v → v.role ≡ one_side s
-    → FitsIn k (one_side s) j v
-fit_of s k j v at role = subst (λ r. FitsIn k r j v) role (k.each j v at)
+  fit_of : (s : Side) (j : ℕ) (v : View) → get_elem? views j ≡ some v → v.role ≡ one_side s
+      → FitsIn (one_side s) j v
+  fit_of s j v at role = subst (λ r. FitsIn r j v) role (k.each j v at)
 
-seat_of : (s : Side) {words : List ℕ} {views : List View} (k : Kept words views) (j : ℕ) (u : View) → FitsIn k (one_side s) j u → j ≡ pick s k.host_seat k.para_seat
-seat_of Host k j u f = f.0
-seat_of Para k j u f = f.0
+  seat_of : (s : Side) (j : ℕ) (u : View) → FitsIn (one_side s) j u → j ≡ pick s k.host_seat k.para_seat
+  seat_of Host j u f = f.0
+  seat_of Para j u f = f.0
 
-knows_of : (s : Side) {words : List ℕ} {views : List View} (k : Kept words views) (j : ℕ) (u : View) → FitsIn k (one_side s) j u → Knows s k.known u.known
-knows_of Host k j u f = f.3
-knows_of Para k j u f = f.3
+  knows_of : (s : Side) (j : ℕ) (u : View) → FitsIn (one_side s) j u → Knows s k.known u.known
+  knows_of Host j u f = f.3
+  knows_of Para j u f = f.3
 
--- the pass of a side takes a step to these words and lists
-kept_step : (s : Side) {words next : List ℕ} {views : List View} (k : Kept words views) (pass : ℕ) (v w : View) {n : Known} {a b : List Event}
-    → get_elem? views pass ≡ some v → v.role ≡ one_side s → next ≡ words_of n → IsChip n.chip → Good n a b
-    → ((j : ℕ) (u : View) → FitsIn k (one_side (flip s)) j u → FitsAs n a b k.host_seat k.para_seat (one_side (flip s)) j u)
-    → w.role ≡ one_side s → FitsAs n a b k.host_seat k.para_seat (one_side s) pass w
-    → Kept next (set views pass w)
-kept_step s {views} k pass v w {n} {a} {b} at role words_are well good keep role' fits =
-    let seat = seat_of s k pass v (fit_of s k pass v at role) in
-    record {
-      known = n;
-      host = a;
-      para = b;
-      host_seat = k.host_seat;
-      para_seat = k.para_seat;
-      words_are = words_are;
-      well = well;
-      good = good;
-      each = after_set (λ j u. FitsAs n a b k.host_seat k.para_seat u.role j u) views pass w
-          (λ j u apart e. others s k.known n k.host k.para a b k.host_seat k.para_seat _ _ j u (λ same. apart (same ∙ sym seat)) (keep j u) u.role (k.each j u e))
-          (subst (λ r. FitsAs n a b k.host_seat k.para_seat r pass w) (sym role') fits);
-    }
+  -- the pass of a side takes a step to these words and lists
+  kept_step : (s : Side) {next : List ℕ} (pass : ℕ) (v w : View) {n : Known} {a b : List Event}
+      → get_elem? views pass ≡ some v → v.role ≡ one_side s → next ≡ words_of n → IsChip n.chip → Good n a b
+      → ((j : ℕ) (u : View) → FitsIn (one_side (flip s)) j u → FitsAs n a b k.host_seat k.para_seat (one_side (flip s)) j u)
+      → w.role ≡ one_side s → FitsAs n a b k.host_seat k.para_seat (one_side s) pass w
+      → Kept next (set views pass w)
+  kept_step s pass v w {n} {a} {b} at role words_are well good keep role' fits =
+      let seat = seat_of s pass v (fit_of s pass v at role) in
+      record {
+        known = n;
+        host = a;
+        para = b;
+        host_seat = k.host_seat;
+        para_seat = k.para_seat;
+        words_are = words_are;
+        well = well;
+        good = good;
+        each = after_set (λ j u. FitsAs n a b k.host_seat k.para_seat u.role j u) views pass w
+            (λ j u apart e. others s k.known n k.host k.para a b k.host_seat k.para_seat _ _ j u (λ same. apart (same ∙ sym seat)) (keep j u) u.role (k.each j u e))
+            (subst (λ r. FitsAs n a b k.host_seat k.para_seat r pass w) (sym role') fits);
+      }
 
 -- ---- the words are found
 
@@ -179,13 +181,13 @@ fits_found Para k j v f =
 kept_found : (s : Side) {words : List ℕ} {views : List View} (k : Kept words views) (pass : ℕ) (v : View) → get_elem? views pass ≡ some v → v.role ≡ one_side s
     → Kept words (set views pass (found_view v k.known)) × Finds v words words (found_view v k.known)
 kept_found s k pass v at role =
-    let fit = fit_of s k pass v at role in (
-      kept_step s k _ v _ at role k.words_are k.well k.good (λ j u f. f) role (fits_found s k pass v fit),
+    let fit = fit_of k s pass v at role in (
+      kept_step k s _ v _ at role k.words_are k.well k.good (λ j u f. f) role (fits_found s k pass v fit),
       record {
         well = k.well;
         words_are = k.words_are;
         view_is = refl;
-        goes_on = subst (λ r. GoesOn r v.known k.known) (sym role) (goes_on (knows_of s k pass v fit));
+        goes_on = rw role (goes_on (knows_of k s pass v fit));
       },
     )
 
@@ -218,23 +220,22 @@ knows_with s {n} well is = subst (Knows s n) (sym is) (knows_all s n well)
 known_is : PackingIsOneToOne → (s : Side) {words : List ℕ} {views : List View} (k : Kept words views) (pass : ℕ) (v : View)
     → get_elem? views pass ≡ some v → v.role ≡ one_side s → words ≡ words_of v.known → v.known ≡ k.known
 known_is one s k pass v at role is =
-    let fit = fit_of s k pass v at role in
-    words-one one v.known k.known (knows_of s k pass v fit).well k.well (sym is ∙ k.words_are)
+    let fit = fit_of k s pass v at role in
+    words-one one v.known k.known (knows_of k s pass v fit).well k.well (sym is ∙ k.words_are)
 
 host_publishes : PackingIsOneToOne → (pass : ℕ) {v : View} {es : List Event} {last : State} {end : ℕ} {next : Known} → MayPublish Host es last end v → IsChip last
     → next ≡ known_with Host last end (word_of_other Host v.known) (trust_after Host v.known.chip v.known.trust es)
     → (words : List ℕ) (views : List View) (k : Kept words views) → get_elem? views pass ≡ some v → words ≡ words_of v.known
     → Kept (words_of next) (set views pass (published_view v es next))
 host_publishes one pass {v} {es} {last} {end} {next} may well with_is words views k at is =
-    let fit = fit_of Host k pass v at may.role in
+    let fit = fit_of k Host pass v at may.role in
     let same : v.known ≡ k.known = known_is one Host k pass v at may.role is in
     let n : Known = host_last k.known es last end in
-    let runs : Runs Host k.known.para k.known.trust (horizon k.known.host k.host) k.known.chip es last end =
-    subst (λ (y : Known × List Event). Runs Host y.0.para y.0.trust (horizon y.0.host y.1) y.0.chip es last end) (λ i. (same i, fit.1 i)) may.runs in
+    let runs = rw (same, fit.1) at may.runs in
     let next_is : next ≡ n = with_is ∙ ap (λ x. host_last x es last end) same in
-    let r = runs_end _ _ _ _ _ _ _ _ runs in
-    let step = host_runs _ _ _ _ k.good (omega arith) (omega arith) runs in
-    kept_step Host k _ v _ at may.role (ap words_of next_is) well step.good (λ j u f. (
+    let r = runs_end _ _ _ _ es _ _ _ runs in
+    let step = host_runs es _ _ _ k.good (omega arith) (omega arith) runs in
+    kept_step k Host _ v _ at may.role (ap words_of next_is) well step.good (λ j u f. (
       f.0,
       step.keeps u.mine u.trusted f.2 f.1,
       lower u.mine f.2 (omega arith),
@@ -247,17 +248,16 @@ para_publishes : PackingIsOneToOne → (pass : ℕ) {v : View} {es : List Event}
     → (words : List ℕ) (views : List View) (k : Kept words views) → get_elem? views pass ≡ some v → words ≡ words_of v.known
     → Kept (words_of next) (set views pass (published_view v es next))
 para_publishes one pass {v} {es} {last} {end} {next} may well with_is words views k at is =
-    let fit = fit_of Para k pass v at may.role in
+    let fit = fit_of k Para pass v at may.role in
     let same : v.known ≡ k.known = known_is one Para k pass v at may.role is in
     let n : Known = para_last k.known last end in
     let bare : v.mine ≡ k.para = sym (fit.1 ∙ ap (λ l. v.mine ++ below k.known.trust l) may.none_trusted ∙ append-nil v.mine) in
-    let runs : Runs Para k.known.host k.known.trust (horizon (own_bound Para k.known) k.para) k.known.chip es last end =
-    subst (λ (y : Known × List Event). Runs Para y.0.host y.0.trust (horizon (own_bound Para y.0) y.1) y.0.chip es last end) (λ i. (same i, bare i)) may.runs in
+    let runs = rw (same, bare) at may.runs in
     let next_is : next ≡ n =
     with_is ∙ ap (λ t. known_with Para last end (word_of_other Para v.known) t) (trust_after_para v.known.chip v.known.trust es) ∙ ap (λ x. para_last x last end) same in
-    let r = runs_end _ _ _ _ _ _ _ _ runs in
-    let good = para_runs _ _ _ _ k.good (omega arith) (omega arith) runs in
-    kept_step Para k _ v _ at may.role (ap words_of next_is) well good (λ j u f. (
+    let r = runs_end _ _ _ _ es _ _ _ runs in
+    let good = para_runs es _ _ _ k.good (omega arith) (omega arith) runs in
+    kept_step k Para _ v _ at may.role (ap words_of next_is) well good (λ j u f. (
       f.0,
       f.1,
       f.2,
@@ -267,7 +267,7 @@ para_publishes one pass {v} {es} {last} {end} {next} may well with_is words view
     may.role (
       fit.0,
       ap (λ l. l ++ es) (sym bare) ∙ sym (append-nil (v.mine ++ es)) ∙ ap (λ l. (v.mine ++ es) ++ below n.trust l) (sym may.none_trusted),
-      All-append (λ e. e.tick < k.known.host) v.mine es fit.2 (para_low _ _ _ _ _ _ _ runs),
+      All-append (λ e. e.tick < k.known.host) v.mine es fit.2 (para_low _ _ _ es _ _ _ runs),
       knows_with Para well next_is,
     )
 
@@ -283,21 +283,21 @@ entrusts_hit : PackingIsOneToOne → (pass : ℕ) {v : View} {es : List Event} {
     → (words : List ℕ) (views : List View) (k : Kept words views) → get_elem? views pass ≡ some v → words ≡ words_of v.known
     → Kept (words_of next) (set views pass (entrusted_view v es next))
 entrusts_hit one pass {v} {es} {end} {next} may with_is words views k at is =
-    let fit = fit_of Para k pass v at may.role in
+    let fit = fit_of k Para pass v at may.role in
     let same : v.known ≡ k.known = known_is one Para k pass v at may.role is in
     let n : Known = trusting k.known end in
     let next_is : next ≡ n = with_is ∙ ap (λ x. trusting x end) same in
     let from = horizon (own_bound Para k.known) v.mine in
-    let watches : Watches Para from k.known.chip es end = subst (λ x. Watches Para (horizon (own_bound Para x) v.mine) x.chip es end) same may.watches in
-    let low : AllBelow k.known.trust v.trusted = subst (λ x. AllBelow x.trust v.trusted) same may.trusted in
+    let watches = rw same at may.watches in
+    let low : AllBelow k.known.trust v.trusted = rw same at may.trusted in
     let para_is : k.para ≡ v.mine ++ v.trusted = fit.1 ∙ ap (λ l. v.mine ++ l) (below_same k.known.trust v.trusted low) in
     let past : past_last k.para ≤ from =
     let a = past_append k.known.trust v.mine v.trusted low in let b : past_last k.para ≡ past_last (v.mine ++ v.trusted) = ap past_last para_is in omega arith in
-    let stop : from ≤ end = subst (λ x. horizon (own_bound Para x) v.mine ≤ end) same may.later in
-    let good = watched _ _ _ k.good (omega arith) past stop watches in
+    let stop : from ≤ end = rw same at may.later in
+    let good = watched es k.good (omega arith) past stop watches in
     let low' : AllBelow end (v.trusted ++ es) =
-    All-append (λ e. e.tick < end) v.trusted es (lower v.trusted low (omega arith)) (watches_low _ _ _ _ _ watches) in
-    kept_step Para k _ v _ at may.role (ap words_of next_is) k.well good
+    All-append (λ e. e.tick < end) v.trusted es (lower v.trusted low (omega arith)) (watches_low _ _ _ es _ watches) in
+    kept_step k Para _ v _ at may.role (ap words_of next_is) k.well good
     (λ j u f. (f.0, f.1, f.2, host_knows n f.3 refl (omega arith) (omega arith) (λ le. refl)))
     may.role (
       fit.0,
@@ -324,13 +324,13 @@ both_hit one pass {v} {es} {seen} {last} {word} {end} {next} may well with_is wo
     let first : Kept (words_of mid) (set views pass u) = para_publishes one pass may.publish well mid_is words views k at is in
     let from = horizon (own_bound Para v.known) v.mine in
     let runs : Runs Para v.known.host v.known.trust from v.known.chip es last word = may.publish.runs in
-    let r = runs_end _ _ _ _ _ _ _ _ runs in
-    let past = past_append word v.mine es (runs_low _ _ _ _ _ _ _ _ runs) in
+    let r = runs_end _ _ _ _ es _ _ _ runs in
+    let past = past_append word v.mine es (runs_low _ _ _ _ es _ _ _ runs) in
     let may' : MayEntrust seen end u = record {
       role = may.publish.role;
       trusted = subst (AllBelow v.known.trust) (sym may.publish.none_trusted) low_nil;
       later = omega arith;
-      watches = let same : word ≡ horizon (own_bound Para mid) u.mine = omega arith in subst (λ n. Watches Para n last seen end) same may.watches;
+      watches = let same : word ≡ horizon (own_bound Para mid) u.mine = omega arith in rw same at may.watches;
     } in
     let second : Kept (words_of next) (set (set views pass u) pass (told_view v es seen next)) =
     entrusts_hit one pass may' with_is (words_of mid) (set views pass u) first (at_again views pass v u at) refl in
@@ -348,17 +348,17 @@ publishes_and_entrusts one pass {v} {es} {seen} {next} may well is =
 kept_looked : (s : Side) {words : List ℕ} {views : List View} (k : Kept words views) (pass : ℕ) {v : View} {t : ℕ} → get_elem? views pass ≡ some v → MayLook s t v → Admits s (other_bound s k.known) t
     → Kept words (set views pass (looked_view v t s k.known))
 kept_looked Host k pass {v} {t} at may admitted =
-    let fit = fit_of Host k pass v at may.role in
+    let fit = fit_of k Host pass v at may.role in
     let n = k.known in
     let word = fit.3.own_word in
     let later = may.later in
     let mine : past_last v.mine ≡ past_last k.host = ap past_last fit.1 in
-    let good = good_calm (look_at t Host n.chip) n.host k.good refl (omega arith) (omega arith) (omega arith) refl (omega arith)
+    let good = good_calm (look_at t Host n.chip) k.good refl (omega arith) (omega arith) (omega arith) refl n.host (omega arith)
     (λ a. absurd (true≢false (sym a))) (shows_itself n.chip) in
-    kept_step Host k _ v _ at may.role k.words_are k.well good (λ j u f. f) may.role
+    kept_step k Host _ v _ at may.role k.words_are k.well good (λ j u f. f) may.role
     (fit.0, ap (λ l. l ++ look_at t Host n.chip ∷ []) fit.1, ap (pending_events n) may.none_trusted, knows_all Host n k.well)
 kept_looked Para k pass {v} {t} at may admitted =
-    let fit = fit_of Para k pass v at may.role in
+    let fit = fit_of k Para pass v at may.role in
     let n = k.known in
     let fall = trusts_fall v.known n fit.3.trust in
     let bare : k.para ≡ v.mine = fit.1 ∙ ap (λ l. v.mine ++ below n.trust l) may.none_trusted ∙ append-nil v.mine in
@@ -366,7 +366,7 @@ kept_looked Para k pass {v} {t} at may admitted =
     let look : Event = look_at t Para n.chip in
     let good = good_para look n.para n.trust k.good refl (omega arith) (omega arith) refl (omega arith) (omega arith)
     (λ a. absurd (true≢false (sym a))) (λ a. absurd (true≢false (sym a))) (λ a. absurd (true≢false a)) in
-    kept_step Para k _ v _ at may.role k.words_are k.well good (λ j u f. f) may.role (
+    kept_step k Para _ v _ at may.role k.words_are k.well good (λ j u f. f) may.role (
       fit.0,
       ap (λ l. l ++ look ∷ []) bare ∙ sym (append-nil (v.mine ++ look ∷ [])) ∙ ap (λ l. (v.mine ++ look ∷ []) ++ below n.trust (pending_events n l)) (sym may.none_trusted),
       All-append (λ e. e.tick < n.host) v.mine (look ∷ []) fit.2 (low_cons look [] (omega arith) low_nil),
@@ -379,12 +379,12 @@ looks {s} pass {v} {t} may words views k at = go (admits s (other_bound s k.know
     told : (b : Bool) (w : View) → w.known ≡ k.known → admits s (other_bound s k.known) t ≡ b
         → MatchBool b (w ≡ looked_view v t s w.known) (w ≡ found_view v w.known) → Looks t v words words w
     told b w same e f =
-        let fit = fit_of s k pass v at may.role in
-        let on = goes_on (knows_of s k pass v fit) in
+        let fit = fit_of k s pass v at may.role in
+        let on = goes_on (knows_of k s pass v fit) in
         subst (λ r. LooksAs t r v words w) (sym may.role)
         (subst (λ x. IsChip x.chip × (words ≡ words_of x) × GoesOn (one_side s) v.known x
         × MatchBool (admits s (other_bound s x) t) (w ≡ looked_view v t s w.known) (w ≡ found_view v w.known)) (sym same)
-        (k.well, k.words_are, on, subst (λ b. MatchBool b (w ≡ looked_view v t s w.known) (w ≡ found_view v w.known)) (sym e) f))
+        (k.well, k.words_are, on, rw e f))
 
     go : (b : Bool) → admits s (other_bound s k.known) t ≡ b → (w : View) × Kept words (slice_set views pass w) × Looks t v words words w
     go true e = (
@@ -453,12 +453,12 @@ forked : {words : List ℕ} {views : List View} (k : Kept words views) (pass ps 
     → Kept words (set views pass w ++ given ∷ [])
 forked {views = views} k pass ps w given rest kept new = seated k (set views pass w ++ given ∷ []) ps (λ j u e. ⊎_elim
     (λ was. after_set (FitsWith k ps) views pass w (λ i x apart at. rest i x apart (k.each i x at)) kept j u was)
-    (λ (t : (j ≡ length (set views pass w)) × (given ≡ u)). subst (λ (y : ℕ × View). FitsWith k ps y.0 y.1) (λ i. (sym t.0 i, t.1 i)) new)
+    (λ (t : (j ≡ length (set views pass w)) × (given ≡ u)). rw (t.0, ← t.1) new)
     (at_snoc (set views pass w) given u j e))
 
 pub halves : (pass : ℕ) (v : View) → v.role ≡ undivided → Forks Kept pass v (host_part v) (para_part v)
 halves pass v role words views k at =
-    let f : FitsIn k undivided pass v = subst (λ r. FitsIn k r pass v) role (k.each pass v at) in
+    let f : FitsIn k undivided pass v = rw role at (k.each pass v at) in
     let seat = length (set views pass (host_part v)) in
     forked k pass seat (host_part v) (para_part v) (λ j u apart. unmoved k seat j u (λ same. apart (same ∙ sym f.1)))
     (f.0, f.2, f.4, subst (Knows Host k.known) (sym f.6) (knows_all Host k.known k.well)) (
@@ -471,15 +471,15 @@ halves pass v role words views k at =
 -- the parasite's view goes to a new pass
 pub parts : (pass : ℕ) (v : View) → v.role ≡ one_side Para → Forks Kept pass v spent_view v
 parts pass v role words views k at =
-    let f = fit_of Para k pass v at role in
+    let f = fit_of k Para pass v at role in
     let seat = length (set views pass spent_view) in
     forked k pass seat spent_view v (λ j u apart. unmoved k seat j u (λ same. apart (same ∙ sym f.0))) tt
-    (subst (λ r. FitsAs k.known k.host k.para k.host_seat seat r seat v) (sym role) (refl, f.1, f.2, f.3))
+    (rw role (refl, f.1, f.2, f.3))
 
 -- events join the unpublished ones of a pass
 pub adds : (s : Side) (pass : ℕ) (v : View) (es : List Event) → v.role ≡ one_side s → Forks Kept pass v (added_view v es) spent_view
 adds s pass v es role words views k at =
-    forked k pass k.para_seat (added_view v es) spent_view (λ j u apart f. f) (subst (λ r. FitsIn k r pass (added_view v es)) (sym role) (same s (fit_of s k pass v at role))) tt
+    forked k pass k.para_seat (added_view v es) spent_view (λ j u apart f. f) (subst (λ r. FitsIn k r pass (added_view v es)) (sym role) (same s (fit_of k s pass v at role))) tt
   where
     same : (s : Side) → FitsIn k (one_side s) pass v → FitsIn k (one_side s) pass (added_view v es)
     same Host f = f
@@ -491,8 +491,8 @@ merges pass v giver w host para none words views k at apart there =
     let taken = joined_view v w in
     let was : get_elem? views giver ≡ some w = ⊎_elim (λ (t : (giver ≡ pass) × (taken ≡ w)). absurd (apart t.0))
     (λ (t : (giver ≢ pass) × (get_elem? views giver ≡ some w)). t.1) (at_set views pass giver taken w there) in
-    let f = fit_of Host k pass v at host in
-    let g = fit_of Para k giver w was para in
+    let f = fit_of k Host pass v at host in
+    let g = fit_of k Para giver w was para in
     let joined : FitsWith k k.host_seat pass taken = (f.0, f.0, f.1, sym (g.1 ∙ ap (λ l. w.mine ++ below k.known.trust l) none ∙ append-nil w.mine)) in
     seated k (set (set views pass taken) giver spent_view) k.host_seat (after_set (FitsWith k k.host_seat) (set views pass taken) giver spent_view
     (λ j u off e. after_set (λ i x. i ≢ giver → FitsWith k k.host_seat i x) views pass taken
@@ -500,7 +500,7 @@ merges pass v giver w host para none words views k at apart there =
 
 pub ends : (pass : ℕ) (v : View) → v.role ≡ rejoined → Turns Kept pass v (λ x. x) Ends
 ends pass v role words views k at =
-    let f : FitsIn k rejoined pass v = subst (λ r. FitsIn k r pass v) role (k.each pass v at) in
+    let f : FitsIn k rejoined pass v = rw role at (k.each pass v at) in
     let lists : merge k.host k.para ≡ merge v.mine v.theirs = λ i. merge (sym f.2 i) (sym f.3 i) in (
       v,
       subst (Kept words) (sym (set_again views pass v at)) k,

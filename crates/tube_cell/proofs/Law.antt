@@ -8,7 +8,6 @@ use Rattle.beeb_bits.specs.Order.{before}
 use Rattle.beeb_bits.specs.declared.Side.{Side}
 use Rattle.beeb_bits.specs.declared.Side.TheVariants.{Host, Para}
 use Rattle.tube_chip.specs.State.{State, power_on}
-use Rattle.tube_chip.specs.Act.{act}
 use Rattle.tube_chip.specs.Events.{Event, IsBefore, Rises, RisesAfter, IsAnsweredFrom, IsLegal, after, after_from, merge, put_in}
 use Rattle.tube_cell.specs.Views.{AllBelow, past_last, below, is_observation, chip_after_event, Answers}
 use Rattle.tube_cell.proofs.Observed.{observed_stays, ShowsSame, same_answer}
@@ -219,9 +218,9 @@ answered_observations c d [] same all para h = tt
 answered_observations c d (x ∷ xs) same all para h =
     let is = All-head IsObservation x xs all in
     let stays : (e : State) → chip_after_event e x ≡ e = λ e. observed_stays e x.side x.query is in (
-      subst (λ s. (act d s x.query).1 ≡ (act c s x.query).1) (sym (All-head IsPara x xs para)) (same_answer c d x.query same is) ∙ h.0,
+      rw (All-head IsPara x xs para) (same_answer c d x.query same is) ∙ h.0,
       subst (λ e. IsAnsweredFrom e xs) (sym (stays d))
-          (answered_observations c d xs same (All-tail IsObservation x xs all) (All-tail IsPara x xs para) (subst (λ e. IsAnsweredFrom e xs) (stays c) h.1)),
+          (answered_observations c d xs same (All-tail IsObservation x xs all) (All-tail IsPara x xs para) (rw (stays c) at h.1)),
     )
 
 rises_of : (x : Event) (xs : List Event) → RisesAfter x xs → Rises xs
@@ -274,7 +273,7 @@ answered-placed c (x ∷ xs) e rises early behind all here same =
     (λ le. let seen = observations_from e.tick x xs rises le early in
     let para : All IsPara (x ∷ xs) = λ i d lt. behind i d lt (late_from e.tick x xs rises le i d lt) in
     let stays = after_observations c (x ∷ xs) seen in
-    (subst (λ d. Answers d e) stays here, answered_observations c (chip_after_event c e) (x ∷ xs) (subst (λ d. ShowsSame d (chip_after_event d e)) stays same) seen para all))
+    (rw stays at here, answered_observations c (chip_after_event c e) (x ∷ xs) (rw stays at same) seen para all))
 
 after-placed : (c : State) (xs : List Event) (e : Event) → Rises xs → All (Early e.tick) xs → after_from c (placed e xs) ≡ chip_after_event (after_from c xs) e
 after-placed c [] e rises early = refl
@@ -381,6 +380,6 @@ legal_cut xs ys e low early legal here =
     let same : after (below t all) ≡ after all = after-below t power_on all legal.rises early' in
     let precede = All-weaker (λ x. x.tick < t) (Precedes e) (precedes_below e) (below t all) (below_lies t all) in
     let short : IsLegal (below t all) = record { rises = rises-below t all legal.rises; answered = answered-below t power_on all legal.answered } in (
-      subst IsLegal (sym joined) (legal-on e short precede (subst (λ d. Answers d e) (sym same) here)),
+      subst IsLegal (sym joined) (legal-on e short precede (rw same here)),
       ap after joined ∙ after-on power_on (below t all) e ∙ ap (λ d. chip_after_event d e) same,
     )

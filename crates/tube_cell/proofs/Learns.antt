@@ -8,7 +8,7 @@ use Rattle.tube_chip.specs.State.{State}
 use Rattle.tube_chip.specs.Events.{Event}
 use Rattle.tube_chip.specs.Packing.{IsChip}
 use Rattle.tube_cell.specs.Views.{AllBelow, Known, words_of, one_side, View, word_of_other, own_bound, other_bound, bound_at, Admits, horizon, past_last}
-use Rattle.tube_cell.specs.Views.{below, chip_after_event, same_readings, trust_past, trust_after}
+use Rattle.tube_cell.specs.Views.{below, chip_after_event, same_readings, trust_after}
 use Rattle.tube_cell.specs.Rules.{Trusts, GoesOn, rise, firm, pending_events, Found}
 use Rattle.tube_cell.specs.Passes.{Carried, carried_of, Learns, own_horizon, here}
 use Rattle.tube_cell.specs.Steps.{Runs, IsPassOf, CutIs, Local, LocalAfter}
@@ -64,24 +64,20 @@ past_more : (b : Bool) (a c t : ℕ) → a ≤ c → cond b a (min a t) ≤ cond
 past_more true a c t le = le
 past_more false a c t le = omega arith
 
-host_more : (t u a b from : ℕ) (c : State) (es : List Event) (last : State) (end : ℕ) → Runs Host t a from c es last end → t ≤ u → a ≤ b → Runs Host u b from c es last end
-host_more t u a b from c [] last end h le more = h
-host_more t u a b from c (e ∷ es) last end h le more = (
-  h.0,
-  h.1,
-  (omega arith),
-  h.3,
-  host_more t u (trust_past Host c e a) (trust_past Host c e b) (e.tick + 1) (chip_after_event c e) es last end h.4 le (past_more (same_readings c (chip_after_event c e)) a b e.tick more),
-)
+module _ (t u : ℕ) (last : State) (end : ℕ) where
+  host_more : (es : List Event) (a b from : ℕ) (c : State) → Runs Host t a from c es last end → t ≤ u → a ≤ b → Runs Host u b from c es last end
+  host_more [] a b from c h le more = h
+  host_more (e ∷ es) a b from c h le more =
+      (h.0, h.1, omega arith, h.3, host_more es _ _ _ _ h.4 le (past_more (same_readings c (chip_after_event c e)) a b e.tick more))
 
-para_more : (t u a b from : ℕ) (c : State) (es : List Event) (last : State) (end : ℕ) → Runs Para t a from c es last end → t ≤ u → Runs Para u b from c es last end
-para_more t u a b from c [] last end h le = h
-para_more t u a b from c (e ∷ es) last end h le = (h.0, h.1, (omega arith), h.3, para_more t u a b (e.tick + 1) (chip_after_event c e) es last end h.4 le)
+  para_more : (es : List Event) (a b from : ℕ) (c : State) → Runs Para t a from c es last end → t ≤ u → Runs Para u b from c es last end
+  para_more [] a b from c h le = h
+  para_more (e ∷ es) a b from c h le = (h.0, h.1, omega arith, h.3, para_more es a b _ _ h.4 le)
 
 runs_on : (s : Side) (v k : Known) (from : ℕ) (c : State) (es : List Event) (last : State) (end : ℕ) → GoesOn (one_side s) v k
     → Runs s (word_of_other s v) v.trust from c es last end → Runs s (word_of_other s k) k.trust from c es last end
-runs_on Host v k from c es last end on h = host_more _ k.para _ k.trust _ c _ _ _ h on.1 on.2
-runs_on Para v k from c es last end on h = para_more _ k.host _ k.trust _ c _ _ _ h on.1
+runs_on Host v k from c es last end on h = host_more _ k.para _ _ es _ k.trust _ c h on.1 on.2
+runs_on Para v k from c es last end on h = para_more _ k.host _ _ es _ k.trust _ c h on.1
 
 -- where there are unpublished events, the known bound admits the own
 runs_admit : (s : Side) (m t a : ℕ) (mine : List Event) (c : State) (es : List Event) (last : State) (end : ℕ) → Runs s t a (horizon m mine) c es last end → es ≢ [] → Admits s (bound_at s t a) m
@@ -167,7 +163,7 @@ found_runs s v k mine trusted (e ∷ es) old new on local bare h =
     (runs_on s v k (horizon (own_bound s v) mine) v.chip (e ∷ es) old (horizon (own_bound s v) (mine ++ e ∷ es)) on h))
 
 pub on_of : (s : Side) (v : View) (k : Known) → v.role ≡ one_side s → GoesOn v.role v.known k → GoesOn (one_side s) v.known k
-on_of s v k role on = subst (λ r. GoesOn r v.known k) role on
+on_of s v k role on = rw role at on
 
 pass_found : {s : Side} {words found : List ℕ} {old : State} (new : State) {v w : View} → IsPassOf s words old v → Found found v w → Local v.known.chip old w.known.chip new → IsPassOf s found new w
 pass_found {s} new {v} {w} is f local =
@@ -179,7 +175,7 @@ pass_found {s} new {v} {w} is f local =
       well = f.well;
       words_are = f.words_are;
       trusted = subst (AllBelow k.trust) (sym (ap (λ u. u.trusted) w_is)) (pending_low s v.known k v.trusted on.2 is.trusted);
-      not_both = λ some. ap (λ u. u.trusted) w_is ∙ ap (pending_events k) (is.not_both (subst (λ l. l ≢ []) (ap (λ u. u.ahead) w_is) some));
+      not_both = λ some. ap (λ u. u.trusted) w_is ∙ ap (pending_events k) (is.not_both (rw (ap (λ u. u.ahead) w_is) at some));
       runs = subst (λ (y : List Event × List Event). RunsOn s k y.0 y.1 new) (λ i. ((sym w_is i).mine, (sym w_is i).ahead))
           (found_runs s _ k v.mine v.trusted _ _ new on local is.not_both is.runs);
     }
@@ -211,7 +207,7 @@ learns_of {p} {q} rest low on falls chip = record {
   taken = λ lt. let f = firm_past k p.trusted (passed p.side on.2 lt) in (events_are ∙ ap (λ l. p.events ++ l) f.0, trusted_are ∙ f.1);
   settled = λ same le.
       let f = firm_past k p.trusted le in
-      let all = below_same k.trust p.trusted (subst (λ t. AllBelow t p.trusted) (sym same) low) in
+      let all = below_same k.trust p.trusted (rw same low) in
       (events_are ∙ ap (λ l. p.events ++ l) (f.0 ∙ all), trusted_are ∙ f.1);
   stays = λ lt. let f = firm_ahead k p.trusted lt in (events_are ∙ ap (λ l. p.events ++ l) f.0 ∙ append-nil p.events, trusted_are ∙ f.1);
   plain = λ none. rest ∙ (λ i. record p {
@@ -280,6 +276,6 @@ cut_found {s} {old} cut {v} {w} is cuts f a lt =
 pub pass_settled : {s : Side} {words found next : List ℕ} {old new : State} (cut : ℕ) {v w : View} → IsPassOf s words old v → CutIs s cut v → Found found v w
     → LocalAfter words old found new → next ≡ found → IsPassOf s next new w × CutIs s cut w
 pass_settled {s} {new = new} cut {v = v} {w = w} is cuts f local next_is = (
-  subst (λ words. IsPassOf s words new w) (sym next_is) (pass_found new is f (local v.known w.known is.well f.well is.words_are f.words_are)),
+  rw next_is (pass_found new is f (local v.known w.known is.well f.well is.words_are f.words_are)),
   cut_found cut is cuts f,
 )

@@ -1,5 +1,5 @@
 -- An observation leaves the chip, and chips that show the parasite the same answer its observations alike.
-use Rattle.std.proofs.Common.{◌≡◌, ℕ, ◌≤◌, nat_eq, Bool, true, false, true≢false, ◌&&◌, cond, min, refl, sym, ap, ◌∙◌, subst, arith}
+use Rattle.std.proofs.Common.{◌≡◌, ℕ, ◌≤◌, nat_eq, Bool, true, false, true≢false, ◌&&◌, cond, min, refl, sym, ap, ◌∙◌, arith}
 use mathlib.Core.Bool.{beq}
 use Rattle.std.proofs.lemmas.Bool.Decides.{nat_tests}
 use Rattle.beeb_bits.specs.declared.Side.{Side}
@@ -77,7 +77,7 @@ four_from : (c d : State) → status Para 1 c ≡ status Para 1 d → status Par
 four_from c d first second third last k = go (nat_eq k 1) (nat_eq k 2) (nat_eq k 3) refl refl refl
   where
     at : (n : ℕ) → nat_eq k n ≡ true → status Para n c ≡ status Para n d → status Para k d ≡ status Para k c
-    at n e same = subst (λ j. status Para j d ≡ status Para j c) (sym (eq_from k n e)) (sym same)
+    at n e same = rw (eq_from k n e) (sym same)
 
     go : (x y z : Bool) → nat_eq k 1 ≡ x → nat_eq k 2 ≡ y → nat_eq k 3 ≡ z → status Para k d ≡ status Para k c
     go true y z one two three = at 1 one first

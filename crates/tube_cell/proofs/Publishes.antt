@@ -21,70 +21,62 @@ use Rattle.tube_cell.proofs.Raises.{horizon_entrusted}
 
 -- ---- publish
 
-pub may_publish : {id : TableId} {s : Side} {words : List ℕ} {old : State} {p : Carried} {v : View} (h : ℕ) → carried_of id s v ≡ p
-    → IsPassOf s words old v → p.trusted ≡ [] → own_horizon p ≤ h → MayPublish s v.ahead old h v
-may_publish {id} {s} {v} h view is trusted later =
-    let later' : own_horizon (carried_of id s v) ≤ h = subst (λ q. own_horizon q ≤ h) (sym view) later in
-    record {
-      role = is.role;
-      none_trusted = none_of v view trusted;
-      runs = runs_later s _ _ _ _ _ _ (horizon (own_bound s v.known) (v.mine ++ v.ahead)) h is.runs later';
-    }
+retrusted : {s : Side} (k : Known) (c : State) (h a t : ℕ) → s ≡ Para → known_with Para c h (word_of_other Para k) t ≡ record (known_with s c h (word_of_other s k) a) { trust = t }
+retrusted k c h a t is = rw is refl
+
+module _ {id : TableId} {s : Side} {words : List ℕ} {old : State} {p : Carried} {v : View} (view : carried_of id s v ≡ p) (is : IsPassOf s words old v) where
+  pub may_publish : (h : ℕ) → p.trusted ≡ [] → own_horizon p ≤ h → MayPublish s v.ahead old h v
+  may_publish h trusted later =
+      let later' : own_horizon (carried_of id s v) ≤ h = subst (λ q. own_horizon q ≤ h) (sym view) later in
+      record {
+        role = is.role;
+        none_trusted = none_of v view trusted;
+        runs = runs_later s _ _ _ _ _ _ _ is.runs later';
+      }
+
+  pub is_published : {id' : TableId} {w : View} (h : ℕ) {trust : ℕ} → id' ≡ id → trust ≡ trust_after s v.known.chip v.known.trust v.ahead
+      → w ≡ published_view v v.ahead (known_with s old h (word_of_other s v.known) trust) → carried_of id' s w ≡ after_publish p h
+  is_published h cell trust_is w_is =
+      (λ i. carried_of (cell i) s (w_is i))
+      ∙ (λ i. carried_of id s (published_view v v.ahead (known_with s (local_of is i) h (word_of_other s v.known) (trust_is i))))
+      ∙ ap (λ q. after_publish q h) view
+
+  pub may_both : (seen : List Event) (h t : ℕ) → p.side ≡ Para → p.trusted ≡ [] → own_horizon p ≤ h → h ≤ t → Watches Para h (here p) seen t → MayPublishAndEntrust v.ahead old h seen t v
+  may_both seen h t side trusted later order watches =
+      let s_is : s ≡ Para = ap (λ q. q.side) view ∙ side in
+      record {
+        publish = rw s_is at (may_publish h trusted later);
+        order = order;
+        watches = rw (here_of view is) watches;
+      }
+
+  pub pass_both : {next : List ℕ} {w : View} (seen : List Event) (h t : ℕ) → p.trusted ≡ [] → IsChip old → Watches Para h (here p) seen t
+      → w ≡ told_view v v.ahead seen (known_with Para old h (word_of_other Para v.known) t) → next ≡ words_of (known_with Para old h (word_of_other Para v.known) t) → IsPassOf s next old w
+  pass_both {w} seen h t trusted well watches w_is words_are =
+      let k : w.known ≡ known_with Para old h (word_of_other Para v.known) t = ap (λ u. u.known) w_is in
+      let chip : w.known.chip ≡ old = ap (λ x. x.chip) k in
+      let low : AllBelow t (v.trusted ++ seen) = All-append (λ e. e.tick < t) v.trusted seen (none_low t (none_of v view trusted)) (watches_low _ _ _ seen h watches) in
+      pass_fresh s w (ap (λ u. u.role) w_is ∙ is.role) (subst IsChip (sym chip) well) (words_are ∙ ap words_of (sym k))
+      (rw w_is low) (ap (λ u. u.ahead) w_is) (sym chip)
+
+  pub is_both : {id' : TableId} {w : View} (seen : List Event) (h t : ℕ) → p.side ≡ Para → id' ≡ id → w ≡ told_view v v.ahead seen (known_with Para old h (word_of_other Para v.known) t)
+      → carried_of id' s w ≡ after_entrust (after_publish p h) seen t
+  is_both seen h t side cell w_is =
+      let s_is : s ≡ Para = ap (λ q. q.side) view ∙ side in
+      let known = (λ j. known_with Para (local_of is j) h (word_of_other Para v.known) t)
+      ∙ retrusted v.known (after_from v.known.chip v.ahead) h (trust_after s v.known.chip v.known.trust v.ahead) t s_is in
+      (λ i. carried_of (cell i) s (w_is i)) ∙ ap (λ k. carried_of id s (told_view v v.ahead seen k)) known ∙ ap (λ q. after_entrust (after_publish q h) seen t) view
 
 pub publish_trust : (s : Side) (v : View) {known : ℕ} (cut : ℕ) {trust : ℕ} → CutIs s cut v → known ≡ v.known.trust → known < 2 ^ 64 → trust ≡ min known cut
     → trust ≡ trust_after s v.known.chip v.known.trust v.ahead
 publish_trust s v cut cuts known_is small is = is ∙ ap (λ n. min n cut) known_is ∙ sym (cuts v.known.trust (omega arith))
-
-pub is_published : {id id' : TableId} {s : Side} {words : List ℕ} {old : State} {p : Carried} {v w : View} (h : ℕ) {trust : ℕ} → carried_of id s v ≡ p
-    → IsPassOf s words old v → id' ≡ id → trust ≡ trust_after s v.known.chip v.known.trust v.ahead
-    → w ≡ published_view v v.ahead (known_with s old h (word_of_other s v.known) trust) → carried_of id' s w ≡ after_publish p h
-is_published {id} {s} {v} h view is cell trust_is w_is =
-    (λ i. carried_of (cell i) s (w_is i))
-    ∙ (λ i. carried_of id s (published_view v v.ahead (known_with s (local_of is i) h (word_of_other s v.known) (trust_is i))))
-    ∙ ap (λ q. after_publish q h) view
 
 -- ---- publish_and_entrust
 
 pub both_as : PackingIsOneToOne → (pass : ℕ) {v : View} {es seen : List Event} {last : State} {word trust : ℕ} {next : Known} {old new : List ℕ}
     → MayPublishAndEntrust es last word seen trust v → IsChip last → next ≡ known_with Para last word (word_of_other Para v.known) trust → old ≡ words_of v.known → new ≡ words_of next
     → Turns Kept pass v (λ x. if pointwise nat_eq x old then new else x) (PublishesAndEntrusts es seen next)
-both_as one pass {v} {es} {seen} {next} may well next_is old_is new_is =
-    let P : List ℕ → List ℕ → Type 0 = λ a b. Turns Kept pass v (λ x. if pointwise nat_eq x a then b else x) (PublishesAndEntrusts es seen next) in
-    subst (λ (y : List ℕ × List ℕ). P y.0 y.1) (λ i. (sym old_is i, sym new_is i)) (publishes_and_entrusts one pass may well next_is)
-
-pub may_both : {id : TableId} {s : Side} {words : List ℕ} {old : State} {p : Carried} {v : View} (seen : List Event) (h t : ℕ) → carried_of id s v ≡ p
-    → IsPassOf s words old v → p.side ≡ Para → p.trusted ≡ [] → own_horizon p ≤ h → h ≤ t
-    → Watches Para h (here p) seen t → MayPublishAndEntrust v.ahead old h seen t v
-may_both {s} {old} {v} seen h t view is side trusted later order watches =
-    let s_is : s ≡ Para = ap (λ q. q.side) view ∙ side in
-    record {
-      publish = subst (λ r. MayPublish r v.ahead old h v) s_is (may_publish h view is trusted later);
-      order = order;
-      watches = subst (λ c. Watches Para h c seen t) (sym (here_of view is)) watches;
-    }
-
-pub pass_both : {id : TableId} {s : Side} {words next : List ℕ} {old : State} {p : Carried} {v w : View} (seen : List Event) (h t : ℕ)
-    → carried_of id s v ≡ p → IsPassOf s words old v → p.trusted ≡ [] → IsChip old
-    → Watches Para h (here p) seen t → w ≡ told_view v v.ahead seen (known_with Para old h (word_of_other Para v.known) t)
-    → next ≡ words_of (known_with Para old h (word_of_other Para v.known) t) → IsPassOf s next old w
-pass_both {s} {old} {v} {w} seen h t view is trusted well watches w_is words_are =
-    let k : w.known ≡ known_with Para old h (word_of_other Para v.known) t = ap (λ u. u.known) w_is in
-    let chip : w.known.chip ≡ old = ap (λ x. x.chip) k in
-    let low : AllBelow t (v.trusted ++ seen) = All-append (λ e. e.tick < t) v.trusted seen (none_low t (none_of v view trusted)) (watches_low _ h _ _ t watches) in
-    pass_fresh s w (ap (λ u. u.role) w_is ∙ is.role) (subst IsChip (sym chip) well) (words_are ∙ ap words_of (sym k))
-    (subst (λ u. AllBelow u.known.trust u.trusted) (sym w_is) low) (ap (λ u. u.ahead) w_is) (sym chip)
-
-retrusted : {s : Side} (k : Known) (c : State) (h a t : ℕ) → s ≡ Para → known_with Para c h (word_of_other Para k) t ≡ record (known_with s c h (word_of_other s k) a) { trust = t }
-retrusted k c h a t is = subst (λ r. known_with Para c h (word_of_other Para k) t ≡ record (known_with r c h (word_of_other r k) a) { trust = t }) (sym is) refl
-
-pub is_both : {id id' : TableId} {s : Side} {words : List ℕ} {old : State} {p : Carried} {v w : View} (seen : List Event) (h t : ℕ)
-    → carried_of id s v ≡ p → IsPassOf s words old v → p.side ≡ Para → id' ≡ id
-    → w ≡ told_view v v.ahead seen (known_with Para old h (word_of_other Para v.known) t) → carried_of id' s w ≡ after_entrust (after_publish p h) seen t
-is_both {id} {s} {v} seen h t view is side cell w_is =
-    let s_is : s ≡ Para = ap (λ q. q.side) view ∙ side in
-    let known = (λ j. known_with Para (local_of is j) h (word_of_other Para v.known) t)
-    ∙ retrusted v.known (after_from v.known.chip v.ahead) h (trust_after s v.known.chip v.known.trust v.ahead) t s_is in
-    (λ i. carried_of (cell i) s (w_is i)) ∙ ap (λ k. carried_of id s (told_view v v.ahead seen k)) known ∙ ap (λ q. after_entrust (after_publish q h) seen t) view
+both_as one pass may well next_is old_is new_is = rw (old_is, new_is) (publishes_and_entrusts one pass may well next_is)
 
 -- the own bound with this word, no earlier than it was
 published_bound : (s : Side) (k : Known) (c : State) (h : ℕ) (es : List Event) → own_bound s k ≤ h → own_bound s (known_with s c h (word_of_other s k) (trust_after s k.chip k.trust es)) ≡ h

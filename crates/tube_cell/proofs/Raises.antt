@@ -28,58 +28,22 @@ pub publishes_as : PackingIsOneToOne → {s : Side} (pass : ℕ) {v : View} {es 
     → MayPublish s es last end v → IsChip last → trust ≡ trust_after s v.known.chip v.known.trust es
     → next ≡ known_with s last end (word_of_other s v.known) trust → old ≡ words_of v.known → new ≡ words_of next
     → Turns Kept pass v (λ x. if pointwise nat_eq x old then new else x) (Publishes es next)
-publishes_as one {s} pass {v} {es} {last} {end} {next} may well trust_is next_is old_is new_is =
-    let P : List ℕ → List ℕ → Type 0 = λ a b. Turns Kept pass v (λ x. if pointwise nat_eq x a then b else x) (Publishes es next) in
-    subst (λ (y : List ℕ × List ℕ). P y.0 y.1) (λ i. (sym old_is i, sym new_is i))
-    (publishes one s pass may well (next_is ∙ ap (λ t. known_with s last end (word_of_other s v.known) t) trust_is))
+publishes_as one {s} pass {v} {last = last} {end} may well trust_is next_is old_is new_is =
+    rw (old_is, new_is) (publishes one s pass may well (next_is ∙ ap (λ t. known_with s last end (word_of_other s v.known) t) trust_is))
 
 pub entrusts_as : PackingIsOneToOne → (pass : ℕ) {v : View} {es : List Event} {trust : ℕ} {next : Known} {old new : List ℕ}
     → MayEntrust es trust v → next ≡ trusting v.known trust → old ≡ words_of v.known → new ≡ words_of next
     → Turns Kept pass v (λ x. if pointwise nat_eq x old then new else x) (Entrusts es next)
-entrusts_as one pass {v} {es} {next} may next_is old_is new_is =
-    let P : List ℕ → List ℕ → Type 0 = λ a b. Turns Kept pass v (λ x. if pointwise nat_eq x a then b else x) (Entrusts es next) in
-    subst (λ (y : List ℕ × List ℕ). P y.0 y.1) (λ i. (sym old_is i, sym new_is i)) (entrusts one pass may next_is)
+entrusts_as one pass may next_is old_is new_is = rw (old_is, new_is) (entrusts one pass may next_is)
 
 pub looks_as : {s : Side} (pass : ℕ) {v : View} {t tick : ℕ} → MayLook s t v → t ≡ tick → Turns Kept pass v (λ x. x) (Looks tick)
-looks_as pass {v} may is = subst (λ n. Turns Kept pass v (λ x. x) (Looks n)) is (looks pass may)
+looks_as pass may is = rw is at (looks pass may)
 
 -- ---- raise and commit
 
 chip_with : (s : Side) (c : State) (m t a : ℕ) → (known_with s c m t a).chip ≡ c
 chip_with Host c m t a = refl
 chip_with Para c m t a = refl
-
-pub may_raise : {id : TableId} {s : Side} {words : List ℕ} {here : State} {p : Carried} {v : View} (t : ℕ) → carried_of id s v ≡ p
-    → IsPassOf s words here v → p.ahead ≡ [] → p.trusted ≡ [] → own_horizon p ≤ t → MayPublish s [] here t v
-may_raise {v} t view is none trusted later = record {
-  role = is.role;
-  none_trusted = none_of v view trusted;
-  runs = (bare_local is (bare_of v view none), later_of v t view none later);
-}
-
-pub may_look : {id : TableId} {s : Side} {words : List ℕ} {here : State} {p : Carried} {v : View} (t : ℕ) → carried_of id s v ≡ p
-    → IsPassOf s words here v → p.ahead ≡ [] → p.trusted ≡ [] → own_horizon p ≤ t → MayLook s t v
-may_look {v} t view is none trusted later = record { role = is.role; none_trusted = none_of v view trusted; later = later_of v t view none later }
-
-pub may_commit : {id : TableId} {s : Side} {words : List ℕ} {here next : State} {p : Carried} {v : View} (t : ℕ) (op : Op) → carried_of id s v ≡ p
-    → IsPassOf s words here v → p.ahead ≡ [] → p.trusted ≡ [] → own_horizon p ≤ t
-    → Admits p.side (other_bound p.side p.known) t → next ≡ chip_after here s op → MayPublish s (access_at t s op v.known.chip ∷ []) next (t + 1) v
-may_commit {s} {v} t op view is none trusted later admitted next_is =
-    let local = bare_local is (bare_of v view none) in
-    let admitted' : Admits s (other_bound s v.known) t = subst (λ q. Admits q.side (other_bound q.side q.known) t) (sym view) admitted in
-    record {
-      role = is.role;
-      none_trusted = none_of v view trusted;
-      runs = (refl, later_of v t view none later, admitted', refl, (next_is ∙ ap (λ c. chip_after c s op) local, omega arith));
-    }
-
--- the trust of a commit, as the code has it of its local chip
-pub commit_trust : {id : TableId} {s : Side} {words : List ℕ} {here next : State} {p : Carried} {v : View} (t : ℕ) {trust known : ℕ} (op : Op)
-    → carried_of id s v ≡ p → IsPassOf s words here v → p.ahead ≡ []
-    → next ≡ chip_after here s op → known ≡ v.known.trust → trust ≡ trust_next s here next t known → trust ≡ trust_next s v.known.chip (chip_after v.known.chip s op) t v.known.trust
-commit_trust {s} {v} t op view is none next_is known_is trust_is =
-    let local = bare_local is (bare_of v view none) in
-    trust_is ∙ (λ i. trust_next s (local i) ((next_is ∙ ap (λ c. chip_after c s op) local) i) t (known_is i))
 
 -- the pass once its events are published
 pub pass_published : (s : Side) {words : List ℕ} {here : State} (end trust : ℕ) (es : List Event) (v : View) {w : View} → v.role ≡ one_side s → v.trusted ≡ [] → IsChip here
@@ -90,65 +54,107 @@ pass_published s {here} end trust es v {w} role trusted well w_is words_are =
     pass_fresh s w (ap (λ u. u.role) w_is ∙ role) (subst IsChip (sym chip) well) (words_are ∙ ap words_of (sym k))
     (none_low w.known.trust (ap (λ u. u.trusted) w_is ∙ trusted)) (ap (λ u. u.ahead) w_is) (sym chip)
 
--- and where it had none unpublished
-pub pass_raised : {id : TableId} {s : Side} {words next : List ℕ} {old here : State} {p : Carried} {v w : View} (cut end trust : ℕ) (es : List Event)
-    → carried_of id s v ≡ p → IsPassOf s words old v → CutIs s cut v → p.ahead ≡ [] → p.trusted ≡ [] → IsChip here
-    → w ≡ published_view v es (known_with s here end (word_of_other s v.known) trust) → next ≡ words_of (known_with s here end (word_of_other s v.known) trust)
-    → IsPassOf s next here w × CutIs s cut w
-pass_raised {s = s} {v = v} {w = w} cut end trust es view is cuts none trusted well w_is next_is = (
-  pass_published s end trust es v is.role (none_of v view trusted) well w_is next_is,
-  cut_kept s cut v w cuts (bare_of v view none) (ap (λ u. u.ahead) w_is),
-)
+-- a pass with nothing unpublished
+module _ {id : TableId} {s : Side} {words : List ℕ} {here : State} {p : Carried} {v : View} (view : carried_of id s v ≡ p) (is : IsPassOf s words here v) (none : p.ahead ≡ []) where
+  bare : v.ahead ≡ []
+  bare = bare_of v view none
 
-pub is_raised : {id id' : TableId} {s : Side} {words : List ℕ} {here : State} {p : Carried} {v w : View} (t : ℕ) {trust : ℕ} → carried_of id s v ≡ p
-    → IsPassOf s words here v → p.ahead ≡ [] → id' ≡ id → trust ≡ v.known.trust
-    → w ≡ published_view v [] (known_with s here t (word_of_other s v.known) trust) → carried_of id' s w ≡ after_raise p t
-is_raised {id} {s} {v} t view is none cell trust_is w_is =
-    let bare = bare_of v view none in
-    let local = bare_local is bare in
-    (λ i. carried_of (cell i) s (w_is i))
-    ∙ (λ i. record (carried_of id s v) {
-      events = append-nil v.mine i;
-      ahead = sym bare i;
-      known = known_with s (local i) t (word_of_other s v.known) (trust_is i);
-      commits = no_more v.commits i;
-    })
-    ∙ ap (λ q. after_raise q t) view
-  where
-    no_more : (n : ℕ) → n + 0 ≡ n
-    no_more n = omega arith
+  local : here ≡ v.known.chip
+  local = bare_local is bare
 
-pub is_committed : {id id' : TableId} {s : Side} {words : List ℕ} {here next : State} {p : Carried} {v w : View} (t : ℕ) {trust : ℕ} (op : Op)
-    → carried_of id s v ≡ p → IsPassOf s words here v → p.ahead ≡ [] → id' ≡ id
-    → next ≡ chip_after here s op → trust ≡ trust_next s v.known.chip (chip_after v.known.chip s op) t v.known.trust
-    → w ≡ published_view v (access_at t s op v.known.chip ∷ []) (known_with s next (t + 1) (word_of_other s v.known) trust) → carried_of id' s w ≡ after_commit p t op
-is_committed {id} {s} {v} t op view is none cell next_is trust_is w_is =
-    let bare = bare_of v view none in
-    let chip = next_is ∙ ap (λ c. chip_after c s op) (bare_local is bare) in
-    (λ i. carried_of (cell i) s (w_is i))
-    ∙ (λ i. record (carried_of id s v) {
-      events = v.mine ++ access_at t s op v.known.chip ∷ [];
-      ahead = sym bare i;
-      known = known_with s (chip i) (t + 1) (word_of_other s v.known) (trust_is i);
-      commits = v.commits + 1;
-    })
-    ∙ ap (λ q. after_commit q t op) view
+  pub may_raise : (t : ℕ) → p.trusted ≡ [] → own_horizon p ≤ t → MayPublish s [] here t v
+  may_raise t trusted later = record {
+    role = is.role;
+    none_trusted = none_of v view trusted;
+    runs = (local, later_of v t view none later);
+  }
+
+  pub may_look : (t : ℕ) → p.trusted ≡ [] → own_horizon p ≤ t → MayLook s t v
+  may_look t trusted later = record { role = is.role; none_trusted = none_of v view trusted; later = later_of v t view none later }
+
+  pub may_commit : {next : State} (t : ℕ) (op : Op) → p.trusted ≡ [] → own_horizon p ≤ t → Admits p.side (other_bound p.side p.known) t → next ≡ chip_after here s op
+      → MayPublish s (access_at t s op v.known.chip ∷ []) next (t + 1) v
+  may_commit t op trusted later admitted next_is =
+      let admitted' : Admits s (other_bound s v.known) t = subst (λ q. Admits q.side (other_bound q.side q.known) t) (sym view) admitted in
+      record {
+        role = is.role;
+        none_trusted = none_of v view trusted;
+        runs = (refl, later_of v t view none later, admitted', refl, (next_is ∙ ap (λ c. chip_after c s op) local, omega arith));
+      }
+
+  -- the trust of a commit, as the code has it of its local chip
+  pub commit_trust : {next : State} (t : ℕ) {trust known : ℕ} (op : Op) → next ≡ chip_after here s op → known ≡ v.known.trust → trust ≡ trust_next s here next t known
+      → trust ≡ trust_next s v.known.chip (chip_after v.known.chip s op) t v.known.trust
+  commit_trust t op next_is known_is trust_is =
+      trust_is ∙ (λ i. trust_next s (local i) ((next_is ∙ ap (λ c. chip_after c s op) local) i) t (known_is i))
+
+  -- and where it had none unpublished
+  pub pass_raised : {next : List ℕ} {new : State} {w : View} (cut end trust : ℕ) (es : List Event) → CutIs s cut v → p.trusted ≡ [] → IsChip new
+      → w ≡ published_view v es (known_with s new end (word_of_other s v.known) trust) → next ≡ words_of (known_with s new end (word_of_other s v.known) trust) → IsPassOf s next new w × CutIs s cut w
+  pass_raised {w = w} cut end trust es cuts trusted well w_is next_is = (
+    pass_published s end trust es v is.role (none_of v view trusted) well w_is next_is,
+    cut_kept s cut v w cuts bare (ap (λ u. u.ahead) w_is),
+  )
+
+  pub is_raised : {id' : TableId} {w : View} (t : ℕ) {trust : ℕ} → id' ≡ id → trust ≡ v.known.trust → w ≡ published_view v [] (known_with s here t (word_of_other s v.known) trust)
+      → carried_of id' s w ≡ after_raise p t
+  is_raised t cell trust_is w_is =
+      (λ i. carried_of (cell i) s (w_is i))
+      ∙ (λ i. record (carried_of id s v) {
+        events = append-nil v.mine i;
+        ahead = sym bare i;
+        known = known_with s (local i) t (word_of_other s v.known) (trust_is i);
+        commits = no_more v.commits i;
+      })
+      ∙ ap (λ q. after_raise q t) view
+    where
+      no_more : (n : ℕ) → n + 0 ≡ n
+      no_more n = omega arith
+
+  pub is_committed : {id' : TableId} {next : State} {w : View} (t : ℕ) {trust : ℕ} (op : Op) → id' ≡ id → next ≡ chip_after here s op
+      → trust ≡ trust_next s v.known.chip (chip_after v.known.chip s op) t v.known.trust
+      → w ≡ published_view v (access_at t s op v.known.chip ∷ []) (known_with s next (t + 1) (word_of_other s v.known) trust) → carried_of id' s w ≡ after_commit p t op
+  is_committed t op cell next_is trust_is w_is =
+      let chip = next_is ∙ ap (λ c. chip_after c s op) local in
+      (λ i. carried_of (cell i) s (w_is i))
+      ∙ (λ i. record (carried_of id s v) {
+        events = v.mine ++ access_at t s op v.known.chip ∷ [];
+        ahead = sym bare i;
+        known = known_with s (chip i) (t + 1) (word_of_other s v.known) (trust_is i);
+        commits = v.commits + 1;
+      })
+      ∙ ap (λ q. after_commit q t op) view
+
+  pub may_entrust : (es : List Event) (t : ℕ) → p.side ≡ Para → own_horizon p ≤ t → Watches Para (own_horizon p) p.known.chip es t → MayEntrust es t v
+  may_entrust es t side later watches =
+      let s_is : s ≡ Para = ap (λ q. q.side) view ∙ side in
+      let from = bare_horizon s v bare in
+      let h : Watches Para (horizon (own_bound s v.known) (v.mine ++ v.ahead)) v.known.chip es t = subst (λ q. Watches Para (own_horizon q) q.known.chip es t) (sym view) watches in
+      record {
+        role = is.role ∙ ap one_side s_is;
+        trusted = is.trusted;
+        later = rw s_is at (later_of v t view none later);
+        watches = rw s_is at (subst (λ n. Watches Para n v.known.chip es t) from h);
+      }
+
+  pub is_looked : {id' : TableId} {found : List ℕ} {t : ℕ} {lines : Lines} {w : View} → p.trusted ≡ [] → own_horizon p ≤ t → id' ≡ id → LookedAt t s found v w
+      → admits s (other_bound s w.known) t ≡ true → lines ≡ lines_of w.known.chip → Learns (after_look p t lines) (carried_of id' s w)
+  is_looked {id'} {t} {lines} {w} trusted later cell f admitted lines_are =
+      let k : Known = w.known in
+      let on = on_of s v k is.role f.goes_on in
+      let no_trust = none_of v view trusted in
+      let w_is : w ≡ looked_view v t s k = rw admitted at f.view_is in
+      let looked : List Event = v.mine ++ lines_at t s lines ∷ [] in
+      let same = ap (λ l. v.mine ++ lines_at t s l ∷ []) (sym lines_are) in
+      let falls = bound_falls s _ k on in
+      let now : past_last (w.mine ++ w.ahead) ≡ past_last (looked ++ v.ahead) = (λ i. past_last ((w_is i).mine ++ (w_is i).ahead)) ∙ ap (λ l. past_last (l ++ v.ahead)) same in
+      let rest = (λ i. carried_of (cell i) s (w_is i)) ∙ (λ i. record (finding (after_look (carried_of id s v) t lines) k 0) {
+        events = (same ∙ sym (bare_firm k looked no_trust)) i;
+        higher = v.higher + rise (is.role i) v.known k;
+      }) in
+      subst (λ q. Learns (after_look q t lines) (carried_of id' s w)) view (learns_of rest is.trusted on (omega arith) (λ some. absurd (some bare)))
 
 -- ---- entrust
-
-pub may_entrust : {id : TableId} {s : Side} {words : List ℕ} {here : State} {p : Carried} {v : View} (es : List Event) (t : ℕ) → carried_of id s v ≡ p
-    → IsPassOf s words here v → p.side ≡ Para → p.ahead ≡ [] → own_horizon p ≤ t
-    → Watches Para (own_horizon p) p.known.chip es t → MayEntrust es t v
-may_entrust {s} {v} es t view is side none later watches =
-    let s_is : s ≡ Para = ap (λ q. q.side) view ∙ side in
-    let from = bare_horizon s v (bare_of v view none) in
-    let h : Watches Para (horizon (own_bound s v.known) (v.mine ++ v.ahead)) v.known.chip es t = subst (λ q. Watches Para (own_horizon q) q.known.chip es t) (sym view) watches in
-    record {
-      role = is.role ∙ ap one_side s_is;
-      trusted = is.trusted;
-      later = subst (λ r. horizon (own_bound r v.known) v.mine ≤ t) s_is (later_of v t view none later);
-      watches = subst (λ r. Watches Para (horizon (own_bound r v.known) v.mine) v.known.chip es t) s_is (subst (λ n. Watches Para n v.known.chip es t) from h);
-    }
 
 pub pass_entrusted : {s : Side} {words next : List ℕ} {here : State} {t : ℕ} {es : List Event} {v w : View} → IsPassOf s words here v → v.ahead ≡ [] → MayEntrust es t v
     → w ≡ entrusted_view v es (trusting v.known t) → next ≡ words_of (trusting v.known t) → IsPassOf s next here w
@@ -156,10 +162,10 @@ pass_entrusted {s} {t} {es} {v} {w} is none may w_is words_are =
     let k : w.known ≡ trusting v.known t = ap (λ u. u.known) w_is in
     let low : AllBelow t (v.trusted ++ es) =
     All-append (λ e. e.tick < t) v.trusted es (lower v.trusted is.trusted (omega arith))
-    (watches_low _ _ _ _ t may.watches) in
+    (watches_low _ t _ es _ may.watches) in
     let chip : w.known.chip ≡ v.known.chip = ap (λ x. x.chip) k in
     pass_fresh s w (ap (λ u. u.role) w_is ∙ is.role) (subst IsChip (sym chip) is.well) (words_are ∙ ap words_of (sym k))
-    (subst (λ u. AllBelow u.known.trust u.trusted) (sym w_is) low)
+    (rw w_is low)
     (ap (λ u. u.ahead) w_is ∙ none) (bare_local is none ∙ sym chip)
 
 pub is_entrusted : {id id' : TableId} {s : Side} {p : Carried} {v w : View} (es : List Event) (t : ℕ) → carried_of id s v ≡ p → id' ≡ id
@@ -186,25 +192,6 @@ pass_looked {s} {found} new {t} {v} {w} is none trusted f local =
     let left = looked_as (admits s (other_bound s w.known) t) t s v w f.view_is in
     pass_fresh s w (left.0 ∙ is.role) f.well f.words_are (none_low w.known.trust (left.2 ∙ ap (pending_events w.known) trusted))
     (left.1 ∙ none) (looked_local new w is none local)
-
-pub is_looked : {id id' : TableId} {s : Side} {words found : List ℕ} {old : State} {p : Carried} {t : ℕ} {lines : Lines} {v w : View}
-    → carried_of id s v ≡ p → IsPassOf s words old v → p.ahead ≡ [] → p.trusted ≡ [] → own_horizon p ≤ t → id' ≡ id
-    → LookedAt t s found v w → admits s (other_bound s w.known) t ≡ true → lines ≡ lines_of w.known.chip → Learns (after_look p t lines) (carried_of id' s w)
-is_looked {id} {id'} {s} {t} {lines} {v} {w} view is none trusted later cell f admitted lines_are =
-    let k : Known = w.known in
-    let on = on_of s v k is.role f.goes_on in
-    let bare = bare_of v view none in
-    let no_trust = none_of v view trusted in
-    let w_is : w ≡ looked_view v t s k = subst (λ b. MatchBool b (w ≡ looked_view v t s k) (w ≡ found_view v k)) admitted f.view_is in
-    let looked : List Event = v.mine ++ lines_at t s lines ∷ [] in
-    let same = ap (λ l. v.mine ++ lines_at t s l ∷ []) (sym lines_are) in
-    let falls = bound_falls s _ k on in
-    let now : past_last (w.mine ++ w.ahead) ≡ past_last (looked ++ v.ahead) = (λ i. past_last ((w_is i).mine ++ (w_is i).ahead)) ∙ ap (λ l. past_last (l ++ v.ahead)) same in
-    let rest = (λ i. carried_of (cell i) s (w_is i)) ∙ (λ i. record (finding (after_look (carried_of id s v) t lines) k 0) {
-      events = (same ∙ sym (bare_firm k looked no_trust)) i;
-      higher = v.higher + rise (is.role i) v.known k;
-    }) in
-    subst (λ q. Learns (after_look q t lines) (carried_of id' s w)) view (learns_of rest is.trusted on (omega arith) (λ some. absurd (some bare)))
 
 -- ---- own horizons
 

@@ -28,19 +28,19 @@ record Grown (k : ℕ) (l grown : List Event) : Type 0 where
   late : All (λ (e : Event). k ≤ e.tick) more
 
 grown_not : (k : ℕ) (l : List Event) → Grown k l l
-grown_not k l = record { more = []; is = sym (append-nil l); late = All-nil (λ (e : Event). k ≤ e.tick) }
+grown_not k l = record { more = []; is = sym (append-nil l); late = All-nil (λ e. k ≤ e.tick) }
 
 grown_on : (k : ℕ) (l m grown : List Event) → Grown k l m → Grown k m grown → Grown k l grown
 grown_on k l m grown a b =
     record {
       more = a.more ++ b.more;
-      is = b.is ∙ ap (λ (x : List Event). x ++ b.more) a.is ∙ append_assoc l a.more b.more;
-      late = All-append (λ (e : Event). k ≤ e.tick) a.more b.more a.late b.late;
+      is = b.is ∙ ap (λ x. x ++ b.more) a.is ∙ append_assoc l a.more b.more;
+      late = All-append (λ e. k ≤ e.tick) a.more b.more a.late b.late;
     }
 
 grown_later : (k j : ℕ) (l grown : List Event) → k ≤ j → Grown j l grown → Grown k l grown
 grown_later k j l grown le a =
-    record { more = a.more; is = a.is; late = All-weaker (λ (e : Event). j ≤ e.tick) (λ (e : Event). k ≤ e.tick) (λ e h. omega arith) a.more a.late }
+    record { more = a.more; is = a.is; late = All-weaker (λ e. j ≤ e.tick) (λ e. k ≤ e.tick) (λ e h. omega arith) a.more a.late }
 
 step_grown_by : {S : Type 0} (m : Moves S) (side : Side) (k : ℕ) (x : Seat S) (due : Bool) (o : Option Query) → nat_eq (m.due x.state) k ≡ due → m.asks x.state ≡ o
     → Grown k x.list (step_if_due m side k x).list
@@ -50,7 +50,7 @@ step_grown_by m side k x true (Some y) d q =
     let at : m.due x.state ≡ k = eqb-true (m.due x.state) k d in
     let e : Event = event (m.due x.state) side y (act x.chip side y).1 in
     let low : k ≤ m.due x.state = omega (arith, at) in
-    rw (d, q) (record { more = e ∷ []; is = refl; late = All-cons (λ (z : Event). k ≤ z.tick) e [] low (All-nil (λ (z : Event). k ≤ z.tick)) })
+    rw (d, q) (record { more = e ∷ []; is = refl; late = All-cons (λ z. k ≤ z.tick) e [] low (All-nil (λ z. k ≤ z.tick)) })
 
 step_grown : {S : Type 0} (m : Moves S) (side : Side) (k : ℕ) (x : Seat S) → Grown k x.list (step_if_due m side k x).list
 step_grown m side k x = step_grown_by m side k x (nat_eq (m.due x.state) k) (m.asks x.state) refl refl
@@ -70,24 +70,24 @@ module _ {S T : Type 0} (h : Moves S) (p : Moves T) where
 pub below_all : (at : ℕ) (xs : List Entry) → All (λ (e : Entry). (e.tick).0 < at) xs → entries_below at xs ≡ xs
 below_all at [] low = refl
 below_all at (x ∷ xs) low =
-    rw (low_true (x.tick).0 at (All-head (λ (e : Entry). (e.tick).0 < at) x xs low)) (ap (λ (l : List Entry). x ∷ l) (below_all at xs (All-tail (λ (e : Entry). (e.tick).0 < at) x xs low)))
+    rw (low_true (x.tick).0 at (All-head (λ e. (e.tick).0 < at) x xs low)) (ap (λ l. x ∷ l) (below_all at xs (All-tail (λ e. (e.tick).0 < at) x xs low)))
 
 pub below_none : (at : ℕ) (xs : List Entry) → All (λ (e : Entry). at ≤ (e.tick).0) xs → entries_below at xs ≡ []
 below_none at [] high = refl
 below_none at (x ∷ xs) high =
-    rw (le-ltb (x.tick).0 at (All-head (λ (e : Entry). at ≤ (e.tick).0) x xs high)) (below_none at xs (All-tail (λ (e : Entry). at ≤ (e.tick).0) x xs high))
+    rw (le-ltb (x.tick).0 at (All-head (λ e. at ≤ (e.tick).0) x xs high)) (below_none at xs (All-tail (λ e. at ≤ (e.tick).0) x xs high))
 
 pub shorter_run : {S T : Type 0} (h : Moves S) (p : Moves T) → IsLawful h → IsLawful p → ShorterRunIsBeginning h p
 shorter_run {S} {T} h p lh lp s t at n le =
     let w : World S T = ticks h p at 0 (start s t) in
     let g = ticks_grown h p (n - at) at w in
     let list : accesses (reference h p s t n).list ≡ accesses w.list ++ accesses g.more =
-    ap (λ (v : World S T). accesses v.list) (ticks_from h p at n le (start s t)) ∙ ap accesses g.is ∙ accesses-append w.list g.more in
+    ap (λ v. accesses v.list) (ticks_from h p at n le (start s t)) ∙ ap accesses g.is ∙ accesses-append w.list g.more in
     let low = all_below at w.list (all_earlier h p lh lp s t at) in
-    let high : All (λ (e : Entry). at ≤ (e.tick).0) (accesses g.more) = placed (λ k side. at ≤ k) g.more g.late in
+    let high : All (λ e. at ≤ (e.tick).0) (accesses g.more) = placed (λ k side. at ≤ k) g.more g.late in
     sym (
     ap (entries_below at) list
-    ∙ filter-append (λ (e : Entry). nat_lt (e.tick).0 at) (accesses w.list) (accesses g.more)
-    ∙ ap (λ (x : List Entry). x ++ entries_below at (accesses g.more)) (below_all at (accesses w.list) low)
-    ∙ ap (λ (x : List Entry). accesses w.list ++ x) (below_none at (accesses g.more) high)
+    ∙ filter-append (λ e. nat_lt (e.tick).0 at) (accesses w.list) (accesses g.more)
+    ∙ ap (λ x. x ++ entries_below at (accesses g.more)) (below_all at (accesses w.list) low)
+    ∙ ap (λ x. accesses w.list ++ x) (below_none at (accesses g.more) high)
     ∙ append-nil (accesses w.list))

@@ -256,8 +256,8 @@ module _ {S T : Type 0} {r : Run S T} where
   finishes {ask_h = ask_h} {ask_p} {a} {b} {c} w e =
       let none = none_left ask_h ask_p e in
       let at : IsAt r ask_h a (moved b w.last) c = settled w (λ x. cc) in
-      let ah : IsAsk h n at.host_last Nothing a.state = subst (λ (x : Ask). IsAsk h n at.host_last x a.state) none.0 at.host_asked in
-      let bp : IsAsk p n w.last Nothing b.state = subst (λ (x : Ask). IsAsk p n w.last x b.state) none.1 w.asked in
+      let ah : IsAsk h n at.host_last Nothing a.state = subst (λ x. IsAsk h n at.host_last x a.state) none.0 at.host_asked in
+      let bp : IsAsk p n w.last Nothing b.state = rw none.1 at w.asked in
       let x : IsLike (ticks h p n 0 w0) (world at.host_last w.last c at.events) =
       like_on at.same (alike (rest h p lh lp n 0 at.host_last w.last c at.events (omega (arith, ah.0)) (omega (arith, bp.0)))) in
       record {

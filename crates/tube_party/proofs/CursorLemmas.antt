@@ -1,5 +1,5 @@
 -- The entries of a side, and the chip, one entry at a time.
-use Rattle.std.proofs.Common.{◌≡◌, refl, subst, ℕ, ◌+◌, ◌<◌, ◌≤◌, List, [], ◌∷◌, length, drop, get_or, Bool, true, false, ◌&&◌, nat_lt, Option, Some, None, MatchOption}
+use Rattle.std.proofs.Common.{◌≡◌, refl, ℕ, ◌+◌, ◌<◌, ◌≤◌, List, [], ◌∷◌, length, drop, get_or, Bool, true, false, ◌&&◌, nat_lt, Some, None}
 use mathlib.Core.Bool.{beq}
 use Rattle.std.specs.Prelude.{slice_get}
 use Rattle.std.proofs.Common.{eqb, sym}
@@ -36,7 +36,7 @@ get_here trace at d h = slice_get-get_or trace at d h
 
 pub own_at : (trace : List Entry) (side : Side) (n at : ℕ) (d : Entry) → at < length trace → IsOwnAt trace side n at → owned side n (get_or trace at d) ≡ true
 own_at trace side n at d h own =
-    subst (λ (o : Option Entry). MatchOption o (Unit {0}) (λ x. owned side n x ≡ true)) (get_here trace at d h) own
+    rw (get_here trace at d h) at own
 
 -- the chip
 

@@ -13,11 +13,10 @@ use Rattle.tube_chip.specs.Events.{Event, of_side}
 use Rattle.tube_chip.specs.declared.Answer.{Answer}
 use Rattle.beeb_bits.specs.declared.Side.{Side}
 use Rattle.beeb_bits.specs.declared.Side.TheVariants.{Host, Para}
-use Rattle.tube_trace.specs.declared.Entry.{Entry}
 use Rattle.tube_trace.specs.Entries.{accesses}
 use Rattle.tube_party.specs.Moves.{Moves, IsLawful, SeesHirqAlone}
 use Rattle.tube_party.specs.GoingOn.{IsLike}
-use Rattle.tube_party.specs.Reference.{Seat, World, step_leaves, step_if_due, with_host, para_part, tick, ticks}
+use Rattle.tube_party.specs.Reference.{World, step_leaves, step_if_due, with_host, para_part, tick, ticks}
 use Rattle.tube_party.proofs.Ticks.{seat, world, host_done, still, same_or_above, host_here, host_next, para_next, para_silent}
 use Rattle.tube_party.proofs.Runs.{event, Steps, Over, Silent, Asking}
 use Rattle.tube_party.proofs.Kept.{grows}
@@ -34,7 +33,7 @@ abbrev pub SameAccesses : List Event → List Event → Type 0
 SameAccesses l m = (side : Side) → accesses (of_side side l) ≡ accesses (of_side side m)
 
 pub same_after : (l m more : List Event) → SameAccesses l m → SameAccesses (l ++ more) (m ++ more)
-same_after l m more same side = grows side l more ∙ ap (λ (x : List Entry). x ++ accesses (of_side side more)) (same side) ∙ sym (grows side m more)
+same_after l m more same side = grows side l more ∙ ap (λ x. x ++ accesses (of_side side more)) (same side) ∙ sym (grows side m more)
 
 -- an event of each side, in either order
 swapped : (l : List Event) (t u : ℕ) (q r : Query) (a b : Answer) →
@@ -43,13 +42,13 @@ swapped l t u q r a b Host =
     let p : List Event = event t Para q a ∷ [] in
     let h : List Event = event u Host r b ∷ [] in
     grows Host (l ++ p) h
-    ∙ ap (λ (x : List Entry). x ++ accesses (of_side Host h)) (grows Host l p ∙ append-nil (accesses (of_side Host l)))
+    ∙ ap (λ x. x ++ accesses (of_side Host h)) (grows Host l p ∙ append-nil (accesses (of_side Host l)))
     ∙ sym (grows Host (l ++ h) p ∙ append-nil (accesses (of_side Host (l ++ h))) ∙ grows Host l h)
 swapped l t u q r a b Para =
     let p : List Event = event t Para q a ∷ [] in
     let h : List Event = event u Host r b ∷ [] in
     grows Para (l ++ p) h ∙ append-nil (accesses (of_side Para (l ++ p))) ∙ grows Para l p
-    ∙ sym (grows Para (l ++ h) p ∙ ap (λ (x : List Entry). x ++ accesses (of_side Para p)) (grows Para l h ∙ append-nil (accesses (of_side Para l))))
+    ∙ sym (grows Para (l ++ h) p ∙ ap (λ x. x ++ accesses (of_side Para p)) (grows Para l h ∙ append-nil (accesses (of_side Para l))))
 
 -- a look is no access
 pub no_access : (l : List Event) (t : ℕ) (a : Answer) → SameAccesses (l ++ event t Host look a ∷ []) l
@@ -60,11 +59,11 @@ no_access l t a Para = grows Para l (event t Host look a ∷ []) ∙ append-nil 
 look_moved : (l more : List Event) (t : ℕ) (a b : Answer) → SameAccesses ((l ++ more) ++ event t Host look a ∷ []) ((l ++ event t Host look b ∷ []) ++ more)
 look_moved l more t a b side =
     no_access (l ++ more) t a side ∙ grows side l more
-    ∙ sym (grows side (l ++ event t Host look b ∷ []) more ∙ ap (λ (x : List Entry). x ++ accesses (of_side side more)) (no_access l t b side))
+    ∙ sym (grows side (l ++ event t Host look b ∷ []) more ∙ ap (λ x. x ++ accesses (of_side side more)) (no_access l t b side))
 
 -- a chip that enables no request of the host makes none, and nothing that the parasite does enables one
 none_asked : (c : State) → c.flags.q ≡ false → (lines_of c).hirq ≡ false
-none_asked c off = ap (λ (b : Bool). b && not (is_empty c.to_host.r4)) off
+none_asked c off = ap (λ b. b && not (is_empty c.to_host.r4)) off
 
 para_leaves_off : (c : State) (q : Query) → c.flags.q ≡ false → (act c Para q).0.flags.q ≡ false
 para_leaves_off c look off = off
@@ -112,9 +111,9 @@ module _ {S T : Type 0} (h : Moves S) (p : Moves T) (lh : IsLawful h) (lp : IsLa
         chip = y.chip;
         more = x.more ++ y.more;
         is = λ l.
-            ap (λ (z : Seat S). para_part p k z t) (x.is l)
-            ∙ ap (λ (z : Seat T). with_host x.state z) (y.is (l ++ x.more))
-            ∙ ap (λ (z : List Event). world x.state y.state y.chip z) (append_assoc l x.more y.more);
+            ap (λ z. para_part p k z t) (x.is l)
+            ∙ ap (λ z. with_host x.state z) (y.is (l ++ x.more))
+            ∙ ap (λ z. world x.state y.state y.chip z) (append_assoc l x.more y.more);
       }
 
   pub like_ticks : (j k : ℕ) (s : S) (t : T) (c : State) (l m : List Event) → SameAccesses l m
@@ -123,8 +122,8 @@ module _ {S T : Type 0} (h : Moves S) (p : Moves T) (lh : IsLawful h) (lp : IsLa
   like_ticks (suc j) k s t c l m same =
       let x = tick_form k s t c in
       let on = like_ticks j (k + 1) x.host x.para x.chip (l ++ x.more) (m ++ x.more) (same_after l m x.more same) in
-      like_on (alike (ap (λ (w : World S T). ticks h p j (k + 1) w) (x.is l)))
-      (like_on on (alike (sym (ap (λ (w : World S T). ticks h p j (k + 1) w) (x.is m)))))
+      like_on (alike (ap (λ w. ticks h p j (k + 1) w) (x.is l)))
+      (like_on on (alike (sym (ap (λ w. ticks h p j (k + 1) w) (x.is m)))))
 
   -- what the parasite's part of a tick leaves enables no request either
   still_off : (k : ℕ) (t : T) (c : State) (due : Bool) (o : Option Query) (d : nat_eq (p.due t) k ≡ due) (q : p.asks t ≡ o) → c.flags.q ≡ false
@@ -141,7 +140,7 @@ module _ {S T : Type 0} (h : Moves S) (p : Moves T) (lh : IsLawful h) (lp : IsLa
       elim (same_or_above (h.due s) k lo) [
         | inl e ↦
             alike (host_here h p lh lp j k s t c l e
-            ∙ ap (λ (o : Option Query). ticks h p (suc j) k (host_done (step_leaves h Host (seat s c l) o) t)) asks)
+            ∙ ap (λ o. ticks h p (suc j) k (host_done (step_leaves h Host (seat s c l) o) t)) asks)
         | inr up ↦
             let a : Answer = Seen (lines_of c) in
             let onto : S = h.next s (Some a) in
@@ -151,13 +150,13 @@ module _ {S T : Type 0} (h : Moves S) (p : Moves T) (lh : IsLawful h) (lp : IsLa
             let off_on : f.chip.flags.q ≡ false = still_off k t c (nat_eq (p.due t) k) (p.asks t) refl refl off in
             let on : (z : S) (m : List Event) → k < h.due z
             → ticks h p (suc j) k (world z t c m) ≡ ticks h p j (k + 1) (world z f.state f.chip (m ++ f.more)) = λ z m ne.
-            ap (λ (x : Seat S). ticks h p j (k + 1) (para_part p k x t)) (still h Host k (seat z c m) ne)
-            ∙ ap (λ (y : Seat T). ticks h p j (k + 1) (with_host z y)) (f.is m) in
+            ap (λ x. ticks h p j (k + 1) (para_part p k x t)) (still h Host k (seat z c m) ne)
+            ∙ ap (λ y. ticks h p j (k + 1) (with_host z y)) (f.is m) in
             let same : h.next s (Some b) ≡ onto = sees s (lines_of f.chip) (lines_of c) (none_asked f.chip off_on ∙ sym (none_asked c off)) in
             like_on (alike (on s l up))
             (like_on (look_at j (k + 1) s f.state f.chip (l ++ f.more) sees off_on (omega arith) (omega arith) asks)
             (like_on
-            (alike (ap (λ (z : S). ticks h p j (k + 1) (world z f.state f.chip ((l ++ f.more) ++ event (h.due s) Host look b ∷ []))) same))
+            (alike (ap (λ z. ticks h p j (k + 1) (world z f.state f.chip ((l ++ f.more) ++ event (h.due s) Host look b ∷ []))) same))
             (like_on (like_ticks j (k + 1) onto f.state f.chip ((l ++ f.more) ++ event (h.due s) Host look b ∷ [])
             ((l ++ event (h.due s) Host look a ∷ []) ++ f.more) (look_moved l f.more (h.due s) b a))
             (alike (sym (on onto (l ++ event (h.due s) Host look a ∷ []) (omega arith)))))))

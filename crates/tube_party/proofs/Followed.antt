@@ -1,5 +1,5 @@
 -- The reference run's parties follow their sides of its list.
-use Rattle.std.proofs.Common.{ℕ, zero, suc, ◌≡◌, ◌+◌, ◌<◌, ◌≤◌, inl, inr, refl, sym, ◌∙◌, ap, subst, arith, Bool, true, false, if◌then◌else◌, List, [], ◌∷◌, ◌++◌, Option, None, Some}
+use Rattle.std.proofs.Common.{ℕ, zero, suc, ◌≡◌, ◌+◌, ◌<◌, ◌≤◌, inl, inr, refl, sym, ◌∙◌, ap, subst, arith, true, false, if◌then◌else◌, List, [], ◌∷◌, ◌++◌, Option, None, Some}
 use Rattle.std.specs.Prelude.{All, IsTrue}
 use Rattle.std.proofs.lemmas.List.{append-nil}
 use Rattle.std.proofs.lemmas.List.Elements.{All-nil}
@@ -25,13 +25,13 @@ side_self Para = refl
 own_event : (side : Side) (l : List Event) (e : Event) → e.side ≡ side → of_side side (l ++ e ∷ []) ≡ of_side side l ++ e ∷ []
 own_event side l e is =
     of_side-append side l (e ∷ [])
-    ∙ ap (λ (b : Bool). of_side side l ++ (if b then e ∷ [] else [])) (ap (is_side side) is ∙ side_self side)
+    ∙ ap (λ b. of_side side l ++ (if b then e ∷ [] else [])) (ap (is_side side) is ∙ side_self side)
 
 -- and leaves the other's
 other_event : (side : Side) (l : List Event) (e : Event) → is_side side e.side ≡ false → of_side side (l ++ e ∷ []) ≡ of_side side l
 other_event side l e is =
     of_side-append side l (e ∷ [])
-    ∙ ap (λ (b : Bool). of_side side l ++ (if b then e ∷ [] else [])) is
+    ∙ ap (λ b. of_side side l ++ (if b then e ∷ [] else [])) is
     ∙ append-nil (of_side side l)
 
 -- a side's part of a tick
@@ -60,7 +60,7 @@ module _ {S : Type 0} (m : Moves S) (lm : IsLawful m) (side : Side) (n : ℕ) (s
       record {
         runs = rw (own_event side x.list e refl) (steps_append m side n n (omega arith) runs (Asking q a (omega arith) is Over));
         due = omega arith;
-        listed = subst (λ (t : ℕ). Listed i to (act x.chip side q).0 (x.list ++ event t side q a ∷ [])) (sym here) (listed_more k i side to x.chip x.list q on listed);
+        listed = rw here (listed_more k i side to x.chip x.list q on listed);
         other = λ o ne. other_event o x.list e ne;
       }
 
@@ -98,14 +98,14 @@ module _ {S T : Type 0} (h : Moves S) (p : Moves T) (lh : IsLawful h) (lp : IsLa
       }
 
   all_ticks : (j k : ℕ) (w : World S T) → k + j ≤ n → SoFar k w → SoFar (k + j) (ticks h p j k w)
-  all_ticks zero k w le x = subst (λ (i : ℕ). SoFar i w) (omega arith) x
+  all_ticks zero k w le x = subst (λ i. SoFar i w) (omega arith) x
   all_ticks (suc j) k w le x =
-      subst (λ (i : ℕ). SoFar i (ticks h p j (k + 1) (tick h p k w))) (omega arith)
+      subst (λ i. SoFar i (ticks h p j (k + 1) (tick h p k w))) (omega arith)
       (all_ticks j (k + 1) (tick h p k w) (omega arith) (one_tick k w (omega arith) x))
 
   pub so_far : SoFar n (ticks h p n 0 (start s t))
   so_far =
-      subst (λ (i : ℕ). SoFar i (ticks h p n 0 (start s t))) (omega arith)
+      subst (λ i. SoFar i (ticks h p n 0 (start s t))) (omega arith)
       (all_ticks n 0 (start s t) (omega arith)
       (record {
         host_runs = Over;

@@ -30,11 +30,11 @@ entry t side op a = record { tick = record { 0 = t }; side = side; op = op; answ
 
 -- the entries of numbered ones
 abbrev pub entries : List Numbered → List Entry
-entries own = map (λ (x : Numbered). x.entry) own
+entries own = map (λ x. x.entry) own
 
 -- they are the side's
 abbrev pub AreOf : Side → List Numbered → Type 0
-AreOf side own = All (λ (x : Numbered). x.entry.side ≡ side) own
+AreOf side own = All (λ x. x.entry.side ≡ side) own
 
 same_side : (a b : Side) → is_side a b ≡ true → b ≡ a
 same_side Host Host e = refl
@@ -51,20 +51,20 @@ own_by : (side : Side) (n line : ℕ) (x : Entry) (trace : List Entry) (b : Bool
     → (entries (own_from side n (line + 1) trace) ≡ own_below side n trace) × AreOf side (own_from side n (line + 1) trace)
     → (entries (own_from side n line (x ∷ trace)) ≡ own_below side n (x ∷ trace)) × AreOf side (own_from side n line (x ∷ trace))
 own_by side n line x trace true is on =
-    rw is (ap (λ (l : List Entry). x ∷ l) on.0, All-cons (λ (y : Numbered). y.entry.side ≡ side) _ _ (same_side side x.side (both_true _ _ is).0) on.1)
+    rw is (ap (λ l. x ∷ l) on.0, All-cons (λ y. y.entry.side ≡ side) _ _ (same_side side x.side (both_true _ _ is).0) on.1)
 own_by side n line x trace false is on = rw is on
 
 pub own_entries : (side : Side) (n line : ℕ) (trace : List Entry) → (entries (own_from side n line trace) ≡ own_below side n trace) × AreOf side (own_from side n line trace)
-own_entries side n line [] = (refl, All-nil (λ (y : Numbered). y.entry.side ≡ side))
+own_entries side n line [] = (refl, All-nil (λ y. y.entry.side ≡ side))
 own_entries side n line (x ∷ trace) = own_by side n line x trace _ refl (own_entries side n (line + 1) trace)
 
 same_by_op : (a b : Op) → same_op a b ≡ true → a ≡ b
-same_by_op (Read r) (Read q) e = let same : r ≡ q = grind (arith, nat_tests) in ap (λ (x : ℕ). Read x) same
+same_by_op (Read r) (Read q) e = let same : r ≡ q = grind (arith, nat_tests) in ap (λ x. Read x) same
 same_by_op (Write r v) (Write q w) e =
     let same = both_true (r == q) (v == w) e in
     let one : r ≡ q = let t : (r == q) ≡ true = same.0 in grind (arith, nat_tests) in
     let two : v ≡ w = let t : (v == w) ≡ true = same.1 in grind (arith, nat_tests) in
-    ap (λ (x : ℕ). Write x v) one ∙ ap (λ (x : ℕ). Write q x) two
+    ap (λ x. Write x v) one ∙ ap (λ x. Write q x) two
 same_by_op Reset Reset e = refl
 same_by_op (Read r) (Write q w) e = cc
 same_by_op (Read r) Reset e = cc
@@ -84,9 +84,9 @@ same_entry x t side op is on =
     let parts = both_true ((x.tick).0 == t) (same_op x.op op) is in
     let tick : (x.tick).0 ≡ t = let e : ((x.tick).0 == t) ≡ true = parts.0 in grind (arith, nat_tests) in
     sym (
-    ap (λ (n : ℕ). entry n x.side x.op x.answer) tick
-    ∙ ap (λ (y : Side). entry t y x.op x.answer) on
-    ∙ ap (λ (o : Op). entry t side o x.answer) (same_by_op x.op op parts.1))
+    ap (λ n. entry n x.side x.op x.answer) tick
+    ∙ ap (λ y. entry t y x.op x.answer) on
+    ∙ ap (λ o. entry t side o x.answer) (same_by_op x.op op parts.1))
 
 that_entry : (t : ℕ) (side : Side) (op : Op) (a : ℕ) → is_that (entry t side op a) t op ≡ true
 that_entry t side op a = let same : same_op op op ≡ true = op_same op in grind (arith, nat_tests)
@@ -136,8 +136,8 @@ first_of_own t side op b rest (x ∷ own) e =
       next = x;
       others = own;
       split = refl;
-      that = ap (λ (y : Entry). is_that y t op) head ∙ that_entry t side op b;
-      answer = ap (λ (y : Entry). y.answer) head;
+      that = ap (λ y. is_that y t op) head ∙ that_entry t side op b;
+      answer = ap (λ y. y.answer) head;
       rest_is = tail;
     }
 
@@ -211,10 +211,10 @@ module _ {S : Type 0} (m : Moves S) (lawful : IsLawful m) (side : Side) (trace :
         answered = All-cons Told done c.events tt c.answered;
         agreed = x ∷ c.agreed;
         left = c.left;
-        own_is = ap (λ (l : List Numbered). x ∷ l) c.own_is;
+        own_is = ap (λ l. x ∷ l) c.own_is;
         agrees =
-            ap (λ (l : List Entry). entry (m.due s) side op x.entry.answer ∷ l) c.agrees
-            ∙ ap (λ (y : Entry). y ∷ entries c.agreed) (same_entry x.entry (m.due s) side op that of);
+            ap (λ l. entry (m.due s) side op x.entry.answer ∷ l) c.agrees
+            ∙ ap (λ y. y ∷ entries c.agreed) (same_entry x.entry (m.due s) side op that of);
         ends = c.ends;
       }
 
@@ -239,8 +239,8 @@ module _ {S : Type 0} (m : Moves S) (lawful : IsLawful m) (side : Side) (trace :
       comes_look low is refl (on (m.next s (Some a)) own of same (lawful.rises s (Some a)))
   comes_step s [] e go (Some (access op)) is low of on same = comes_here (Parts op (length trace + 1) low is refl same)
   comes_step s (x ∷ own) e go (Some (access op)) is low of on same =
-      comes_test s x own e op go _ refl low is (All-head (λ (y : Numbered). y.entry.side ≡ side) x own of)
-      (λ u. on u own (All-tail (λ (y : Numbered). y.entry.side ≡ side) x own of)) same
+      comes_test s x own e op go _ refl low is (All-head (λ y. y.entry.side ≡ side) x own of)
+      (λ u. on u own (All-tail (λ y. y.entry.side ≡ side) x own of)) same
 
   comes : (k : ℕ) (s : S) (own : List Numbered) (e : Ended S) → n ≤ m.due s + k → AreOf side own → e ≡ replay_from m side trace n k s own → Comes s own e
   comes zero s own e enough of same = comes_here (Finishes (omega arith) same)
@@ -263,17 +263,17 @@ module _ {S : Type 0} (m : Moves S) (lawful : IsLawful m) (side : Side) (trace :
       → replay_of m side trace n s ≡ ending ended → FollowsTrace m side trace n s ended
   follows_by s ended c (Finishes over same) e =
       let ends : ending ended ≡ finish_leaves m n c.last c.left = sym e ∙ same in
-      let none : c.left ≡ [] = no_line c.left (sym (ap (λ (y : Ended S). y.place) ends)) in
+      let none : c.left ≡ [] = no_line c.left (sym (ap (λ y. y.place) ends)) in
       let runs = runs_of m side n c.runs in
-      let all : own_from side n 1 trace ≡ c.agreed = c.own_is ∙ ap (λ (l : List Numbered). c.agreed ++ l) none ∙ append-nil c.agreed in
+      let all : own_from side n 1 trace ≡ c.agreed = c.own_is ∙ ap (λ l. c.agreed ++ l) none ∙ append-nil c.agreed in
       record {
         events = c.events;
-        follows = record { steps = runs.0; last = c.last; runs = runs.1; over = over; ends = ap (λ (y : Ended S). y.machine) ends };
+        follows = record { steps = runs.0; last = c.last; runs = runs.1; over = over; ends = ap (λ y. y.machine) ends };
         own = c.agrees ∙ sym (ap entries all) ∙ (own_entries side n 1 trace).0;
         answered = c.answered;
       }
   follows_by s ended c (Parts op line low asks misses same) e =
-      differs_not (line, Some (doing_of (m.due c.last) side op)) (sym (ap (λ (y : Ended S). y.place) (sym e ∙ same)))
+      differs_not (line, Some (doing_of (m.due c.last) side op)) (sym (ap (λ y. y.place) (sym e ∙ same)))
 
   -- with a place, they differ there
 
@@ -285,14 +285,14 @@ module _ {S : Type 0} (m : Moves S) (lawful : IsLawful m) (side : Side) (trace :
 
   difference_by : (last stopped : S) (left : List Numbered) (e : Ended S) (line : ℕ) (what : Option Doing) → Ending last left e → At stopped e line what → Whole last left line what stopped
   difference_by last stopped left e line what (Finishes over same) at =
-      let place : next_line left ≡ Some (line, what) = ap (λ (y : Ended S). y.place) (sym same ∙ at) in
+      let place : next_line left ≡ Some (line, what) = ap (λ y. y.place) (sym same ∙ at) in
       let nothing : what ≡ None = sym (ap told_of place) ∙ nothing_told left in
-      subst (λ (w : Option Doing). Whole last left line w stopped) (sym nothing)
-      (over, place ∙ ap (λ (w : Option Doing). Some (line, w)) nothing, ap (λ (y : Ended S). y.machine) (sym at ∙ same))
+      subst (λ w. Whole last left line w stopped) (sym nothing)
+      (over, place ∙ ap (λ w. Some (line, w)) nothing, ap (λ y. y.machine) (sym at ∙ same))
   difference_by last stopped left e line what (Parts op l low asks misses same) at =
-      let place : Some (l, Some (doing_of (m.due last) side op)) ≡ Some (line, what) = ap (λ (y : Ended S). y.place) (sym same ∙ at) in
-      subst (λ (w : Option Doing). Whole last left line w stopped) (ap told_of place)
-      (op, low, asks, refl, subst (λ (i : ℕ). Misses left (length trace) (m.due last) op i) (ap line_of place) misses, ap (λ (y : Ended S). y.machine) (sym at ∙ same))
+      let place : Some (l, Some (doing_of (m.due last) side op)) ≡ Some (line, what) = ap (λ y. y.place) (sym same ∙ at) in
+      subst (λ w. Whole last left line w stopped) (ap told_of place)
+      (op, low, asks, refl, rw (ap line_of place) at misses, ap (λ y. y.machine) (sym at ∙ same))
 
   differs_of : (s stopped : S) (line : ℕ) (what : Option Doing) → At stopped (replay_of m side trace n s) line what → DiffersAt m side trace n s (difference line what stopped)
   differs_of s stopped line what at =
@@ -316,7 +316,7 @@ module _ {S : Type 0} (m : Moves S) (lawful : IsLawful m) (side : Side) (trace :
   takes_all : {last s : S} {events : List Event} {own : List Numbered} (agreed left : List Numbered) {whole : Ended S} → Goes m side trace n whole s own
       → own ≡ agreed ++ left → accesses events ≡ entries agreed → Answered events → Steps m side n last s events → Goes m side trace n whole last left
   takes_all {last = last} agreed left {whole} goes own_is agrees answered Over =
-      subst (Goes m side trace n whole last) (own_is ∙ ap (λ (l : List Numbered). l ++ left) (entries_none agreed agrees)) goes
+      subst (Goes m side trace n whole last) (own_is ∙ ap (λ l. l ++ left) (entries_none agreed agrees)) goes
   takes_all agreed left goes own_is agrees answered (Silent low none on) = takes_all agreed left (goes_none goes lawful low none) own_is agrees answered on
   takes_all agreed left goes own_is agrees answered (Asking {s = s} {others = others} look a low is on) =
       let told = All-head Told (event (m.due s) side look a) others answered in
@@ -325,7 +325,7 @@ module _ {S : Type 0} (m : Moves S) (lawful : IsLawful m) (side : Side) (trace :
       absurd (All-head Told (event (m.due s) side (access op) (Seen l)) others answered)
   takes_all agreed left goes own_is agrees answered (Asking {s = s} {others = others} (access op) (Byte b) low is on) =
       let first = first_of_own (m.due s) side op b (accesses others) agreed agrees in
-      let split = own_is ∙ ap (λ (l : List Numbered). l ++ left) first.split in
+      let split = own_is ∙ ap (λ l. l ++ left) first.split in
       takes_all first.others left
       (goes_access goes lawful (first.others ++ left) op b low is (record { next = first.next; split = split; that = first.that; answer = first.answer }))
       refl first.rest_is (All-tail Told (event (m.due s) side (access op) (Byte b)) others answered) on
@@ -341,12 +341,12 @@ module _ {S : Type 0} (m : Moves S) (lawful : IsLawful m) (side : Side) (trace :
       → At stopped whole line what
   place_by whole last stopped left line None goes d =
       goes_end goes d.0
-      ∙ ap (λ (x : S). record { machine = x; place = next_line left }) (sym d.2)
-      ∙ ap (λ (o : Option (ℕ × Option Doing)). record { machine = stopped; place = o }) d.1
+      ∙ ap (λ x. record { machine = x; place = next_line left }) (sym d.2)
+      ∙ ap (λ o. record { machine = stopped; place = o }) d.1
   place_by whole last stopped left line (Some doings) goes d =
       goes_differs goes d.0 line d.1 d.2 d.4
-      ∙ ap (λ (x : S). record { machine = x; place = Some (line, Some (doing_of (m.due last) side d.0)) }) (sym d.5)
-      ∙ ap (λ (x : Doing). record { machine = stopped; place = Some (line, Some x) }) (sym d.3)
+      ∙ ap (λ x. record { machine = x; place = Some (line, Some (doing_of (m.due last) side d.0)) }) (sym d.5)
+      ∙ ap (λ x. record { machine = stopped; place = Some (line, Some x) }) (sym d.3)
 
   place_of : (s stopped : S) (line : ℕ) (what : Option Doing) → DiffersAt m side trace n s (difference line what stopped) → At stopped (replay_of m side trace n s) line what
   place_of s stopped line what d =

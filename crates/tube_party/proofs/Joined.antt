@@ -31,7 +31,7 @@ own_other side x trace is = rw is refl
 
 pub accesses_events : (xs : List Entry) → accesses (events_of xs) ≡ xs
 accesses_events [] = refl
-accesses_events (x ∷ xs) = ap (λ (l : List Entry). x ∷ l) (accesses_events xs)
+accesses_events (x ∷ xs) = ap (λ l. x ∷ l) (accesses_events xs)
 
 -- Events of one side, each before the next, whose accesses are the side's entries of a trace, and whose looks it answers, from chip c on.
 pub record IsPart (side : Side) (c : State) (trace : List Entry) (l : List Event) : Type 0 where
@@ -60,7 +60,7 @@ ahead_of_accesses x l all = placed (λ t side. IsTrue (before x.tick x.side t si
 -- an entry comes before all that stand behind it
 behind_entry : (e : Entry) (trace : List Entry) → RisesAfter (event_of e) (events_of trace) → All (IsAhead (event_of e)) trace
 behind_entry e trace rises =
-    subst (λ (l : List Entry). All (IsAhead (event_of e)) l) (accesses_events trace) (ahead_of_accesses (event_of e) (events_of trace) (all_after (event_of e) (events_of trace) rises))
+    rw (accesses_events trace) at (ahead_of_accesses (event_of e) (events_of trace) (all_after (event_of e) (events_of trace) rises))
 
 -- a look before all entries sees the chip as it is
 chip_stays : (x : Event) (c : State) (trace : List Entry) → IsAheadOf x trace → chip_before x.side x.tick c trace ≡ c
@@ -96,8 +96,8 @@ module _ (one other : Side) (apart : is_side one other ≡ false) (back : is_sid
       let x : Event = event t side (access op) (Byte b) in
       let d : State = (act c side (access op)).0 in
       let trace : List Entry = entry_of t side (access op) (Byte b) ++ rest in
-      let both : All (λ (f : Event). IsBefore x f × On c trace f) l = λ k e low. (later k e low, told k e low) in
-      All-weaker (λ (f : Event). IsBefore x f × On c trace f) (On d rest)
+      let both : All (λ f. IsBefore x f × On c trace f) l = λ k e low. (later k e low, told k e low) in
+      All-weaker (λ f. IsBefore x f × On c trace f) (On d rest)
       (λ f h. tail_by d c rest trace f.tick f.side f.query f.answer (sym (does f h.0)) h.1) l both
     where
       does : (f : Event) → IsTrue (before t side f.tick f.side) →
@@ -150,7 +150,7 @@ module _ (one other : Side) (apart : is_side one other ≡ false) (back : is_sid
         told = All-tail (On c trace) x l part.told;
       })
       other_part legal in
-      record { answered = (sym (here ∙ ap (λ (d : State). Seen (lines_of d)) still), on.answered); same = on.same; chip = on.chip }
+      record { answered = (sym (here ∙ ap (λ d. Seen (lines_of d)) still), on.answered); same = on.same; chip = on.chip }
   step c t side (access op) (Seen s) trace l m others part other_part am legal then =
       absurd (All-head (On c trace) (event t side (access op) (Seen s)) l part.told)
   step c t side (access op) (Byte b) [] l m others part other_part am legal then = let no = part.own_is in cc
@@ -169,7 +169,7 @@ module _ (one other : Side) (apart : is_side one other ≡ false) (back : is_sid
             let ahead : IsAhead x e = head_holds (IsAhead x) other e rest m there other_part.own_is (ahead_of_accesses x m am) in
             let same : first ∷ accesses l ≡ own one rest = part.own_is ∙ own_other one e rest (ap (is_side one) there ∙ apart) in
             let late : All (IsAhead (event_of e)) (own one rest) =
-            All-filter (λ (y : Entry). is_side one y.side) (IsAhead (event_of e)) rest (behind_entry e rest legal.rises) in
+            All-filter (λ y. is_side one y.side) (IsAhead (event_of e)) rest (behind_entry e rest legal.rises) in
             absurd (not_both t (e.tick).0 side e.side ahead (All-head (IsAhead (event_of e)) first (accesses l) (subst (All (IsAhead (event_of e))) (sym same) late)))
       ]
 
@@ -222,7 +222,7 @@ para_joins bound joins c trace y a b low other part am legal =
 joins_by : (bound : ℕ) → Joins bound → Joins (suc bound)
 joins_by bound joins c trace [] [] low host para legal =
     let none : trace ≡ [] = no_entries trace host.own_is para.own_is in
-    record { answered = tt; same = sym none; chip = ap (λ (l : List Entry). after_from c (events_of l)) (sym none) }
+    record { answered = tt; same = sym none; chip = ap (λ l. after_from c (events_of l)) (sym none) }
 joins_by bound joins c trace (x ∷ a) [] low host para legal = host_joins bound joins c trace x a [] (omega arith) host para (All-nil (IsBefore x)) legal
 joins_by bound joins c trace [] (y ∷ b) low host para legal = para_joins bound joins c trace y [] b (omega arith) host para (All-nil (IsBefore y)) legal
 joins_by bound joins c trace (x ∷ a) (y ∷ b) low host para legal =
@@ -253,15 +253,15 @@ pub record IsLine (side : Side) (t : ℕ) (l : List Event) : Type 0 where
 rises_from : (t u : ℕ) (side : Side) (q : Query) (a : Answer) (l : List Event) → t < u → All (λ (e : Event). u ≤ e.tick) l → Rises l → RisesAfter (event t side q a) l
 rises_from t u side q a [] lt from rises = tt
 rises_from t u side q a (f ∷ l) lt from rises =
-    let low : u ≤ f.tick = All-head (λ (e : Event). u ≤ e.tick) f l from in
+    let low : u ≤ f.tick = All-head (λ e. u ≤ e.tick) f l from in
     (ahead_below t f.tick side f.side (omega arith), rises)
 
 line_on : (side : Side) (t u : ℕ) (l : List Event) → t ≤ u → IsLine side u l → IsLine side t l
-line_on side t u l le x = record { rises = x.rises; each = x.each; from = All-weaker (λ (e : Event). u ≤ e.tick) (λ (e : Event). t ≤ e.tick) (λ e h. omega arith) l x.from }
+line_on side t u l le x = record { rises = x.rises; each = x.each; from = All-weaker (λ e. u ≤ e.tick) (λ e. t ≤ e.tick) (λ e h. omega arith) l x.from }
 
 module _ {S : Type 0} (m : Moves S) (lawful : IsLawful m) (side : Side) (n : ℕ) where
   pub line_of_runs : {last s : S} {events : List Event} → Steps m side n last s events → IsLine side (m.due s) events
-  line_of_runs {last} Over = record { rises = tt; each = All-nil (IsOf side); from = All-nil (λ (e : Event). m.due last ≤ e.tick) }
+  line_of_runs {last} Over = record { rises = tt; each = All-nil (IsOf side); from = All-nil (λ e. m.due last ≤ e.tick) }
   line_of_runs (Silent {s = s} {events = events} low none on) =
       let up = lawful.rises s None in line_on side (m.due s) (m.due (m.next s None)) events (omega arith) (line_of_runs on)
   line_of_runs (Asking {s = s} {others = others} q a low is on) =
@@ -272,5 +272,5 @@ module _ {S : Type 0} (m : Moves S) (lawful : IsLawful m) (side : Side) (n : ℕ
       record {
         rises = rises_from (m.due s) (m.due (m.next s (Some a))) side q a others up more.from more.rises;
         each = All-cons (IsOf side) e others refl line.each;
-        from = All-cons (λ (x : Event). m.due s ≤ x.tick) e others (let d : ℕ = m.due s in omega arith) line.from;
+        from = All-cons (λ x. m.due s ≤ x.tick) e others (let d : ℕ = m.due s in omega arith) line.from;
       }

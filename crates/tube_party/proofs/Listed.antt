@@ -72,7 +72,7 @@ listed_more k i side to c l q le x =
     let on : Listed i to c l = listed_on k i side to c l le x in
     record {
       rises = rises-push l e x.rises x.earlier;
-      answered = answered-push power_on l e x.answered (ap (λ (d : State). (act d side q).1) (sym x.chip));
-      chip = ap (λ (d : State). (act d side q).0) x.chip ∙ sym (after-push power_on l e);
+      answered = answered-push power_on l e x.answered (ap (λ d. (act d side q).1) (sym x.chip));
+      chip = ap (λ d. (act d side q).0) x.chip ∙ sym (after-push power_on l e);
       earlier = All-push (IsEarlier i to) l e on.earlier le;
     }

@@ -1,5 +1,5 @@
 -- Two parties whose steps use up a merge that the chip answers leave what the reference leaves.
-use Rattle.std.proofs.Common.{ℕ, ◌≡◌, ◌<◌, ◌≤◌, ◌⊎◌, inl, inr, refl, sym, ◌∙◌, ap, arith, List, [], ◌∷◌, ◌++◌, Option, Some}
+use Rattle.std.proofs.Common.{ℕ, ◌≡◌, ◌<◌, ◌≤◌, ◌⊎◌, inl, inr, refl, sym, ◌∙◌, ap, arith, List, [], ◌∷◌, ◌++◌, Some}
 use Rattle.std.proofs.lemmas.Bool.{lt-ltb, le-ltb}
 use Rattle.std.proofs.lemmas.List.{append-nil}
 use Rattle.std.proofs.Math.Seq.{append_snoc}
@@ -32,8 +32,8 @@ module _ {S T : Type 0} (h : Moves S) (p : Moves T) (lh : IsLawful h) (lp : IsLa
       → Goes s t c l (event (h.due s) Host q a ∷ others)
   host_event s t c l q a others lt first is answered on =
       host_next h p lh lp n 0 s t c l (omega arith) (omega arith) first
-      ∙ ap (λ (o : Option Query). ticks h p n 0 (host_done (step_leaves h Host (seat s c l) o) t)) is
-      ∙ ap (λ (x : Answer). ticks h p n 0 (world (h.next s (Some x)) t (act c Host q).0 (l ++ event (h.due s) Host q x ∷ []))) answered.0
+      ∙ ap (λ o. ticks h p n 0 (host_done (step_leaves h Host (seat s c l) o) t)) is
+      ∙ ap (λ x. ticks h p n 0 (world (h.next s (Some x)) t (act c Host q).0 (l ++ event (h.due s) Host q x ∷ []))) answered.0
       ∙ on answered.1
       ∙ ap (world m v (after_from (act c Host q).0 others)) (append_snoc l (event (h.due s) Host q a) others)
 
@@ -44,8 +44,8 @@ module _ {S T : Type 0} (h : Moves S) (p : Moves T) (lh : IsLawful h) (lp : IsLa
       → Goes s t c l (event (p.due t) Para q a ∷ others)
   para_event s t c l q a others lt first is answered on =
       para_next h p lh lp n 0 s t c l (omega arith) (omega arith) first
-      ∙ ap (λ (o : Option Query). ticks h p n 0 (with_host s (step_leaves p Para (seat t c l) o))) is
-      ∙ ap (λ (x : Answer). ticks h p n 0 (world s (p.next t (Some x)) (act c Para q).0 (l ++ event (p.due t) Para q x ∷ []))) answered.0
+      ∙ ap (λ o. ticks h p n 0 (with_host s (step_leaves p Para (seat t c l) o))) is
+      ∙ ap (λ x. ticks h p n 0 (world s (p.next t (Some x)) (act c Para q).0 (l ++ event (p.due t) Para q x ∷ []))) answered.0
       ∙ on answered.1
       ∙ ap (world m v (after_from (act c Para q).0 others)) (append_snoc l (event (p.due t) Para q a) others)
 

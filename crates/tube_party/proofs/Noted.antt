@@ -1,5 +1,5 @@
 -- What is kept of the accesses that were made before a run goes on.
-use Rattle.std.proofs.Common.{ℕ, ◌≡◌, ◌+◌, ◌<◌, ◌≤◌, sym, ◌∙◌, ap, subst, arith, Bool, true, false, if◌then◌else◌, List, [], ◌∷◌, ◌++◌, length, take, get_or}
+use Rattle.std.proofs.Common.{ℕ, ◌≡◌, ◌+◌, ◌<◌, ◌≤◌, sym, ◌∙◌, ap, arith, Bool, true, false, if◌then◌else◌, List, [], ◌∷◌, ◌++◌, length, take, get_or}
 use Rattle.std.proofs.lemmas.List.{take_more, map-append}
 use Rattle.beeb_bits.specs.declared.Side.{Side}
 use Rattle.tube_chip.specs.State.{State, power_on}
@@ -23,7 +23,7 @@ pub chip_more : (xs : List Entry) (i : ℕ) (d : Entry) (c c2 : State) → i < l
     c2 ≡ (act c (get_or xs i d).side (access (get_or xs i d).op)).0 → c2 ≡ after (events_of (take (i + 1) xs))
 chip_more xs i d c c2 lt so_far is =
     is
-    ∙ ap (λ (x : State). (act x (get_or xs i d).side (access (get_or xs i d).op)).0) so_far
+    ∙ ap (λ x. (act x (get_or xs i d).side (access (get_or xs i d).op)).0) so_far
     ∙ sym (ap after (events_more xs i d lt) ∙ after-push power_on (events_of (take i xs)) (event_of (get_or xs i d)))
 
 pub noted_more : (side : Side) (xs : List Entry) (i keep : ℕ) (d : Entry) (log log2 : Log) → i < length xs →
@@ -34,9 +34,9 @@ noted_more side xs i keep d log log2 lt kept same noted =
     let more : IsKept side (events_of (take i xs) ++ event_of e ∷ []) keep (note_all_leaves keep log.list.items (own_of side e)) (log.count + length (own_of side e)) =
     kept_more (event_of e ∷ []) kept in
     let all : IsKept side (events_of (take (i + 1) xs)) keep (note_all_leaves keep log.list.items (own_of side e)) (log.count + length (own_of side e)) =
-    subst (λ (l : List Event). IsKept side l keep (note_all_leaves keep log.list.items (own_of side e)) (log.count + length (own_of side e))) (sym (events_more xs i d lt)) more in
+    rw (events_more xs i d lt) more in
     record {
-      list_is = noted.list_is ∙ ap (λ (k : ℕ). note_all_leaves k log.list.items (own_of side e)) same ∙ all.list_is;
+      list_is = noted.list_is ∙ ap (λ k. note_all_leaves k log.list.items (own_of side e)) same ∙ all.list_is;
       count_is = noted.count_is ∙ all.count_is;
     }
 
@@ -50,7 +50,7 @@ own_most side e = most_by e (is_side side e.side)
 
 -- with the number to be kept named otherwise
 pub kept_of : {side : Side} {l : List Event} {keep keep2 count : ℕ} {list : List Entry} → keep ≡ keep2 → IsKept side l keep list count → IsKept side l keep2 list count
-kept_of {side = side} {l = l} {count = count} {list = list} e k = subst (λ (x : ℕ). IsKept side l x list count) e k
+kept_of {side = side} {l = l} {count = count} {list = list} e k = rw e at k
 
 pub few_more : (side : Side) (e : Entry) (log log2 : Log) (i : ℕ) → log.count ≤ i → HasNoted (own_of side e) log log2 → log2.count ≤ i + 1
 few_more side e log log2 i few noted = omega (arith, few, noted.count_is, own_most side e)

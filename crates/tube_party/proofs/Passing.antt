@@ -1,7 +1,7 @@
 -- The turns of both parties, with the accesses that are answered in passing.
 use Rattle.std.proofs.Common.{ℕ, ◌≡◌, ◌+◌, ◌<◌, ◌≤◌, ◌⊎◌, inl, inr, Bool, true, false, refl, sym, ◌∙◌, ap, subst, arith, List, [], ◌∷◌, length, take, Some}
 use Rattle.std.proofs.lemmas.Bool.{le-ltb}
-use Rattle.tube_chip.specs.State.{State, Flags, lines_of}
+use Rattle.tube_chip.specs.State.{State, lines_of}
 use Rattle.tube_chip.specs.declared.Lines.{Lines}
 use Rattle.tube_chip.specs.declared.Answer.TheVariants.{Byte}
 use Rattle.tube_chip.specs.declared.Op.{Op}
@@ -38,8 +38,8 @@ still_first t sure op (Look u) early told = rw (le-ltb u.0 t.0 (omega (arith, ea
 behind_is : {S : Type 0} (h : Moves S) (n : ℕ) (s : S) (c : State) (ask : Ask) (q : Query) → IsPending h n s ask → h.asks s ≡ Some q
     → (act c Host q).0 ≡ chip_behind c ask
 behind_is h n s c Nothing q pending asks = absurd pending
-behind_is h n s c (Access t op) q pending asks = let is : q ≡ access op = cc (asks, pending.2) in ap (λ (x : Query). (act c Host x).0) is
-behind_is h n s c (Look t) q pending asks = let is : q ≡ look = cc (asks, pending.2) in ap (λ (x : Query). (act c Host x).0) is
+behind_is h n s c (Access t op) q pending asks = let is : q ≡ access op = cc (asks, pending.2) in ap (λ x. (act c Host x).0) is
+behind_is h n s c (Look t) q pending asks = let is : q ≡ look = cc (asks, pending.2) in ap (λ x. (act c Host x).0) is
 
 -- ---- What an access in passing leaves of both logs
 
@@ -70,9 +70,9 @@ other_stays : (side : Side) {tick : ℕ} {op : Op} {byte : ℕ} {d f : Attended}
 other_stays side {tick} {op} {byte} {d} turn x =
     let noted = noted_in (other side) x in
     let log : Log = log_of (other side) d in
-    let none = ap (λ (z : Side). own_of (other side) (passed_entry z tick op byte)) turn ∙ own_none side tick op byte in
+    let none = ap (λ z. own_of (other side) (passed_entry z tick op byte)) turn ∙ own_none side tick op byte in
     let zero : log.count + 0 ≡ log.count = omega arith in
-    (noted.list_is ∙ ap (note_all_leaves log.keep log.list.items) none, noted.count_is ∙ ap (λ (z : List Entry). log.count + length z) none ∙ zero)
+    (noted.list_is ∙ ap (note_all_leaves log.keep log.list.items) none, noted.count_is ∙ ap (λ z. log.count + length z) none ∙ zero)
 
 -- ---- The parasite reads its status registers in passing
 
@@ -87,31 +87,6 @@ pub record HasRead {T : Type 0} (p : Moves T) (n sure keep : ℕ) (t last : T) (
   pub host_list : e.host.list.items ≡ d.host.list.items
   pub host_count : e.host.count ≡ d.host.count
   pub host_keep : e.host.keep ≡ d.host.keep
-
--- one in front of others
-read_first : {T : Type 0} {p : Moves T} {n sure keep : ℕ} {t at on last : T} {d f e : Attended} → d.turn ≡ Para → d.is_read ≡ true → d.sure ≡ sure → d.para.keep ≡ keep
-    → IsWay p n sure d.chip t at [] → IsAnswered p IsPassed n at d on f → f.chip ≡ d.chip → HasRead p n sure keep on last f e → HasRead p n sure keep t last d e
-read_first {p = p} {n} {sure} {keep} {at = at} {on} {last} {d} {f} turn ahead until kept way answered chip_is more =
-    let passed = answered.answered in
-    let noted = rw turn at passed.para_noted in
-    let count_is : f.para.count ≡ d.para.count + 1 = noted.count_is in
-    let host = other_stays Para turn passed in
-    let x : Entry = passed_entry Para (p.due at) answered.op answered.byte in
-    record {
-      entries = x ∷ more.entries;
-      way = way_on way
-          (way_first answered.below answered.asks answered.goes (omega (arith, passed.early, until)) (passed.reads ahead turn) (rw turn at passed.byte_is)
-          (subst (λ (z : State). IsWay p n sure z on last more.entries) chip_is more.way));
-      chip_is = more.chip_is ∙ chip_is;
-      list_is =
-          more.list_is
-          ∙ ap (λ (z : List Entry). note_all_leaves keep z more.entries) (noted.list_is ∙ ap (λ (z : ℕ). note_leaves z d.para.list.items x) kept);
-      count_is = omega (arith, more.count_is, count_is);
-      keep_is = more.keep_is;
-      host_list = more.host_list ∙ host.0;
-      host_count = more.host_count ∙ host.1;
-      host_keep = more.host_keep ∙ passed.host_noted.keep_is;
-    }
 
 para_reads : {T : Type 0} {p : Moves T} {n sure keep : ℕ} {lines : Lines} {last : T} {e : Attended} {t : T} {d : Attended}
     → lines ≡ lines_of d.chip → d.turn ≡ Para → d.is_read ≡ true → d.sure ≡ sure → d.para.keep ≡ keep
@@ -128,12 +103,27 @@ para_reads same turn ahead until kept (Last looks) =
       host_count = refl;
       host_keep = refl;
     }
-para_reads {d = d} same turn ahead until kept (Next {f = f} looks answered talks) =
+para_reads {p = p} {n} {sure} {keep} {last = last} {d = d} same turn ahead until kept (Next {at = at} {on} {f = f} looks answered talks) =
     let passed = answered.answered in
     let chip_is : f.chip ≡ d.chip = (rw turn at passed.chip_is) ∙ glance_leaves d.chip (access answered.op) (passed.reads ahead turn) in
-    read_first turn ahead until kept (way_of_looks (rw same at looks)) answered chip_is
-    (para_reads (same ∙ ap lines_of (sym chip_is)) (passed.turn_is ∙ turn) (passed.is_read_is ∙ ahead) (passed.sure_is ∙ until)
-    (passed.para_noted.keep_is ∙ kept) talks)
+    let more = para_reads (same ∙ ap lines_of (sym chip_is)) (passed.turn_is ∙ turn) (passed.is_read_is ∙ ahead) (passed.sure_is ∙ until) (passed.para_noted.keep_is ∙ kept) talks in
+    let noted = rw turn at passed.para_noted in
+    let count_is : f.para.count ≡ d.para.count + 1 = noted.count_is in
+    let host = other_stays Para turn passed in
+    let x : Entry = passed_entry Para (p.due at) answered.op answered.byte in
+    record {
+      entries = x ∷ more.entries;
+      way = way_on (way_of_looks (rw same at looks))
+          (way_first answered.below answered.asks answered.goes (omega (arith, passed.early, until)) (passed.reads ahead turn) (rw turn at passed.byte_is)
+          (subst (λ z. IsWay p n sure z on last more.entries) chip_is more.way));
+      chip_is = more.chip_is ∙ chip_is;
+      list_is = more.list_is ∙ ap (λ z. note_all_leaves keep z more.entries) (noted.list_is ∙ ap (λ z. note_leaves z d.para.list.items x) kept);
+      count_is = omega (arith, more.count_is, count_is);
+      keep_is = more.keep_is;
+      host_list = more.host_list ∙ host.0;
+      host_count = more.host_count ∙ host.1;
+      host_keep = more.host_keep ∙ passed.host_noted.keep_is;
+    }
 
 -- an access in passing is a step at the chip
 passed_act : {U : Type 0} {m : Moves U} {n keep : ℕ} {at on : U} {d f : Attended} (side : Side) → d.turn ≡ side → (log_of side d).keep ≡ keep
@@ -145,17 +135,17 @@ passed_act {m = m} {at = at} {d = d} side turn kept answered =
     let is = rw turn at x.byte_is in
     let noted = noted_in side x in
     let entries : own_of side (passed_entry d.turn (m.due at) op answered.byte) ≡ passed_entry side (m.due at) op (answer_of d.chip side op) ∷ [] =
-    ap (λ (z : Side). own_of side (passed_entry z (m.due at) op answered.byte)) turn ∙ own_own side (m.due at) op answered.byte
-    ∙ ap (λ (z : ℕ). passed_entry side (m.due at) op z ∷ []) is in
+    ap (λ z. own_of side (passed_entry z (m.due at) op answered.byte)) turn ∙ own_own side (m.due at) op answered.byte
+    ∙ ap (λ z. passed_entry side (m.due at) op z ∷ []) is in
     record {
       query = access op;
       asks = answered.asks;
-      state_is = answered.goes ∙ ap (λ (z : ℕ). m.next at (Some (Byte z))) is;
+      state_is = answered.goes ∙ ap (λ z. m.next at (Some (Byte z))) is;
       chip_is = rw turn at x.chip_is;
       list_is =
           noted.list_is ∙ ap (note_all_leaves old.keep old.list.items) entries
-          ∙ ap (λ (z : ℕ). note_leaves z old.list.items (passed_entry side (m.due at) op (answer_of d.chip side op))) kept;
-      count_is = noted.count_is ∙ ap (λ (z : List Entry). old.count + length z) entries;
+          ∙ ap (λ z. note_leaves z old.list.items (passed_entry side (m.due at) op (answer_of d.chip side op))) kept;
+      count_is = noted.count_is ∙ ap (λ z. old.count + length z) entries;
     }
 
 -- the host's looks are seen behind it as before
@@ -163,7 +153,7 @@ still_seen : {S : Type 0} (h : Moves S) (sure : ℕ) (ask_p : Ask) {tick : ℕ} 
     → IsSeen h d.chip ask_p sure → IsSeen h f.chip ask_p sure
 still_seen h sure ask_p passed (inl told) = inl told
 still_seen h sure ask_p passed (inr free) =
-    inr (free.0, ap (λ (x : State). x.flags.q) passed.chip_is ∙ ap (λ (x : Flags). x.q) passed.stays.1 ∙ free.1)
+    inr (free.0, ap (λ x. x.flags.q) passed.chip_is ∙ ap (λ x. x.q) passed.stays.1 ∙ free.1)
 
 seen_so : {S : Type 0} (h : Moves S) (c : State) (ask : Ask) (until seen : Tick) → IsSure 1 ask until.0
     → (seen ≡ until) ⊎ (SeesHirqAlone h × (c.flags.q ≡ false)) → IsSeen h c ask seen.0
@@ -208,9 +198,8 @@ module _ {S T : Type 0} (r : Run S T) where
     pub smaller : ticks_left r.n ask_h + rest_of r.p r.n ahead from.state ask_p < left
 
   -- The parasite comes so far with the reference, as long as the host's next step does not come before.
-  record IsAlong (until : ℕ) (s : S) (last : T) (lines : Lines) (ask_h : Ask) (host : Log) (e : Attended) : Type 0 where
-    at : IsAt r ask_h (part_of s host) (part_of last e.para) e.chip
-    paras : IsSides r.keep Para until lines host e
+  abbrev IsAlong : ℕ → S → T → Lines → Ask → Log → Attended → Type 0
+  IsAlong until s last lines ask_h host e = IsAt r ask_h (part_of s host) (part_of last e.para) e.chip × IsSides r.keep Para until lines host e
 
 module _ {S T : Type 0} {r : Run S T} where
   open r use {h, p, lp, n, keep}
@@ -258,39 +247,13 @@ module _ {S T : Type 0} {r : Run S T} where
       (λ _. rw (passed.is_read_is, passed.chip_is) passed.stays)
       told (still_seen h sure ask_p passed seen) (still_sides x passed) asked talks)
 
-  pub host_turn : {until seen : Tick} {ahead : Bool} {from : Mark T} {s s2 s3 : S} {t : T} {lines lines2 : Lines} {ask_h ask_p ask2 : Ask} {d0 d e : Attended}
-      → IsKeptUp r ahead from s t ask_h ask_p lines d0
-      → first_of ask_h ask_p ≡ Some Host
-      → Hears h IsPassed n (shown_lines lines2 seen.0) s2 d ask2 s3 e
-      → Acts h Host d0.host.keep (at_work s d0.chip d0.host) (at_work s2 d.chip d.host)
-      → d.turn ≡ Host → d.sure ≡ until.0 → lines2 ≡ lines_of d.chip → d.host.keep ≡ keep → d.para ≡ d0.para
-      → (d.is_read ≡ false → ahead ≡ true → d0.para.count ≡ from.count)
-      → (ahead ≡ true → StaysSeen d.is_read d0.chip (chip_behind d0.chip ask_h))
-      → IsSure 1 ask_p until.0 → (seen ≡ until) ⊎ (SeesHirqAlone h × (d.chip.flags.q ≡ false))
-      → IsOver r (ticks_left n ask_h + rest_of p n ahead from.state ask_p) ahead from s3 t ask2 ask_p lines2 e
-  host_turn {until} {seen} {s = s} {t = t} {ask_h = ask_h} {ask_p} {d0 = d0} {d} k first hears acts turn until_is lines_is host_keep para none stays told free =
-      let w = k.way in
-      let f = host_first h p n s w.at.host_last t w.last ask_h ask_p w.at.host_asked w.asked first in
-      let is : chip_behind d0.chip ask_h ≡ d.chip = sym (acts.chip_is ∙ behind_is h n s d0.chip ask_h acts.query f.pending acts.asks) in
-      host_passes {log = d0.para} w first (rw k.host_keep at acts) none (λ b. subst (λ (z : State). StaysSeen d.is_read d0.chip z) is (stays b)) told
-      (seen_so h d.chip ask_p until seen told free)
-      (record {
-        turn = turn;
-        until_is = until_is;
-        lines_is = lines_is;
-        host_keep = host_keep;
-        para_keep = ap (λ (x : Log). x.keep) para ∙ k.para_keep;
-        list_is = ap (λ (x : Log). x.list.items) para;
-        count_is = ap (λ (x : Log). x.count) para;
-      }) hears.asked (talking_of hears.accesses hears.talks)
-
-  -- ---- The parasite's turn
+  -- ---- The parasite's turn, as long as its accesses are answered in passing
 
   para_along : {until : ℕ} {s : S} {lines : Lines} {ask_h : Ask} {host : Log} {last : T} {e : Attended} {t : T} {d : Attended} → IsSure 0 ask_h until
       → IsAt r ask_h (part_of s host) (part_of t d.para) d.chip → IsSides keep Para until lines host d
       → Talking p IsPassed n (shown_lines lines until) last e t d
       → IsAlong r until s last lines ask_h host e
-  para_along told at x (Last looks) = record { at = goes_along at told (rw x.lines_is at looks); paras = x }
+  para_along told at x (Last looks) = (goes_along at told (rw x.lines_is at looks), x)
   para_along {until} {s} {ask_h = ask_h} {d = d} told at x (Next {at = mid} looks answered talks) =
       let passed = answered.answered in
       let there = goes_along at told (rw x.lines_is at looks) in
@@ -305,73 +268,6 @@ module _ {S T : Type 0} {r : Run S T} where
       } in
       para_along told (para_step {b = part_of mid d.para} there first (passed_act Para x.turn x.para_keep answered)) (still_sides x passed) talks
 
-  pub para_turn_over : {until : ℕ} {ahead : Bool} {from from2 : Mark T} {s : S} {t t2 t3 : T} {lines lines2 : Lines} {ask_h ask_p asked : Ask}
-      {d0 d b e : Attended} {new : Standing T}
-      → IsKeptUp r ahead from s t ask_h ask_p lines d0
-      → first_of ask_h ask_p ≡ Some Para
-      → Hears p IsPassed n (shown_lines lines2 until) t2 d asked t3 b
-      → IsGone p n lines2 t3 b asked new e
-      → Acts p Para d0.para.keep (at_work t d0.chip d0.para) (at_work t2 d.chip d.para)
-      → d.host ≡ d0.host → d.turn ≡ Para → d.sure ≡ until → d.para.keep ≡ keep → lines2 ≡ lines_of d.chip
-      → IsSure 0 ask_h until
-      → (from2.state ≡ new.mark) × (from2.len ≡ length b.para.list.items) × (from2.count ≡ b.para.count)
-      → IsOver r (ticks_left n ask_h + rest_of p n ahead from.state ask_p) new.ahead from2 s new.state ask_h new.ask lines2 e
-  para_turn_over {until} {ahead} {from} {from2} {s} {t} {t2} {t3} {lines} {lines2} {ask_h} {ask_p} {asked} {d0} {d} {b} {e} {new} k first hears gone acts0 host
-      turn until_is para_keep lines_is told is =
-      by new.ahead refl
-    where
-      acts : Acts p Para keep (at_work t d0.chip d0.para) (at_work t2 d.chip d.para)
-      acts = rw k.para_keep at acts0
-
-      along : IsAlong r until s hears.last lines2 ask_h d0.host b
-      along = para_along told (para_turns k.way first acts)
-          (record {
-            turn = turn;
-            until_is = until_is;
-            lines_is = lines_is;
-            para_keep = para_keep;
-            host_keep = ap (λ (x : Log). x.keep) host ∙ k.host_keep;
-            list_is = ap (λ (x : Log). x.list.items) host;
-            count_is = ap (λ (x : Log). x.count) host;
-          }) (talking_of hears.accesses hears.talks)
-
-      rise : p.due t2 ≤ p.due hears.last
-      rise = talks_rise p IsPassed n lines2 until hears.accesses t2 hears.last d b lp hears.talks
-
-      by : (x : Bool) → new.ahead ≡ x
-          → IsOver r (ticks_left n ask_h + rest_of p n ahead from.state ask_p) new.ahead from2 s new.state ask_h new.ask lines2 e
-      by true ea =
-          let g = gone.goes ea in
-          let here : t3 ≡ hears.last = stood p n hears.last t3 asked hears.asked g.0 in
-          let read : HasRead p n gone.far keep t3 g.2.last (para_turn b b.para gone.far) e =
-          para_reads along.paras.lines_is refl refl refl along.paras.para_keep (talking_of g.2.accesses g.2.talks) in
-          let there : IsAt r ask_h (part_of s d0.host) (part_of t3 b.para) b.chip = rw here along.at in
-          let going : IsGoing r new.ahead from2 ask_h new.ask (part_of s d0.host) (part_of new.state e.para) b.chip =
-          goes_on new.ahead there read.way g.2.asked read.list_is read.count_is (λ _. (sym (is.0 ∙ g.1), sym is.1, sym is.2)) (λ no. cc) in
-          let smaller = para_smaller k.way first acts new.ahead from2.state new.ask (λ _. omega (arith, rise, ap p.due (is.0 ∙ g.1 ∙ here))) (λ no. cc) in
-          record {
-            kept = record {
-              way = rw (read.chip_is, read.host_list ∙ along.paras.list_is, read.host_count ∙ along.paras.count_is) going;
-              lines_is = along.paras.lines_is ∙ ap lines_of (sym read.chip_is);
-              host_keep = read.host_keep ∙ along.paras.host_keep;
-              para_keep = read.keep_is;
-            };
-            smaller = omega (arith, smaller);
-          }
-      by false ea =
-          let g = gone.stays ea in
-          let there : IsGoing r false from2 ask_h asked (part_of s d0.host) (part_of t3 b.para) b.chip = stands {b = part_of hears.last b.para} along.at hears.asked in
-          let smaller = para_smaller k.way first acts false from2.state asked (λ no. cc) (λ _. (hears.last, t3, rise, hears.asked)) in
-          rw (ea, g.0, g.1, g.2) (record {
-            kept = record {
-              way = rw (along.paras.list_is, along.paras.count_is) there;
-              lines_is = along.paras.lines_is;
-              host_keep = along.paras.host_keep;
-              para_keep = along.paras.para_keep;
-            };
-            smaller = omega (arith, smaller);
-          })
-
   -- ---- The parasite is rolled back
 
   pub rolls_back : {at : ℕ} {mark : LogMark} {ahead : Bool} {from : Mark T} {s : S} {t t2 : T} {lines : Lines} {ask_h ask_p ask2 : Ask} {d e : Attended}
@@ -385,7 +281,7 @@ module _ {S T : Type 0} {r : Run S T} where
       let read : HasRead p n at keep from.state back.goes.last (para_turn d log at) e =
       para_reads lines_is refl refl refl (back.keep_is ∙ para_keep) (talking_of back.goes.accesses back.goes.talks) in
       let there : IsAt r ask_h (part_of s d.host) (part_of from.state log) d.chip =
-      rolled_back w is (back.list_is ∙ ap (λ (x : ℕ). take x d.para.list.items) (sym marks.0)) (back.count_is ∙ sym marks.1) in
+      rolled_back w is (back.list_is ∙ ap (λ x. take x d.para.list.items) (sym marks.0)) (back.count_is ∙ sym marks.1) in
       let f = host_first h p n s there.host_last t w.last ask_h ask_p there.host_asked w.asked first in
       let due = tick_of_first h n s there.host_last ask_h f.pending f.here in
       let going : IsGoing r false from2 ask_h ask2 (part_of s d.host) (part_of t2 e.para) d.chip =
@@ -400,3 +296,96 @@ module _ {S T : Type 0} {r : Run S T} where
         };
         smaller = omega arith;
       }
+
+module _ {S T : Type 0} {r : Run S T} {ahead : Bool} {from : Mark T} {s : S} {t : T} {lines : Lines} {ask_h ask_p : Ask} {d0 : Attended}
+    (k : IsKeptUp r ahead from s t ask_h ask_p lines d0) where
+  open r use {h, p, lp, n, keep}
+
+  abbrev left : ℕ
+  left = ticks_left n ask_h + rest_of p n ahead from.state ask_p
+
+  pub host_turn : {until seen : Tick} {s2 s3 : S} {lines2 : Lines} {ask2 : Ask} {d e : Attended} → first_of ask_h ask_p ≡ Some Host
+      → Hears h IsPassed n (shown_lines lines2 seen.0) s2 d ask2 s3 e
+      → Acts h Host d0.host.keep (at_work s d0.chip d0.host) (at_work s2 d.chip d.host)
+      → d.turn ≡ Host → d.sure ≡ until.0 → lines2 ≡ lines_of d.chip → d.host.keep ≡ keep → d.para ≡ d0.para
+      → (d.is_read ≡ false → ahead ≡ true → d0.para.count ≡ from.count)
+      → (ahead ≡ true → StaysSeen d.is_read d0.chip (chip_behind d0.chip ask_h))
+      → IsSure 1 ask_p until.0 → (seen ≡ until) ⊎ (SeesHirqAlone h × (d.chip.flags.q ≡ false))
+      → IsOver r left ahead from s3 t ask2 ask_p lines2 e
+  host_turn {until} {seen} {d = d} first hears acts turn until_is lines_is host_keep para none stays told free =
+      let w = k.way in
+      let f = host_first h p n s w.at.host_last t w.last ask_h ask_p w.at.host_asked w.asked first in
+      let is : chip_behind d0.chip ask_h ≡ d.chip = sym (acts.chip_is ∙ behind_is h n s d0.chip ask_h acts.query f.pending acts.asks) in
+      host_passes {log = d0.para} w first (rw k.host_keep at acts) none (λ b. rw is at (stays b)) told
+      (seen_so h d.chip ask_p until seen told free)
+      (record {
+        turn = turn;
+        until_is = until_is;
+        lines_is = lines_is;
+        host_keep = host_keep;
+        para_keep = ap (λ x. x.keep) para ∙ k.para_keep;
+        list_is = ap (λ x. x.list.items) para;
+        count_is = ap (λ x. x.count) para;
+      }) hears.asked (talking_of hears.accesses hears.talks)
+
+  pub para_turn_over : {until : ℕ} {from2 : Mark T} {t2 t3 : T} {lines2 : Lines} {asked : Ask} {d b e : Attended} {new : Standing T} → first_of ask_h ask_p ≡ Some Para
+      → Hears p IsPassed n (shown_lines lines2 until) t2 d asked t3 b
+      → IsGone p n lines2 t3 b asked new e
+      → Acts p Para d0.para.keep (at_work t d0.chip d0.para) (at_work t2 d.chip d.para)
+      → d.host ≡ d0.host → d.turn ≡ Para → d.sure ≡ until → d.para.keep ≡ keep → lines2 ≡ lines_of d.chip
+      → IsSure 0 ask_h until
+      → (from2.state ≡ new.mark) × (from2.len ≡ length b.para.list.items) × (from2.count ≡ b.para.count)
+      → IsOver r left new.ahead from2 s new.state ask_h new.ask lines2 e
+  para_turn_over {until} {from2} {t2} {t3} {lines2} {asked} {d} {b} {e} {new} first hears gone acts0 host turn until_is para_keep lines_is told is = by new.ahead refl
+    where
+      acts : Acts p Para keep (at_work t d0.chip d0.para) (at_work t2 d.chip d.para)
+      acts = rw k.para_keep at acts0
+
+      along : IsAlong r until s hears.last lines2 ask_h d0.host b
+      along = para_along told (para_turns k.way first acts)
+          (record {
+            turn = turn;
+            until_is = until_is;
+            lines_is = lines_is;
+            para_keep = para_keep;
+            host_keep = ap (λ x. x.keep) host ∙ k.host_keep;
+            list_is = ap (λ x. x.list.items) host;
+            count_is = ap (λ x. x.count) host;
+          }) (talking_of hears.accesses hears.talks)
+
+      rise : p.due t2 ≤ p.due hears.last
+      rise = talks_rise p IsPassed n lines2 until hears.accesses t2 hears.last d b lp hears.talks
+
+      by : (x : Bool) → new.ahead ≡ x
+          → IsOver r left new.ahead from2 s new.state ask_h new.ask lines2 e
+      by true ea =
+          let g = gone.goes ea in
+          let here : t3 ≡ hears.last = stood p n hears.last t3 asked hears.asked g.0 in
+          let read : HasRead p n gone.far keep t3 g.2.last (para_turn b b.para gone.far) e =
+          para_reads along.1.lines_is refl refl refl along.1.para_keep (talking_of g.2.accesses g.2.talks) in
+          let there : IsAt r ask_h (part_of s d0.host) (part_of t3 b.para) b.chip = rw here along.0 in
+          let going : IsGoing r new.ahead from2 ask_h new.ask (part_of s d0.host) (part_of new.state e.para) b.chip =
+          goes_on new.ahead there read.way g.2.asked read.list_is read.count_is (λ _. (sym (is.0 ∙ g.1), sym is.1, sym is.2)) (λ no. cc) in
+          let smaller = para_smaller k.way first acts new.ahead from2.state new.ask (λ _. omega (arith, rise, ap p.due (is.0 ∙ g.1 ∙ here))) (λ no. cc) in
+          record {
+            kept = record {
+              way = rw (read.chip_is, read.host_list ∙ along.1.list_is, read.host_count ∙ along.1.count_is) going;
+              lines_is = along.1.lines_is ∙ ap lines_of (sym read.chip_is);
+              host_keep = read.host_keep ∙ along.1.host_keep;
+              para_keep = read.keep_is;
+            };
+            smaller = omega (arith, smaller);
+          }
+      by false ea =
+          let g = gone.stays ea in
+          let there : IsGoing r false from2 ask_h asked (part_of s d0.host) (part_of t3 b.para) b.chip = stands {b = part_of hears.last b.para} along.0 hears.asked in
+          let smaller = para_smaller k.way first acts false from2.state asked (λ no. cc) (λ _. (hears.last, t3, rise, hears.asked)) in
+          rw (ea, g.0, g.1, g.2) (record {
+            kept = record {
+              way = rw (along.1.list_is, along.1.count_is) there;
+              lines_is = along.1.lines_is;
+              host_keep = along.1.host_keep;
+              para_keep = along.1.para_keep;
+            };
+            smaller = omega (arith, smaller);
+          })

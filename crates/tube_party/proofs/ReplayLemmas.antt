@@ -1,5 +1,5 @@
 -- A replay, step by step.
-use Rattle.std.proofs.Common.{◌≡◌, ◌∙◌, sym, refl, ap, subst, ℕ, zero, suc, ◌+◌, ◌<◌, ◌≤◌, ◌-◌, List, [], ◌∷◌, length, true, false, nat_lt, Option, Some, None, MatchOption, arith}
+use Rattle.std.proofs.Common.{◌≡◌, ◌∙◌, sym, refl, ap, subst, ℕ, zero, suc, ◌+◌, ◌<◌, ◌≤◌, ◌-◌, List, [], ◌∷◌, length, true, false, nat_lt, Option, Some, None, arith}
 use Rattle.std.proofs.lemmas.Bool.Decides.{nat_tests}
 use Rattle.beeb_bits.specs.declared.Tick.{Tick}
 use Rattle.beeb_bits.specs.declared.Side.{Side}
@@ -12,7 +12,7 @@ use Rattle.tube_chip.specs.Act.{Query, access, look}
 use Rattle.tube_trace.specs.declared.Entry.{Entry}
 use Rattle.tube_party.specs.declared.party.Ask.{Ask}
 use Rattle.tube_party.specs.declared.party.Ask.TheVariants.{Nothing, Access, Look}
-use Rattle.tube_party.specs.Moves.{Moves, IsLawful, Hears, IsAsk, IsUnsure, IsAskedFor, FitsAnswer, shown_lines}
+use Rattle.tube_party.specs.Moves.{Moves, IsLawful, Hears, IsAsk, IsAskedFor, FitsAnswer, shown_lines}
 use Rattle.tube_party.specs.Replay.{Numbered, Ended, own_from, finish_leaves, next_line, doing_of, differs, access_step, one_step, replay_from, replay_of, chip_before}
 use Rattle.tube_party.specs.CodeCursor.{Takes, Misses, Owned, IsTaken}
 use Rattle.tube_party.proofs.Runs.{Glances, Here, Past, Seeing, glances_rise, Talking, Last, Next, talking_of}
@@ -138,9 +138,9 @@ module _ {S : Type 0} {m : Moves S} {side : Side} {trace : List Entry} {n : ℕ}
     -- it asks for nothing below n
     pub ran_out : ask ≡ Nothing → (new ≡ whole.machine) × (next_line e.left ≡ whole.place)
     ran_out is =
-        let asked = subst (λ (a : Ask). IsAsk m n heard.last a new) is heard.asked in
+        let asked = rw is at heard.asked in
         let ended = goes_end talked.goes asked.0 in
-        (asked.1 ∙ sym (ap (λ (x : Ended S). x.machine) ended), sym (ap (λ (x : Ended S). x.place) ended))
+        (asked.1 ∙ sym (ap (λ x. x.machine) ended), sym (ap (λ x. x.place) ended))
 
     -- it asks this of the Tube at its next step
     stands : (tick : ℕ) (q : Query) → (tick ≡ m.due heard.last) × (tick < n) × (m.asks heard.last ≡ Some q) × (new ≡ heard.last) → Stands m side trace n whole old new d e tick q
@@ -156,15 +156,15 @@ module _ {S : Type 0} {m : Moves S} {side : Side} {trace : List Entry} {n : ℕ}
         }
 
     pub stands_access : (t : Tick) (op : Op) → ask ≡ Access t op → Stands m side trace n whole old new d e t.0 (access op)
-    stands_access t op is = stands t.0 (access op) (subst (λ (a : Ask). IsAsk m n heard.last a new) is heard.asked)
+    stands_access t op is = stands t.0 (access op) (rw is at heard.asked)
 
     pub stands_look : (t : Tick) → ask ≡ Look t → Stands m side trace n whole old new d e t.0 look × (sure ≤ t.0)
     stands_look t is =
-        (stands t.0 look (subst (λ (a : Ask). IsAsk m n heard.last a new) is heard.asked), subst (λ (a : Ask). IsUnsure sure a) is heard.unsure)
+        (stands t.0 look (rw is at heard.asked), rw is at heard.unsure)
 
 -- an answer to what is asked
 asked_for : {S : Type 0} (m : Moves S) (most : ℕ) (s : S) (q : Query) (a : Answer) → m.due s < most → m.asks s ≡ Some q → FitsAnswer q a → IsAskedFor m most s a
-asked_for m most s q a low is fits = record { below = low; kind = subst (λ (o : Option Query). MatchOption o ⊥ (λ p. FitsAnswer p a)) (sym is) fits }
+asked_for m most s q a low is fits = record { below = low; kind = rw is fits }
 
 -- what follows where it asks
 module _ {S : Type 0} {m : Moves S} {side : Side} {trace : List Entry} {n : ℕ} {whole : Ended S} {old new : S} {d e : Owned} {tick : ℕ} where
@@ -173,10 +173,10 @@ module _ {S : Type 0} {m : Moves S} {side : Side} {trace : List Entry} {n : ℕ}
       → (new ≡ whole.machine) × (Some (line, Some (doing_of tick side op)) ≡ whole.place)
   went_apart {op} {line} stands lines misses =
       let here : Misses e.left (length trace) (m.due new) op line =
-      subst (λ (t : ℕ). Misses e.left (length trace) t op line) stands.tick_is
-      (subst (λ (l : ℕ). Misses e.left l tick op line) (stands.lines_same ∙ lines) misses) in
+      subst (λ t. Misses e.left (length trace) t op line) stands.tick_is
+      (rw (stands.lines_same ∙ lines) at misses) in
       let ended : whole ≡ differs m side new op line = goes_differs stands.goes op line stands.below stands.asks here in
-      (sym (ap (λ (x : Ended S). x.machine) ended), rw stands.tick_is (sym (ap (λ (x : Ended S). x.place) ended)))
+      (sym (ap (λ x. x.machine) ended), rw stands.tick_is (sym (ap (λ x. x.place) ended)))
 
   -- an answer to it
   pub stands_asking : {q : Query} {a : Answer} → Stands m side trace n whole old new d e tick q → n ≤ 1073741824 → FitsAnswer q a → IsAskedFor m 1073741824 new a

@@ -24,15 +24,15 @@ use Rattle.tube_party.proofs.Followed.{followed, all_earlier}
 
 -- what holds of the events' ticks and sides holds of their entries'
 placed_by : (P : ℕ → Side → Type 0) (t : ℕ) (side : Side) (q : Query) (a : Answer) (xs : List Entry) → P t side → All (λ (x : Entry). P (x.tick).0 x.side) xs
-    → All (λ (x : Entry). P (x.tick).0 x.side) (entry_of t side q a ++ xs)
-placed_by P t side (access op) (Byte b) xs h on = All-cons (λ (x : Entry). P (x.tick).0 x.side) _ xs h on
+    → All (λ x. P (x.tick).0 x.side) (entry_of t side q a ++ xs)
+placed_by P t side (access op) (Byte b) xs h on = All-cons (λ x. P (x.tick).0 x.side) _ xs h on
 placed_by P t side (access op) (Seen l) xs h on = on
 placed_by P t side look a xs h on = on
 
 pub placed : (P : ℕ → Side → Type 0) (l : List Event) → All (λ (e : Event). P e.tick e.side) l → All (λ (x : Entry). P (x.tick).0 x.side) (accesses l)
-placed P [] h = All-nil (λ (x : Entry). P (x.tick).0 x.side)
+placed P [] h = All-nil (λ x. P (x.tick).0 x.side)
 placed P (e ∷ l) h =
-    placed_by P e.tick e.side e.query e.answer (accesses l) (All-head (λ (f : Event). P f.tick f.side) e l h) (placed P l (All-tail (λ (f : Event). P f.tick f.side) e l h))
+    placed_by P e.tick e.side e.query e.answer (accesses l) (All-head (λ f. P f.tick f.side) e l h) (placed P l (All-tail (λ f. P f.tick f.side) e l h))
 
 below_end : (t n : ℕ) (side : Side) → IsTrue (before t side n Host) → t < n
 below_end t n Host h = grind (arith, nat_tests)
@@ -41,12 +41,12 @@ below_end t n Para h = grind (arith, nat_tests)
 -- all entries are below the end
 pub all_below : (n : ℕ) (l : List Event) → All (IsEarlier n Host) l → All (λ (x : Entry). (x.tick).0 < n) (accesses l)
 all_below n l h =
-    All-weaker (λ (x : Entry). IsTrue (before (x.tick).0 x.side n Host)) (λ (x : Entry). (x.tick).0 < n) (λ x on. below_end (x.tick).0 n x.side on) (accesses l)
+    All-weaker (λ x. IsTrue (before (x.tick).0 x.side n Host)) (λ x. (x.tick).0 < n) (λ x on. below_end (x.tick).0 n x.side on) (accesses l)
     (placed (λ k side. IsTrue (before k side n Host)) l h)
 
 -- the side's entries
 abbrev pub own : Side → List Entry → List Entry
-own side trace = filter (λ (x : Entry). is_side side x.side) trace
+own side trace = filter (λ x. is_side side x.side) trace
 
 low_and : (b : Bool) (t n : ℕ) → t < n → (b && nat_lt t n) ≡ b
 low_and true t n low = low_true t n low
@@ -56,12 +56,12 @@ low_and false t n low = refl
 pub own_all : (side : Side) (n : ℕ) (trace : List Entry) → All (λ (e : Entry). (e.tick).0 < n) trace → own_below side n trace ≡ own side trace
 own_all side n [] low = refl
 own_all side n (x ∷ trace) low =
-    by (is_side side x.side) refl (low_and (is_side side x.side) (x.tick).0 n (All-head (λ (e : Entry). (e.tick).0 < n) x trace low))
-    (own_all side n trace (All-tail (λ (e : Entry). (e.tick).0 < n) x trace low))
+    by (is_side side x.side) refl (low_and (is_side side x.side) (x.tick).0 n (All-head (λ e. (e.tick).0 < n) x trace low))
+    (own_all side n trace (All-tail (λ e. (e.tick).0 < n) x trace low))
   where
     by : (b : Bool) → is_side side x.side ≡ b → (is_side side x.side && nat_lt (x.tick).0 n) ≡ is_side side x.side → own_below side n trace ≡ own side trace
         → own_below side n (x ∷ trace) ≡ own side (x ∷ trace)
-    by true is same on = rw (same ∙ is, is) (ap (λ (l : List Entry). x ∷ l) on)
+    by true is same on = rw (same ∙ is, is) (ap (λ l. x ∷ l) on)
     by false is same on = rw (same ∙ is, is) on
 
 -- the accesses of a side are the side's entries
@@ -82,9 +82,9 @@ pub own_of_accesses : (side : Side) (l : List Event) → accesses (of_side side 
 own_of_accesses side [] = refl
 own_of_accesses side (e ∷ l) =
     event_by side e l (is_side side e.side)
-    ∙ ap (λ (x : List Entry). (if is_side side e.side then entry_of e.tick e.side e.query e.answer else []) ++ x) (own_of_accesses side l)
-    ∙ ap (λ (x : List Entry). x ++ own side (accesses l)) (sym (own_by side e.tick e.side e.query e.answer (is_side side e.side) refl))
-    ∙ sym (filter-append (λ (x : Entry). is_side side x.side) (entry_of e.tick e.side e.query e.answer) (accesses l))
+    ∙ ap (λ x. (if is_side side e.side then entry_of e.tick e.side e.query e.answer else []) ++ x) (own_of_accesses side l)
+    ∙ ap (λ x. x ++ own side (accesses l)) (sym (own_by side e.tick e.side e.query e.answer (is_side side e.side) refl))
+    ∙ sym (filter-append (λ x. is_side side x.side) (entry_of e.tick e.side e.query e.answer) (accesses l))
 
 -- what its looks see
 
@@ -117,12 +117,12 @@ does_by f c t side look a more first is = refl
 head_by : (c : State) (t : ℕ) (side : Side) (q : Query) (a : Answer) (more : List Entry) → (act c side q).1 ≡ a → chip_before side t c more ≡ c
     → IsAnsweredOn c (entry_of t side q a ++ more) t side q a
 head_by c t side (access op) a more is still = subst (FitsAnswer (access op)) is tt
-head_by c t side look a more is still = sym is ∙ ap (λ (d : State). Seen (lines_of d)) (sym still)
+head_by c t side look a more is still = sym is ∙ ap (λ d. Seen (lines_of d)) (sym still)
 
 pub tail_by : (c d : State) (trace more : List Entry) (t : ℕ) (side : Side) (q : Query) (a : Answer) → chip_before side t c trace ≡ chip_before side t d more
     → IsAnsweredOn d more t side q a → IsAnsweredOn c trace t side q a
 tail_by c d trace more t side (access op) a same h = h
-tail_by c d trace more t side look a same h = h ∙ ap (λ (x : State). Seen (lines_of x)) (sym same)
+tail_by c d trace more t side look a same h = h ∙ ap (λ x. Seen (lines_of x)) (sym same)
 
 pub all_after : (e : Event) (l : List Event) → RisesAfter e l → All (IsBefore e) l
 all_after e [] h = All-nil (IsBefore e)
@@ -138,10 +138,10 @@ looks c [] rises is = All-nil (On c [])
 looks c (e ∷ l) rises is =
     let later = all_after e l rises in
     let rest = looks (act c e.side e.query).0 l (rises_tail e l rises) is.1 in
-    let both : All (λ (f : Event). IsBefore e f × On (act c e.side e.query).0 (accesses l) f) l = λ k d low. (later k d low, rest k d low) in
+    let both : All (λ f. IsBefore e f × On (act c e.side e.query).0 (accesses l) f) l = λ k d low. (later k d low, rest k d low) in
     All-cons (On c (accesses (e ∷ l))) e l
     (head_by c e.tick e.side e.query e.answer (accesses l) is.0 (stops e c l later))
-    (All-weaker (λ (f : Event). IsBefore e f × On (act c e.side e.query).0 (accesses l) f) (On c (accesses (e ∷ l)))
+    (All-weaker (λ f. IsBefore e f × On (act c e.side e.query).0 (accesses l) f) (On c (accesses (e ∷ l)))
     (λ f x. tail_by c (act c e.side e.query).0 (accesses (e ∷ l)) (accesses l) f.tick f.side f.query f.answer (does_by f c e.tick e.side e.query e.answer (accesses l) x.0 is.0) x.1) l both)
 
 at_power_on : (trace : List Entry) (t : ℕ) (side : Side) (q : Query) (a : Answer) → IsAnsweredOn power_on trace t side q a → IsAnsweredBy trace t side q a
@@ -164,8 +164,8 @@ follows_own m side n s ended l legal earlier follows =
       events = of_side side l;
       follows = follows;
       own = own_of_accesses side l ∙ sym (own_all side n (accesses l) (all_below n l earlier));
-      answered = All-of_side (λ (e : Event). IsAnsweredBy (accesses l) e.tick e.side e.query e.answer) side l
-          (All-weaker (On power_on (accesses l)) (λ (e : Event). IsAnsweredBy (accesses l) e.tick e.side e.query e.answer)
+      answered = All-of_side (λ e. IsAnsweredBy (accesses l) e.tick e.side e.query e.answer) side l
+          (All-weaker (On power_on (accesses l)) (λ e. IsAnsweredBy (accesses l) e.tick e.side e.query e.answer)
           (λ e h. at_power_on (accesses l) e.tick e.side e.query e.answer h) l (looks power_on l legal.rises legal.answered));
     }
 

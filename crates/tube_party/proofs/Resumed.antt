@@ -49,23 +49,23 @@ record IsSeatAlike {S : Type 0} (m : Moves S) (n : ℕ) (x y : Seat S) : Type 0 
 step_alike_by : {S : Type 0} (m : Moves S) (n : ℕ) (side : Side) (k : ℕ) (s u : S) (c : State) (l l2 : List Event) (due : Bool) (o : Option Query) → nat_eq (m.due s) k ≡ due → m.asks s ≡ o →
     IsSame m n s u → SameAccesses l l2 → IsSeatAlike m n (step_if_due m side k (seat s c l)) (step_if_due m side k (seat u c l2))
 step_alike_by m n side k s u c l l2 false o d q same lists =
-    let d2 : nat_eq (m.due u) k ≡ false = ap (λ (t : ℕ). nat_eq t k) (sym same.due) ∙ d in
+    let d2 : nat_eq (m.due u) k ≡ false = ap (λ t. nat_eq t k) (sym same.due) ∙ d in
     rw (d, d2) (record { state = same; chip = refl; listed = lists })
 step_alike_by m n side k s u c l l2 true None d q same lists =
-    let d2 : nat_eq (m.due u) k ≡ true = ap (λ (t : ℕ). nat_eq t k) (sym same.due) ∙ d in
+    let d2 : nat_eq (m.due u) k ≡ true = ap (λ t. nat_eq t k) (sym same.due) ∙ d in
     let q2 : m.asks u ≡ None = sym same.asks ∙ q in
     rw (d, d2, q, q2) (record { state = same_self m n (m.next s None) (m.next u None) (same.next None); chip = refl; listed = lists })
 step_alike_by m n side k s u c l l2 true (Some x) d q same lists =
-    let d2 : nat_eq (m.due u) k ≡ true = ap (λ (t : ℕ). nat_eq t k) (sym same.due) ∙ d in
+    let d2 : nat_eq (m.due u) k ≡ true = ap (λ t. nat_eq t k) (sym same.due) ∙ d in
     let q2 : m.asks u ≡ Some x = sym same.asks ∙ q in
     let a : Answer = (act c side x).1 in
     let more : SameAccesses (l ++ event (m.due s) side x a ∷ []) (l2 ++ event (m.due u) side x a ∷ []) =
-    subst (λ (t : ℕ). SameAccesses (l ++ event (m.due s) side x a ∷ []) (l2 ++ event t side x a ∷ [])) same.due (same_after l l2 (event (m.due s) side x a ∷ []) lists) in
+    subst (λ t. SameAccesses (l ++ event (m.due s) side x a ∷ []) (l2 ++ event t side x a ∷ [])) same.due (same_after l l2 (event (m.due s) side x a ∷ []) lists) in
     rw (d, d2, q, q2) (record { state = same_self m n (m.next s (Some a)) (m.next u (Some a)) (same.next (Some a)); chip = refl; listed = more })
 
 step_alike : {S : Type 0} (m : Moves S) (n : ℕ) (side : Side) (k : ℕ) (x y : Seat S) → IsSeatAlike m n x y → IsSeatAlike m n (step_if_due m side k x) (step_if_due m side k y)
 step_alike m n side k x y same =
-    subst (λ (c : State). IsSeatAlike m n (step_if_due m side k x) (step_if_due m side k (seat y.state c y.list))) same.chip
+    subst (λ c. IsSeatAlike m n (step_if_due m side k x) (step_if_due m side k (seat y.state c y.list))) same.chip
     (step_alike_by m n side k x.state y.state x.chip x.list y.list (nat_eq (m.due x.state) k) (m.asks x.state) refl refl same.state same.listed)
 
 module _ {S T : Type 0} (h : Moves S) (p : Moves T) where
@@ -94,19 +94,19 @@ module _ {S T : Type 0} (h : Moves S) (p : Moves T) where
   ticks_then zero j k w =
       let none : 0 + j ≡ j = omega arith in
       let here : k ≡ k + 0 = omega arith in
-      ap (λ (x : ℕ). ticks h p x k w) none ∙ ap (λ (x : ℕ). ticks h p j x w) here
+      ap (λ x. ticks h p x k w) none ∙ ap (λ x. ticks h p j x w) here
   ticks_then (suc i) j k w =
       let more : suc i + j ≡ suc (i + j) = omega arith in
       let at : (k + 1) + i ≡ k + suc i = omega arith in
-      ap (λ (x : ℕ). ticks h p x k w) more ∙ ticks_then i j (k + 1) (tick h p k w)
-      ∙ ap (λ (x : ℕ). ticks h p j x (ticks h p i (k + 1) (tick h p k w))) at
+      ap (λ x. ticks h p x k w) more ∙ ticks_then i j (k + 1) (tick h p k w)
+      ∙ ap (λ x. ticks h p j x (ticks h p i (k + 1) (tick h p k w))) at
 
   -- those below a tick, and then the others
   pub ticks_from : (at n : ℕ) → at ≤ n → (w : World S T) → ticks h p n 0 w ≡ ticks h p (n - at) at (ticks h p at 0 w)
   ticks_from at n le w =
       let sum : n ≡ at + (n - at) = omega arith in
       let here : 0 + at ≡ at = omega arith in
-      ap (λ (x : ℕ). ticks h p x 0 w) sum ∙ ticks_then at (n - at) 0 w ∙ ap (λ (x : ℕ). ticks h p (n - at) x (ticks h p at 0 w)) here
+      ap (λ x. ticks h p x 0 w) sum ∙ ticks_then at (n - at) 0 w ∙ ap (λ x. ticks h p (n - at) x (ticks h p at 0 w)) here
 
 -- ---- Both parties brought back
 
@@ -123,7 +123,7 @@ part_of m lawful side trace at s u legal f =
       rises = line.rises;
       each = line.each;
       own_is = f.own ∙ own_all side at trace legal.below;
-      told = All-weaker (λ (e : Event). IsAnsweredBy trace e.tick e.side e.query e.answer) (On power_on trace) (λ e h. from_power_on trace e.tick e.side e.query e.answer h) f.events f.answered;
+      told = All-weaker (λ e. IsAnsweredBy trace e.tick e.side e.query e.answer) (On power_on trace) (λ e h. from_power_on trace e.tick e.side e.query e.answer h) f.events f.answered;
     }
 
 same_by_accesses : (l : List Event) (trace : List Entry) → accesses l ≡ trace → SameAccesses l (events_of trace)
@@ -161,7 +161,7 @@ module _ {S T : Type 0} (h : Moves S) (p : Moves T) (lh : IsLawful h) (lp : IsLa
 
   pub brought_back : IsLike (reference h p s t at) (after_entries u v entries)
   brought_back =
-      like_on (alike (ap (λ (w : World S T). close_both_leaves h p at w) reached))
+      like_on (alike (ap (λ w. close_both_leaves h p at w) reached))
       (record { host = sym host_follows.follows.ends; para = sym para_follows.follows.ends; chip = all_joined.chip; listed = listed })
 
   -- it goes on as from there
@@ -185,7 +185,7 @@ module _ {S T : Type 0} (h : Moves S) (p : Moves T) (lh : IsLawful h) (lp : IsLa
   goes_on n le =
       let w : World S T = ticks h p n 0 (start s t) in
       let same : IsAlike h p n w (ticks h p n 0 (after_entries u v entries)) =
-      subst (λ (x : World S T). IsAlike h p n x (ticks h p n 0 (after_entries u v entries))) (sym (from_there n le))
+      subst (λ x. IsAlike h p n x (ticks h p n 0 (after_entries u v entries))) (sym (from_there n le))
       (ticks_alike h p n n 0 stopped (after_entries u v entries) (alike_there n le)) in
       let far = so_far h p lh lp s t n in
       record { host = same.host.ends far.host_due; para = same.para.ends far.para_due; chip = same.chip; listed = same.listed }

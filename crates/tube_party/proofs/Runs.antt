@@ -29,9 +29,9 @@ SomeRuns r side n s events m = (k : ℕ) × Runs r side n k s (course events m)
 -- an event is known by its parts
 same_event : (e : Event) (t : ℕ) (side : Side) (q : Query) → e.tick ≡ t → e.side ≡ side → e.query ≡ q → e ≡ event t side q e.answer
 same_event e t side q et es eq =
-    ap (λ (x : ℕ). event x e.side e.query e.answer) et
-    ∙ ap (λ (x : Side). event t x e.query e.answer) es
-    ∙ ap (λ (x : Query). event t side x e.answer) eq
+    ap (λ x. event x e.side e.query e.answer) et
+    ∙ ap (λ x. event t x e.query e.answer) es
+    ∙ ap (λ x. event t side x e.answer) eq
 
 module _ {S : Type 0} (r : Moves S) (side : Side) (n : ℕ) where
   abbrev Then : ℕ → S → List Event → S → Option Query → Type 0
@@ -115,9 +115,9 @@ module _ {S : Type 0} (r : Moves S) (lr : IsLawful r) (s : S) (n : ℕ) (le : n 
         next = closing_at.next;
         again = λ u low high.
             let within = lr.within s in
-            ap (λ (x : ℕ). r.close (close_leaves r s n) (max u x)) closing_at.closed
+            ap (λ x. r.close (close_leaves r s n) (max u x)) closing_at.closed
             ∙ closing_at.again (max u (max n (r.closed s))) (omega arith) (omega arith)
-            ∙ ap (λ (x : ℕ). r.close s x) (omega arith);
+            ∙ ap (λ x. r.close s x) (omega arith);
       }
 
 -- a run from a closed state is a run from the state before, save that no step at all leaves the closed one
@@ -130,13 +130,13 @@ module _ {S : Type 0} (r : Moves S) (lr : IsLawful r) (side : Side) (n k : ℕ) 
       (l : S) × Steps r side k l s b × (k ≤ r.due l) × (v ≡ close_leaves r l k)
   from_shut is Over up ends =
       let due = ap r.due is ∙ shut_here.due in
-      (s, Over, omega arith, ends ∙ ap (λ (x : S). close_leaves r x k) is ∙ shut_here.again k le (omega arith))
+      (s, Over, omega arith, ends ∙ ap (λ x. close_leaves r x k) is ∙ shut_here.again k le (omega arith))
   from_shut {last = last} is (Silent low none on) up ends =
       let due = ap r.due is ∙ shut_here.due in
-      (last, Silent (omega arith) (sym (ap r.asks is ∙ shut_here.asks) ∙ none) (rw (← (ap (λ (x : S). r.next x None) is ∙ shut_here.next None)) on), up, ends)
+      (last, Silent (omega arith) (sym (ap r.asks is ∙ shut_here.asks) ∙ none) (rw (← (ap (λ x. r.next x None) is ∙ shut_here.next None)) on), up, ends)
   from_shut {last = last} is (Asking {s = u} {others = others} q a low asks on) up ends =
       let due : r.due u ≡ r.due s = ap r.due is ∙ shut_here.due in
-      let next : r.next u (Some a) ≡ r.next s (Some a) = ap (λ (x : S). r.next x (Some a)) is ∙ shut_here.next (Some a) in
+      let next : r.next u (Some a) ≡ r.next s (Some a) = ap (λ x. r.next x (Some a)) is ∙ shut_here.next (Some a) in
       (last, rw due (Asking {s = s} {others = others} q a (omega arith) (sym (ap r.asks is ∙ shut_here.asks) ∙ asks) (rw (← next) on)), up, ends)
 
 pub follows_on : {S : Type 0} (r : Moves S) → IsLawful r → FollowsOn r

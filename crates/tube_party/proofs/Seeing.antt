@@ -1,12 +1,12 @@
 -- Steps among which looks see their lines.
-use Rattle.std.proofs.Common.{◌≡◌, refl, sym, ap, subst, ℕ, suc, ◌<◌, Some, arith}
+use Rattle.std.proofs.Common.{◌≡◌, refl, ap, ℕ, suc, ◌<◌, Some, arith}
 use Rattle.beeb_bits.specs.declared.Tick.{Tick}
 use Rattle.tube_chip.specs.declared.Answer.TheVariants.{Byte, Seen}
 use Rattle.tube_chip.specs.declared.Lines.{Lines}
 use Rattle.tube_chip.specs.declared.Op.{Op}
 use Rattle.tube_party.specs.declared.party.Ask.{Ask}
 use Rattle.tube_party.specs.declared.party.Ask.TheVariants.{Nothing, Access, Look}
-use Rattle.tube_party.specs.Moves.{Moves, IsLawful, Looks, Talks, IsUnsure, Advances, Sees, Hears, GoesHearing, IsAsk, Shown, shown_lines}
+use Rattle.tube_party.specs.Moves.{Moves, IsLawful, Looks, Talks, IsUnsure, Advances, Sees, Hears, GoesHearing, Shown, shown_lines}
 use Rattle.tube_party.specs.Turn.{IsPending}
 use Rattle.tube_party.specs.Steps.{due_rises, silent_all, looks_on, look_last, hears_after, hears_sees, rises_past_access, talks_past_access}
 
@@ -23,16 +23,16 @@ module _ {S : Type 0} (m : Moves S) (n : ℕ) (lines : Lines) (sure : ℕ) where
       → new ≡ m.next at (Some (Seen lines)) →
       (k : ℕ) × Looks m n (shown_lines lines sure) k old new
   sees_one_more old cur at new ask t so_far told is early answered =
-      let asked = subst (λ (a : Ask). IsAsk m n told.last a at) is told.asked in
+      let asked = rw is at told.asked in
       let all = looks_on m n lines sure so_far.0 told.steps old cur told.last so_far.1 (silent_all m n lines sure told.steps cur told.last told.runs) in
       let more = look_last m n lines sure all.0 old told.last all.1 (omega (arith, asked.0, asked.1)) asked.2 (omega (arith, asked.0, early)) in
-      (suc all.0, subst (λ (x : S). Looks m n (shown_lines lines sure) (suc all.0) old x) (sym (subst (λ (x : S). new ≡ m.next x (Some (Seen lines))) asked.3 answered)) more)
+      (suc all.0, rw (rw asked.3 at answered) more)
 
   -- and then its tick, which was below n, is larger
   pub rises_past : (cur at new : S) (ask : Ask) (t : Tick) → IsLawful m → Advances m n cur ask at → ask ≡ Look t → new ≡ m.next at (Some (Seen lines))
       → (m.due cur < m.due new) × (m.due cur < n)
   rises_past cur at new ask t lawful told is answered =
-      let asked = subst (λ (a : Ask). IsAsk m n told.last a at) is told.asked in
+      let asked = rw is at told.asked in
       let x = due_rises m n lines sure told.steps cur told.last lawful (silent_all m n lines sure told.steps cur told.last told.runs) in
       let y = lawful.rises at (Some (Seen lines)) in
       let z : m.due new ≡ m.due (m.next at (Some (Seen lines))) = ap m.due answered in
@@ -43,7 +43,7 @@ module _ {S : Type 0} (m : Moves S) (n : ℕ) (lines : Lines) (sure : ℕ) where
   pub rises_past_ask : (cur at new : S) (ask : Ask) (t : Tick) (op : Op) (byte : ℕ) → IsLawful m → Sees m n (shown_lines lines sure) cur ask at → ask ≡ Access t op
       → new ≡ m.next at (Some (Byte byte)) → (m.due cur < m.due new) × (m.due cur < n)
   rises_past_ask cur at new ask t op byte lawful sees is goes =
-      rises_past_access m n lines sure sees.steps cur sees.last at new t op byte lawful sees.looks (subst (λ (a : Ask). IsAsk m n sees.last a at) is sees.asked) goes
+      rises_past_access m n lines sure sees.steps cur sees.last at new t op byte lawful sees.looks (rw is at sees.asked) goes
 
 -- ---- The same with accesses that a desk answers
 
@@ -59,7 +59,7 @@ module _ {S D : Type 0} (m : Moves S) (answers : D → ℕ → Op → ℕ → D 
       (j : ℕ) × Talks m answers n (shown_lines lines sure) j old d new e
   hears_one_more old cur at new d f e ask t op byte so_far sees is answer goes =
       talks_past_access m answers n lines sure sees.steps old cur sees.last at new d f e t op byte so_far sees.looks
-      (subst (λ (a : Ask). IsAsk m n sees.last a at) is sees.asked) answer goes
+      (rw is at sees.asked) answer goes
 
 -- it goes no further than what it asked already
 pub stays_asking : {S D : Type 0} (m : Moves S) (answers : D → ℕ → Op → ℕ → D → Type 0) (n : ℕ) (v : Shown) (s : S) (d : D) (ask : Ask)

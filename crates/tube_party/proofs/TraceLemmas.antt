@@ -51,7 +51,7 @@ all_entries (e ∷ l) h = may_entry e.tick e.side e.query e.answer (accesses l) 
 
 in_front : (e : Event) (xs : List Entry) → All (λ (x : Entry). IsTrue (before e.tick e.side (x.tick).0 x.side)) xs → Rises (events_of xs) → RisesAfter e (events_of xs)
 in_front e [] h rises = tt
-in_front e (x ∷ xs) h rises = (All-head (λ (y : Entry). IsTrue (before e.tick e.side (y.tick).0 y.side)) x xs h, rises)
+in_front e (x ∷ xs) h rises = (All-head (λ y. IsTrue (before e.tick e.side (y.tick).0 y.side)) x xs h, rises)
 
 rises_by : (t : ℕ) (side : Side) (q : Query) (a : Answer) (xs : List Entry) → All (λ (x : Entry). IsTrue (before t side (x.tick).0 x.side)) xs → Rises (events_of xs)
     → Rises (events_of (entry_of t side q a ++ xs))

@@ -7,7 +7,6 @@ use Rattle.std.proofs.lemmas.List.Elements.{All-nil, All-cons, All-head, All-tai
 use Rattle.beeb_bits.specs.declared.Side.{Side}
 use Rattle.beeb_bits.specs.declared.Side.TheVariants.{Host, Para}
 use Rattle.tube_chip.specs.State.{State, lines_of}
-use Rattle.tube_chip.specs.declared.Lines.{Lines}
 use Rattle.tube_chip.specs.declared.Op.{Op}
 use Rattle.tube_chip.specs.declared.Answer.{Answer}
 use Rattle.tube_chip.specs.declared.Answer.TheVariants.{Byte, Seen}
@@ -60,16 +59,16 @@ longer_by keep list x = elim (nat_lt (length list) keep) as (λ b. (length list 
       | false ↦ (omega arith, λ n le. refl)
     ]
 
-still_kept : (keep : ℕ) (list xs : List Entry) (n : ℕ) → n ≤ length list → take n (note_all_leaves keep list xs) ≡ take n list
-still_kept keep list [] n le = refl
-still_kept keep list (x ∷ xs) n le =
+pub still_kept : (keep : ℕ) (list xs : List Entry) → (length list ≤ length (note_all_leaves keep list xs)) × ((n : ℕ) → n ≤ length list → take n (note_all_leaves keep list xs) ≡ take n list)
+still_kept keep list [] = (omega arith, λ n le. refl)
+still_kept keep list (x ∷ xs) =
     let one = longer_by keep list x in
-    let grown : length list ≤ length (note_leaves keep list x) = one.0 in
-    still_kept keep (note_leaves keep list x) xs n (omega arith) ∙ one.1 n le
+    let more = still_kept keep (note_leaves keep list x) xs in
+    (omega arith, λ n le. more.1 n (omega arith) ∙ one.1 n le)
 
 -- so that what was noted can be cut off again
 pub cut_back : (keep : ℕ) (list xs : List Entry) → take (length list) (note_all_leaves keep list xs) ≡ list
-cut_back keep list xs = still_kept keep list xs (length list) (omega arith) ∙ take_all (length list) list (omega arith)
+cut_back keep list xs = (still_kept keep list xs).1 (length list) (omega arith) ∙ take_all (length list) list (omega arith)
 
 pub none_of : (xs : List Entry) → length xs ≡ 0 → xs ≡ []
 none_of [] e = refl
@@ -80,8 +79,8 @@ all_own [] each = (refl, refl)
 all_own (e ∷ events) each =
     let is : e.side ≡ Para = All-head (IsOf Para) e events each in
     let rest = all_own events (All-tail (IsOf Para) e events each) in (
-      ap (λ (x : Side). if is_side Para x then e ∷ of_side Para events else of_side Para events) is ∙ ap (λ l. e ∷ l) rest.0,
-      ap (λ (x : Side). if is_side Host x then e ∷ of_side Host events else of_side Host events) is ∙ rest.1,
+      ap (λ x. if is_side Para x then e ∷ of_side Para events else of_side Para events) is ∙ ap (λ l. e ∷ l) rest.0,
+      ap (λ x. if is_side Host x then e ∷ of_side Host events else of_side Host events) is ∙ rest.1,
     )
 
 -- ---- The chip may change where what it showed stays
@@ -90,8 +89,8 @@ all_own (e ∷ events) each =
 module _ (is_read : Bool) (c d : State) (lines : lines_of d ≡ lines_of c) (shows : is_read ≡ true → ShowsAlike Para c d) where
   one_still : (r : Bool) → is_read ≡ r → (t : ℕ) (side : Side) (q : Query) (a : Answer) (xs : List Entry) → IsGlance q → (act c Para q).1 ≡ a
       → (r ≡ false → entry_of t side q a ++ xs ≡ []) → ((act d Para q).1 ≡ a) × (r ≡ false → xs ≡ [])
-  one_still r is t side look a xs glance idle none = (ap (λ (x : Lines). Seen x) lines ∙ idle, none)
-  one_still true is t side (access (Read number)) a xs glance idle none = (ap (λ (b : ℕ). Byte b) (shows is number glance) ∙ idle, λ no. cc)
+  one_still r is t side look a xs glance idle none = (ap (λ x. Seen x) lines ∙ idle, none)
+  one_still true is t side (access (Read number)) a xs glance idle none = (ap (λ b. Byte b) (shows is number glance) ∙ idle, λ no. cc)
   one_still true is t side (access (Write number byte)) a xs glance idle none = absurd glance
   one_still true is t side (access Reset) a xs glance idle none = absurd glance
   one_still false is t side (access op) (Byte b) xs glance idle none = let no = none refl in cc

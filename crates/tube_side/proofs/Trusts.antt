@@ -102,10 +102,10 @@ module _ {w : Way} (law : IsWay w) (base : List Event) where
   Learnt p q = ((q.known.host < q.known.trust) × (q.known.trust ≡ p.known.trust)) ⊎ ((q.known.trust ≤ q.known.host) × (q.trusted ≡ []) × (q.events ≡ base ++ made q.known.trust))
 
   pub trusting_learned : {p q : Carried} → p.side ≡ Para → IsTrusting w base p → Learns p q → IsTrusting w base q × Learnt p q
-  trusting_learned {p} {q} side is learns = go (subst (λ x. Trusts x p.known q.known) side learns.trust) (cases_lt q.known.host q.known.trust)
+  trusting_learned {p} {q} side is learns = go (rw side at learns.trust) (cases_lt q.known.host q.known.trust)
     where
       host_up : p.known.host ≤ q.known.host
-      host_up = subst (λ x. word_of_other x p.known ≤ word_of_other x q.known) side learns.other_word
+      host_up = rw side at learns.other_word
 
       settled : (t : ℕ) → t ≡ q.known.trust → t ≤ q.known.host → q.trusted ≡ [] → q.events ≡ base ++ made t → IsTrusting w base q × Learnt p q
       settled t t_is le none events =
@@ -180,7 +180,7 @@ module _ {w : Way} (law : IsWay w) (t : ℕ) (p : Carried) where
       }
     where
       para_of : (x : Carried) → x.side ≡ Para → (after_publish x h).known.para ≡ h
-      para_of x at = subst (λ y. (after_publish (record x { side = y }) h).known.para ≡ h) (sym at) refl
+      para_of x at = rw at refl
 
   -- its horizon
   pub told_low : {q : Carried} → q.side ≡ Para → HasTrusted w t p q → own_horizon q ≤ max q.known.trust (w.tick)
@@ -211,8 +211,8 @@ module _ {w : Way} (law : IsWay w) (t : ℕ) (p : Carried) where
   -- words were found
   pub told_learned : {q r : Carried} → q.side ≡ Para → HasTrusted w t p q → Learns q r → HasTrusted w t p r
   told_learned {q} {r} side told learns =
-      let fell = trusts_fall q.known r.known (subst (λ x. Trusts x q.known r.known) side learns.trust) in
-      let para : r.known.para ≡ q.known.para = subst (λ x. word_of x r.known ≡ word_of x q.known) side learns.own_word in
+      let fell = trusts_fall q.known r.known (rw side at learns.trust) in
+      let para : r.known.para ≡ q.known.para = rw side at learns.own_word in
       record {
         cell = ap (λ x. x.cell) learns.rest ∙ told.cell;
         side = ap (λ x. x.side) learns.rest ∙ told.side;

@@ -58,8 +58,8 @@ rose {p} {q} t bare none l not_yet now_is =
     let empty : q.ahead ≡ [] = ap (λ x. x.ahead) e ∙ bare in
     let b = bound_bare p bare in
     let c = bound_bare q empty in
-    let yes2 : Admits p.side (other_bound p.side q.known) t = subst (λ x. Admits x (other_bound x q.known) t) side (subst (λ x. Admits q.side x t) c now_is) in
-    let not2 : ¬ Admits p.side (other_bound p.side p.known) t = subst (λ x. ¬ Admits p.side x t) b not_yet in
+    let yes2 : Admits p.side (other_bound p.side q.known) t = rw side at (subst (λ x. Admits q.side x t) c now_is) in
+    let not2 : ¬ Admits p.side (other_bound p.side p.known) t = rw b at not_yet in
     ap (λ x. x.higher) l.rest ∙ ap (λ x. p.higher + x) (rise_one p.side p.known q.known t not2 yes2)
 
 -- ---- the horizon
@@ -82,7 +82,7 @@ host_rose {q} {r} side l lt =
     ∙ rise_one Para q.known r.known q.known.host (λ h. omega arith) (omega arith))
 
 pub learned_on_trust : (p : Carried) {q r : Carried} → q.side ≡ Para → Learns q r → IsPaidOnTrust p q → IsPaidOnTrust p r
-learned_on_trust p {q} {r} side l paid = go paid (cases_lt q.known.host r.known.host) (subst (λ z. Trusts z q.known r.known) side l.trust)
+learned_on_trust p {q} {r} side l paid = go paid (cases_lt q.known.host r.known.host) (rw side at l.trust)
   where
     paid_so : (r.commits ≡ q.commits) × (q.higher ≤ r.higher)
     paid_so = learned_paid l

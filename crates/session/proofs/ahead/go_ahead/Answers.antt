@@ -1,11 +1,10 @@
-use Rattle.std.proofs.Common.{arith, refl, ◌∙◌, sym, ap, subst, []}
+use Rattle.std.proofs.Common.{arith, refl, ◌∙◌, ap, subst}
 use Rattle.std.proofs.lemmas.List.{take_all}
-use Rattle.tube_party.specs.Logs.{HasNoted, none_noted}
-use Rattle.tube_side.specs.CodeSteps.{all_events, HasWaited, IsPaid, IsPaidOnTrust}
-use Rattle.tube_side.specs.CodeTrust.{HasTrusted, HasPassed}
+use Rattle.tube_party.specs.Logs.{none_noted}
+use Rattle.tube_side.specs.CodeSteps.{all_events}
 use Rattle.session.specs.CodeStation.{station}
 use Rattle.session.specs.CodeWay.{outset, IsSettled}
-use Rattle.session.proofs.OnWay.{if_none, reached_in, went, cut_back}
+use Rattle.session.proofs.OnWay.{if_none, reached_at, went, cut_back}
 use Rattle.session.proofs.ahead.go_ahead.Goals as goal
 
 pub returns-in_err-first-clause-none : goal.returns-in_err-first-clause-none
@@ -20,7 +19,7 @@ returns-in_err-first-clause-none g c =
       };
       ahead = ap (λ x. x.ahead) pass;
       state_is = none.0;
-      noted = subst (λ l. HasNoted [] log l) (sym none.1) (none_noted log);
+      noted = rw none.1 (none_noted log);
     })
 
 pub returns-then-not-tell_first-clause-none : goal.returns-then-not-tell_first-clause-none
@@ -30,7 +29,7 @@ returns-then-not-tell_first-clause-none g c =
     let some = c.in_ok-first.ensures.some in
     let kept = c.requires.kept in
     record {
-      waited = subst (λ x. HasWaited x c.tell_first.new.pass) pass (c.tell_first.ensures.waited not);
+      waited = rw pass at (c.tell_first.ensures.waited not);
       ahead = c.tell_first.ensures.unpublished not ∙ ap (λ x. x.ahead) pass;
       state_is = c.rewind.ensures ∙ some.1;
       noted = cut_back c.cut.new.self kept.0 kept.1 some.2 c.cut.ensures.list c.cut.ensures.count c.cut.ensures.keep;
@@ -39,34 +38,26 @@ returns-then-not-tell_first-clause-none g c =
 pub returns-clause-paid : goal.returns-clause-paid
 returns-clause-paid g c =
     let p = c.args.half.now.pass in
-    let told = c.tell_first.ensures.paid c.if-not-tell_first.false in
-    let first = subst (λ x. IsPaidOnTrust x c.tell_first.new.pass) c.set_out.ensures.pass told in
-    subst (λ x. IsPaid p x) (sym c.roll_back.ensures.pass) (c.wait_passed.ensures.paid p (c.strides_on-ask.ensures.paid p first))
+    let first = rw c.set_out.ensures.pass at (c.tell_first.ensures.paid c.if-not-tell_first.false) in
+    rw c.roll_back.ensures.pass (c.wait_passed.ensures.paid p (c.strides_on-ask.ensures.paid p first))
 
 pub returns-clause-some : goal.returns-clause-some
 returns-clause-some g c =
-    let m = g.M.Party.moves in
     let state = g.M.Party.state in
-    let n = c.args.n.0 in
     let at = c.args.from.now in
-    let from = outset (state c.args.half.now.machine) at in
-    let x = station state c.args.half.now in
-    let y = station state c.roll_back.new.half in
     let p = c.args.half.now.pass in
-    let q = c.wait_passed.new.pass in
     let t = c.reached-t-2.result.0 in
     let some = c.in_ok-first.ensures.some in
     let gone = c.strides_on-ask.ensures.further in
-    let out = gone.from_is ∙ some.1 in
-    let told_first = c.tell_first.ensures.trusted c.if-not-tell_first.false in
-    let first = subst (λ z. HasTrusted g.W.Ahead.way c.reached-t.result.0 z c.tell_first.new.pass) c.set_out.ensures.pass told_first in
+    let first = rw c.set_out.ensures.pass at (c.tell_first.ensures.trusted c.if-not-tell_first.false) in
     let told = c.strides_on-ask.ensures.told p c.reached-t.result.0 t c.reached-t.ensures c.reached-t-2.ensures first in
-    let passed = subst (λ w. HasPassed w t p q) c.requires.way (c.wait_passed.ensures.passed p told) in
+    let passed = rw c.requires.way at (c.wait_passed.ensures.passed p told) in
     let len = c.requires.kept.0 in
     let was = take_all at.log.len c.args.half.now.log.list.items (omega arith) in
     let list = c.roll_back.ensures.log.kept ∙ gone.log.kept ∙ some.2.kept ∙ was in
     let keep = c.roll_back.ensures.log.keep_is ∙ gone.log.keep_is ∙ some.2.keep_is in
-    let back = subst (λ s. IsSettled m n (outset s at) c.trust-trust.result.0 c.roll_back.result y) out c.roll_back.ensures.settled in
-    let under = reached_in m t gone.way c.reached-t-2.ensures in
-    (went m g.met.M.Party.lawful x c.requires.side refl list keep c.requires.kept.1 passed under c.roll_back.ensures.pass
-    (subst (λ a. IsSettled m n from a c.roll_back.result y) c.trust-trust.ensures back)).0
+    let back = subst (λ s. IsSettled g.M.Party.moves c.args.n.0 (outset s at) c.trust-trust.result.0 c.roll_back.result (station state c.roll_back.new.half))
+    (gone.from_is ∙ some.1) c.roll_back.ensures.settled in
+    let reached = reached_at g.met.M.Party.lawful c.args.n.0 (outset (state c.args.half.now.machine) at) _ _ _ t gone.way.asked c.reached-t-2.ensures in
+    (went g.M.Party.moves g.met.M.Party.lawful (station state c.args.half.now) c.requires.side refl list keep c.requires.kept.1 passed (omega arith) c.roll_back.ensures.pass
+    (rw c.trust-trust.ensures at back)).0

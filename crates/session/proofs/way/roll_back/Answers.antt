@@ -1,7 +1,5 @@
-use Rattle.std.proofs.Common.{◌≡◌, ◌∙◌, subst, ap, arith, length}
+use Rattle.std.proofs.Common.{◌≡◌, ◌∙◌, ap, arith, length}
 use Rattle.std.proofs.lemmas.List.{length-take-le, take_all}
-use Rattle.beeb_bits.specs.declared.Side.TheVariants.{Para}
-use Rattle.session.specs.CodeObserved.{HasObserved}
 use Rattle.session.specs.CodeStation.{station}
 use Rattle.session.specs.CodeWay.{trip}
 use Rattle.session.proofs.OnWay.{stands, went_anew, still_there}
@@ -27,7 +25,7 @@ returns-clause-settled g c =
     let y = station g.M.Party.state c.observe.new.half in
     let again = c.observe.result in
     let cut = c.cut.new.self in
-    let seen = subst (λ s. HasObserved m Para n c.args.from.now.mark.readings trust s cut again y.at.state y.log) c.rewind.ensures c.observe.ensures.observed in
+    let seen = rw c.rewind.ensures at c.observe.ensures.observed in
     let len : length cut.list.items ≡ log.len = ap length c.cut.ensures.list ∙ length-take-le log.len c.args.half.now.log.list.items c.requires.way.noted.kept in
     went_anew g.met.M.Party.lawful n _ _ y c.requires.order.0 c.requires.order.1 c.requires.reached c.requires.way
     len c.cut.ensures.count seen c.observe.ensures.over

@@ -22,7 +22,7 @@ returns-clause-some g c =
     if_some c.advance_noting-ask.result _ _ _ c.advance_noting-ask.ensures (λ ask went.
     let seen = heard lawful r (ap (λ d. d.side) desk) (ap (λ d. d.status) desk) (ap (λ d. d.below) desk) went.0 in
     let anew = subst (λ s. HasObserved m Para n r c.args.end.0 s old.log ask (state gone.self) gone.desk.log) (sym went.1)
-    (subst (λ l. HasObserved m Para n r c.args.end.0 (state old.machine) l ask (state gone.self) gone.desk.log) log seen) in
+    (rw log at seen) in
     let kept = c.requires.kept in
     let few = c.requires.few in
     let due = ap m.due went.1 in

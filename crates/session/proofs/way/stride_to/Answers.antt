@@ -1,11 +1,9 @@
-use Rattle.std.proofs.Common.{rules, ap, subst, ◌≢◌}
-use Rattle.beeb_bits.specs.declared.Side.TheVariants.{Para}
+use Rattle.std.proofs.Common.{rules, ap, ◌≢◌}
 use Rattle.tube_party.specs.declared.party.Ask.TheVariants.{Nothing}
-use Rattle.session.specs.CodeObserved.{HasObserved}
 use Rattle.session.specs.CodeWay.{trip}
 use Rattle.session.proofs.Heard.{heard}
 use Rattle.session.proofs.OnWay.{goes_on, stays_here}
-use Rattle.session.proofs.UnderWay.{pending}
+use Rattle.session.proofs.UnderWay.{asks_there}
 use Rattle.session.proofs.way.stride_to.Goals as goal
 
 pub returns-then-eq-clause-further : goal.returns-then-eq-clause-further
@@ -17,7 +15,7 @@ pub advance_on-next-requires-clause-pending : goal.advance_on-next-requires-clau
 advance_on-next-requires-clause-pending g c =
     let some : c.args.ask ≢ Nothing = search rules in
     let way = c.requires.way in
-    pending g.M.Party.moves c.args.n.0 way.last (g.M.Party.state c.args.half.now.machine) c.args.ask some way.asked
+    (asks_there g.M.Party.moves c.args.n.0 way.last (g.M.Party.state c.args.half.now.machine) c.args.ask some way.asked).0
 
 pub returns-clause-further : goal.returns-clause-further
 returns-clause-further g c =
@@ -35,5 +33,5 @@ returns-clause-further g c =
     let y = trip state g.M.Rewinds.before gone.past half c.args.from.now in
     let desk = c.take-desk.ensures in
     let seen = heard lawful r (ap (λ d. d.side) desk) (ap (λ d. d.status) desk) (ap (λ d. d.below) desk) c.advance_on-next.ensures.goes in
-    let on = subst (λ l. HasObserved m Para n r c.args.end.0 (state old.machine) l next (state gone.self) gone.desk.log) (ap (λ d. d.log) desk) seen in
+    let on = rw (ap (λ d. d.log) desk) at seen in
     goes_on lawful n _ y.here some c.requires.way on c.advance_on-next.ensures.mark

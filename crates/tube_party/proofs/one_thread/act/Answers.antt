@@ -1,7 +1,5 @@
-use Rattle.std.proofs.Common.{subst, Option}
-use Rattle.tube_chip.specs.Act.{Query}
+use Rattle.std.proofs.Common.{subst}
 use Rattle.tube_party.specs.declared.party.Ask.TheVariants.{Access}
-use Rattle.tube_party.specs.Moves.{MayAsk}
 use Rattle.tube_party.specs.Turn.{IsPending}
 use Rattle.tube_party.proofs.one_thread.act.Goals as goal
 
@@ -9,4 +7,4 @@ pub apply-answer-requires : goal.apply-answer-requires
 apply-answer-requires g c =
     let pending : IsPending g.M.Party.moves c.args.n.0 (g.M.Party.state c.args.machine.now) (Access c.in-Access.tick c.in-Access.op) =
     subst (IsPending g.M.Party.moves c.args.n.0 (g.M.Party.state c.args.machine.now)) c.in-Access.is c.requires.pending in
-    subst (λ (o : Option Query). MayAsk c.args.side o) pending.2 (g.met.M.Party.permitted (g.M.Party.state c.args.machine.now) c.args.side c.requires.plays)
+    rw pending.2 at (g.met.M.Party.permitted (g.M.Party.state c.args.machine.now) c.args.side c.requires.plays)

@@ -27,9 +27,7 @@ pub loop-side-preserved-then-not-stays : goal.loop-side-preserved-then-not-stays
 loop-side-preserved-then-not-stays g c =
     (rolls_back c.roll_back-para_ask.ensures c.loop-side.invariant.way c.loop-side.invariant.lines_is
     c.loop-side.invariant.host_keep c.loop-side.invariant.para_keep (cc) (c.stays.ensures.ahead c.if-not-stays.true)
-    c.tick_of-at.ensures (refl, refl)
-    (mark_of (g.P.Party.state (g.P.Rewinds.before c.roll_back-para_ask.new.past c.roll_back-para_ask.new.machine)) c.loop-side.mark.len
-    c.loop-side.mark.count)).kept
+    c.tick_of-at.ensures (refl, refl) _).kept
 
 pub loop-side-smaller-in-Host : goal.loop-side-smaller-in-Host
 loop-side-smaller-in-Host g c =
@@ -48,17 +46,15 @@ act-requires-in-Para-clause-count g c = omega (arith, c.requires.ticks, para_cou
 
 pub loop-side-smaller : goal.loop-side-smaller
 loop-side-smaller g c =
-    (para_turn_over
+    (para_turn_over c.loop-side.invariant
     {from2 = mark_of (g.P.Party.state (g.P.Rewinds.before c.go_ahead.new.past c.go_ahead.new.machine)) c.mark-mark-in-Para.result.len c.mark-mark-in-Para.result.count}
-    c.loop-side.invariant (cc) c.advance_at-asked.ensures c.go_ahead.ensures c.act-in-Para.ensures.acts refl refl refl
+    (cc) c.advance_at-asked.ensures c.go_ahead.ensures c.act-in-Para.ensures.acts refl refl refl
     (c.act-in-Para.ensures.keep ∙ c.loop-side.invariant.para_keep) c.act-in-Para.ensures.kept c.lookahead-table-in-Para.ensures
     (refl, c.mark-mark-in-Para.ensures.len, c.mark-mark-in-Para.ensures.count)).smaller
 
 pub loop-side-preserved : goal.loop-side-preserved
 loop-side-preserved g c =
-    (para_turn_over
-    {from2 = mark_of (g.P.Party.state (g.P.Rewinds.before c.go_ahead.new.past c.go_ahead.new.machine)) c.mark-mark-in-Para.result.len c.mark-mark-in-Para.result.count}
-    c.loop-side.invariant (cc) c.advance_at-asked.ensures c.go_ahead.ensures c.act-in-Para.ensures.acts refl refl refl
+    (para_turn_over c.loop-side.invariant (cc) c.advance_at-asked.ensures c.go_ahead.ensures c.act-in-Para.ensures.acts refl refl refl
     (c.act-in-Para.ensures.keep ∙ c.loop-side.invariant.para_keep) c.act-in-Para.ensures.kept c.lookahead-table-in-Para.ensures
     (refl, c.mark-mark-in-Para.ensures.len, c.mark-mark-in-Para.ensures.count)).kept
 

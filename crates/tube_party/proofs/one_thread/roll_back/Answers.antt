@@ -15,7 +15,7 @@ returns g c =
       goes = record {
         accesses = hears.accesses;
         last = hears.last;
-        talks = subst (λ (x : g.M.Party.State). Talks g.M.Party.moves IsPassed c.args.n.0 (shown_lines c.args.lines.now c.args.at.0) hears.accesses x
+        talks = subst (λ x. Talks g.M.Party.moves IsPassed c.args.n.0 (shown_lines c.args.lines.now c.args.at.0) hears.accesses x
             (para_turn (attended c.args.table.now) c.cut.new.self c.args.at.0) hears.last (attended c.advance_at.new.desk)) c.rewind.ensures hears.talks;
         asked = hears.asked;
       };

@@ -1,10 +1,9 @@
-use Rattle.std.proofs.Common.{◌≡◌, ◌∙◌, sym, ap, subst, ℕ, drop, arith}
+use Rattle.std.proofs.Common.{◌≡◌, ◌∙◌, sym, ap, arith}
 use Rattle.tube_chip.specs.declared.Answer.TheVariants.{Byte, Seen}
 use Rattle.tube_chip.specs.State.{power_on, lines_of}
 use Rattle.tube_chip.specs.Act.{access, look}
 use Rattle.tube_party.specs.Moves.{Moves}
 use Rattle.tube_party.specs.Replay.{chip_before}
-use Rattle.tube_party.specs.CodeCursor.{Takes}
 use Rattle.tube_party.proofs.ReplayLemmas.{goes_access, goes_look, ran_out, stands_access, stands_look, stands_asking, stands_rises, went_apart}
 use Rattle.tube_party.proofs.replaying.replay.Goals as goal
 
@@ -59,7 +58,7 @@ steps-preserved-in-Ok g c =
     c.answer.ensures).0 in
     record {
       goes = rw c.answer.ensures (goes_access stands.goes g.met.M.Party.lawful c.take.new.self.left c.in-Access.op c.in-Ok.byte stands.below stands.asks
-          (subst (λ (t : ℕ). Takes c.advance_at.new.desk.left c.take.new.self.left t c.in-Access.op c.in-Ok.byte) stands.tick_is c.in-Ok.ensures.0));
+          (rw stands.tick_is at c.in-Ok.ensures.0));
       own_lines = c.in-Ok.ensures.1 ∙ stands.lines_same ∙ c.steps.invariant.own_lines;
       seen_within = c.steps.invariant.seen_within;
       early = λ t a b. c.steps.invariant.early t (omega (arith, stands.later, rises, a)) b;
@@ -79,7 +78,7 @@ steps-preserved g c =
     c.answer-in-Look.ensures).0 in
     let chip_is = c.steps.invariant.late (m.due at) stands.later (omega (arith, there, both.1)) (omega (arith, stands.below, low)) in
     let lines_is : c.lines_at.new.lines ≡ lines_of (chip_before c.args.side (m.due at) power_on c.args.trace.now) =
-    subst (λ (t : ℕ). c.lines_at.new.lines ≡ lines_of (chip_before c.args.side t c.steps.chip (drop c.steps.seen c.args.trace.now))) there c.lines_at.ensures.lines
+    rw there at c.lines_at.ensures.lines
     ∙ sym (ap lines_of chip_is) in
     record {
       goes = rw (c.answer-in-Look.ensures, lines_is) (goes_look stands.goes g.met.M.Party.lawful stands.below stands.asks);

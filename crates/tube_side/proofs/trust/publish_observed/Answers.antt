@@ -8,4 +8,4 @@ pub publish_and_entrust-requires-clause-watches : goal.publish_and_entrust-requi
 publish_and_entrust-requires-clause-watches g c =
     let p = c.args.pass.now in
     subst (λ l. Watches Para c.args.mark.0 (here p) l c.args.t.0) (sym c.requires.observed)
-    (subst (λ x. Watches Para x (here p) (g.W.Ahead.way.until c.args.t.0) c.args.t.0) c.requires.way.0 (c.requires.is_way.watches (here p) c.args.t.0 c.requires.way.1))
+    (rw c.requires.way.0 at (c.requires.is_way.watches (here p) c.args.t.0 c.requires.way.1))

@@ -4,20 +4,21 @@ use Rattle.tube_cell.proofs.Raises.{may_commit, commit_trust, pass_raised, is_co
 use Rattle.tube_cell.proofs.cell.TubeCell.commit.Goals as goal
 
 pub exchange-requires-clause-may : goal.exchange-requires-clause-may
-exchange-requires-clause-may g c = may_commit c.args.t.0 c.args.op c.pass.view_is c.pass.invariant.0 c.requires.published c.requires.none_trusted
+exchange-requires-clause-may g c = may_commit c.pass.view_is c.pass.invariant.0 c.requires.published c.args.t.0 c.args.op c.requires.none_trusted
     c.requires.later c.requires.admitted c.operate-answer.ensures.chip
 
 pub exchange-requires-clause-trust : goal.exchange-requires-clause-trust
-exchange-requires-clause-trust g c = commit_trust c.args.t.0 c.args.op c.pass.view_is c.pass.invariant.0 c.requires.published
+exchange-requires-clause-trust g c = commit_trust c.pass.view_is c.pass.invariant.0 c.requires.published c.args.t.0 c.args.op
     c.operate-answer.ensures.chip (c.trust_of.ensures.is (cell_view c.pass.inside.seat).known c.pass.invariant.0.words_are) c.operate-answer.ensures.trust
 
 pub invariant_of-pass : goal.invariant_of-pass
-invariant_of-pass g c = pass_raised c.pass.inside.cut (c.args.t.0 + 1) c.operate-answer.result.1 _ c.pass.view_is c.pass.invariant.0 c.pass.invariant.1 c.requires.published c.requires.none_trusted
+invariant_of-pass g c = pass_raised c.pass.view_is c.pass.invariant.0 c.requires.published c.pass.inside.cut (c.args.t.0 + 1) c.operate-answer.result.1 _ c.pass.invariant.1 c.requires.none_trusted
     c.exchange.ensures.bounds c.in-Ok.ensures.published c.in-Ok.ensures.next
 
 pub returns-in-Ok-clause-committed : goal.returns-in-Ok-clause-committed
-returns-in-Ok-clause-committed g c = is_committed c.args.t.0 c.args.op c.pass.view_is
-    c.pass.invariant.0 c.requires.published c.exchange.ensures.cell.0 c.operate-answer.ensures.chip (commit_trust c.args.t.0 c.args.op c.pass.view_is c.pass.invariant.0 c.requires.published c.operate-answer.ensures.chip
+returns-in-Ok-clause-committed g c =
+    is_committed c.pass.view_is c.pass.invariant.0 c.requires.published c.args.t.0 c.args.op c.exchange.ensures.cell.0 c.operate-answer.ensures.chip
+    (commit_trust c.pass.view_is c.pass.invariant.0 c.requires.published c.args.t.0 c.args.op c.operate-answer.ensures.chip
     (c.trust_of.ensures.is (cell_view c.pass.inside.seat).known c.pass.invariant.0.words_are) c.operate-answer.ensures.trust)
     c.in-Ok.ensures.published
 

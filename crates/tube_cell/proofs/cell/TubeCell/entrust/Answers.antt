@@ -5,13 +5,13 @@ use Rattle.tube_cell.proofs.Raises.{may_entrust, pass_entrusted, is_entrusted, h
 use Rattle.tube_cell.proofs.cell.TubeCell.entrust.Goals as goal
 
 pub entrust_at-requires-clause-may : goal.entrust_at-requires-clause-may
-entrust_at-requires-clause-may g c = may_entrust _ _ c.pass.view_is c.pass.invariant.0 c.requires.side c.requires.published c.requires.later
+entrust_at-requires-clause-may g c = may_entrust c.pass.view_is c.pass.invariant.0 c.requires.published _ _ c.requires.side c.requires.later
     c.requires.watches
 
 pub invariant_of-pass : goal.invariant_of-pass
 invariant_of-pass g c =
     let v = cell_view c.pass.inside.seat in
-    let may = may_entrust _ _ c.pass.view_is c.pass.invariant.0 c.requires.side c.requires.published c.requires.later c.requires.watches in (
+    let may = may_entrust c.pass.view_is c.pass.invariant.0 c.requires.published _ _ c.requires.side c.requires.later c.requires.watches in (
       pass_entrusted c.pass.invariant.0 (bare_of v c.pass.view_is c.requires.published) may c.in-Ok.ensures.entrusted c.in-Ok.ensures.next,
       cut_kept c.pass.inside.side c.pass.inside.cut v (cell_view c.entrust_at.new.seat) c.pass.invariant.1 (bare_of v c.pass.view_is c.requires.published)
           (ap (λ u. u.ahead) c.in-Ok.ensures.entrusted ∙ bare_of v c.pass.view_is c.requires.published),

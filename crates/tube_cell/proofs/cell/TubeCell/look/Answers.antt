@@ -8,7 +8,7 @@ use Rattle.tube_cell.proofs.Raises.{may_look, looked_ahead, looked_local, pass_l
 use Rattle.tube_cell.proofs.cell.TubeCell.look.Goals as goal
 
 pub load_at-found-requires-clause-may : goal.load_at-found-requires-clause-may
-load_at-found-requires-clause-may g c = may_look c.args.t.0 c.pass.view_is c.pass.invariant.0 c.requires.published c.requires.none_trusted c.requires.later
+load_at-found-requires-clause-may g c = may_look c.pass.view_is c.pass.invariant.0 c.requires.published c.args.t.0 c.requires.none_trusted c.requires.later
 
 pub invariant_of-pass : goal.invariant_of-pass
 invariant_of-pass g c =

@@ -1,7 +1,6 @@
-use Rattle.std.proofs.Common.{rules, sym, subst, ◌∷◌, []}
-use Rattle.tube_cell.specs.Rules.{Kept, whole}
+use Rattle.std.proofs.Common.{rules}
 use Rattle.tube_cell.proofs.Keeps.{begins}
 use Rattle.tube_cell.proofs.cell.TubeCell.make.Goals as goal
 
 pub ruled-requires : goal.ruled-requires
-ruled-requires c = (search rules, (search rules, subst (λ words. Kept words (whole ∷ [])) (sym c.power_on.ensures) begins))
+ruled-requires c = (search rules, (search rules, rw c.power_on.ensures begins))

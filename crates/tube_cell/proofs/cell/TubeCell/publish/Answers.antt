@@ -6,7 +6,7 @@ use Rattle.tube_cell.proofs.Publishes.{may_publish, publish_trust, is_published}
 use Rattle.tube_cell.proofs.cell.TubeCell.publish.Goals as goal
 
 pub exchange-requires-clause-may : goal.exchange-requires-clause-may
-exchange-requires-clause-may g c = may_publish c.args.h.0 c.pass.view_is c.pass.invariant.0 c.requires.none_trusted c.requires.later
+exchange-requires-clause-may g c = may_publish c.pass.view_is c.pass.invariant.0 c.args.h.0 c.requires.none_trusted c.requires.later
 
 pub exchange-requires-clause-trust : goal.exchange-requires-clause-trust
 exchange-requires-clause-trust g c =
@@ -22,7 +22,7 @@ invariant_of-pass g c = (
 )
 
 pub returns-in-Ok-clause-published : goal.returns-in-Ok-clause-published
-returns-in-Ok-clause-published g c = λ _. is_published c.args.h.0 c.pass.view_is c.pass.invariant.0 c.exchange.ensures.cell.0
+returns-in-Ok-clause-published g c = λ _. is_published c.pass.view_is c.pass.invariant.0 c.args.h.0 c.exchange.ensures.cell.0
     (publish_trust c.pass.inside.side (cell_view c.pass.inside.seat) c.pass.inside.cut c.pass.invariant.1
     (c.trust_of.ensures.is (cell_view c.pass.inside.seat).known c.pass.invariant.0.words_are) c.trust_of.ensures.bounded c.min-left.ensures)
     c.in-Ok.ensures.published

@@ -6,20 +6,18 @@ use Rattle.tube_cell.proofs.cell.TubeCell.publish_and_entrust.Goals as goal
 
 pub publish_and_entrust_at-told-requires-clause-may : goal.publish_and_entrust_at-told-requires-clause-may
 publish_and_entrust_at-told-requires-clause-may g c =
-    may_both _ _ _ c.pass.view_is c.pass.invariant.0 c.requires.side c.requires.none_trusted c.requires.later c.requires.order c.requires.watches
+    may_both c.pass.view_is c.pass.invariant.0 _ _ _ c.requires.side c.requires.none_trusted c.requires.later c.requires.order c.requires.watches
 
 pub invariant_of-pass : goal.invariant_of-pass
 invariant_of-pass g c =
     let w = cell_view c.publish_and_entrust_at-told.new.seat in (
-      pass_both _ _ _
-          c.pass.view_is c.pass.invariant.0 c.requires.none_trusted c.publish_and_entrust_at-told.ensures.bounds c.requires.watches c.in-Ok.ensures.told c.in-Ok.ensures.next,
+      pass_both c.pass.view_is c.pass.invariant.0 _ _ _ c.requires.none_trusted c.publish_and_entrust_at-told.ensures.bounds c.requires.watches c.in-Ok.ensures.told c.in-Ok.ensures.next,
       cut_fresh c.pass.inside.side w (ap (λ u. u.ahead) c.in-Ok.ensures.told),
     )
 
 pub returns-in-Ok-clause-entrusted : goal.returns-in-Ok-clause-entrusted
 returns-in-Ok-clause-entrusted g c = λ _.
-    is_both g.D.Deeds.events c.args.h.0 c.args.t.0
-    c.pass.view_is c.pass.invariant.0 c.requires.side c.publish_and_entrust_at-told.ensures.cell.0 c.in-Ok.ensures.told
+    is_both c.pass.view_is c.pass.invariant.0 g.D.Deeds.events c.args.h.0 c.args.t.0 c.requires.side c.publish_and_entrust_at-told.ensures.cell.0 c.in-Ok.ensures.told
 
 pub returns-in-Ok-clause-horizon : goal.returns-in-Ok-clause-horizon
 returns-in-Ok-clause-horizon g c = λ is.

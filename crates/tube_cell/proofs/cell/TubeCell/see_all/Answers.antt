@@ -5,8 +5,8 @@ use Rattle.tube_cell.proofs.cell.TubeCell.see_all.Goals as goal
 pub invariant_of-pass : goal.invariant_of-pass
 invariant_of-pass g c =
     let w = cell_view c.add.new.seat in (
-      saw_all _ _ c.pass.view_is c.pass.invariant.0 c.requires.none_trusted c.requires.watches c.requires.admitted c.add.ensures.added,
-      saw_cut _ _ c.pass.inside.cut c.pass.view_is c.pass.invariant.0 c.pass.invariant.1 c.requires.watches c.add.ensures.added,
+      saw_all c.pass.view_is c.pass.invariant.0 _ _ c.requires.none_trusted c.requires.watches c.requires.admitted c.add.ensures.added,
+      saw_cut c.pass.view_is c.pass.invariant.0 _ _ c.pass.inside.cut c.pass.invariant.1 c.requires.watches c.add.ensures.added,
     )
 
 pub returns-clause-added : goal.returns-clause-added

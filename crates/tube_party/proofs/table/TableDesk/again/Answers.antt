@@ -1,10 +1,7 @@
-use Rattle.std.proofs.Common.{◌≡◌, ◌∙◌, ℕ, suc, ◌+◌, ◌*◌, refl, sym, ap, subst, arith}
-use Rattle.beeb_bits.specs.declared.Side.{Side}
+use Rattle.std.proofs.Common.{◌≡◌, ◌∙◌, ℕ, refl, sym, ap, arith}
 use Rattle.tube_chip.specs.Act.{answer_of, chip_after}
-use Rattle.tube_chip.specs.State.{State}
 use Rattle.tube_party.specs.CodePassing.{attended, Attended, IsPassed}
-use Rattle.tube_party.specs.Moves.{IsAnsweredAgain}
-use Rattle.tube_party.proofs.Again.{period-more, again-more, still-seen}
+use Rattle.tube_party.proofs.Again.{again-on, still-seen}
 use Rattle.tube_party.proofs.table.TableDesk.again.Goals as goal
 
 pub apply-requires : goal.apply-requires
@@ -16,14 +13,12 @@ loop-times-preserved c =
     let old : Attended = attended c.args.self.now in
     let now : Attended = attended c.loop-times.self in
     let new : Attended = record now { host = c.note_own.new.host_log; para = c.note_own.new.para_log } in
-    let one : suc k ≡ k + 1 = omega arith in
-    let here : c.loop-times.at ≡ c.args.tick.0 + c.args.period * k + c.args.period = c.loop-times.invariant.at in
     let left : chip_after c.loop-times.self.chip c.loop-times.self.turn c.args.op ≡ c.loop-times.self.chip =
     c.is_status.ensures.stays c.if-not-is_status.false c.loop-times.self.chip c.loop-times.self.turn in
     let passed : IsPassed now c.loop-times.at c.args.op c.args.byte new = record {
       early = c.if-at-self.true;
-      byte_is = sym c.if-apply-byte.false ∙ c.apply.ensures.answer ∙ ap (λ (x : State). answer_of x c.args.self.now.turn c.args.op) (sym c.loop-times.invariant.chip)
-          ∙ ap (λ (x : Side). answer_of c.loop-times.self.chip x c.args.op) (sym c.loop-times.invariant.turn);
+      byte_is = sym c.if-apply-byte.false ∙ c.apply.ensures.answer ∙ ap (λ x. answer_of x c.args.self.now.turn c.args.op) (sym c.loop-times.invariant.chip)
+          ∙ ap (λ x. answer_of c.loop-times.self.chip x c.args.op) (sym c.loop-times.invariant.turn);
       chip_is = sym left;
       stays = still-seen c.loop-times.self.is_read c.loop-times.self.chip (chip_after c.loop-times.self.chip c.loop-times.self.turn c.args.op) left;
       reads = λ _ _. c.is_status.ensures.reads c.if-not-is_status.false;
@@ -33,12 +28,10 @@ loop-times-preserved c =
       sure_is = refl;
       is_read_is = refl;
     } in
+    let both = again-on IsPassed c.args.op c.args.byte c.args.period k old c.args.tick.0 c.loop-times.invariant.again c.loop-times.invariant.at passed in
     record {
-      again = subst (λ (n : ℕ). IsAnsweredAgain IsPassed c.args.op c.args.byte c.args.period n old c.args.tick.0 new) one
-          (again-more IsPassed c.args.op c.args.byte c.args.period k old c.args.tick.0 now new c.loop-times.invariant.again
-          (subst (λ (t : ℕ). IsPassed now t c.args.op c.args.byte new) here passed));
-      at = let more : c.args.period * suc k ≡ c.args.period * k + c.args.period = period-more IsPassed c.args.op c.args.byte c.args.period k in
-          subst (λ (n : ℕ). c.loop-times.at + c.args.period ≡ c.args.tick.0 + c.args.period * n + c.args.period) one (omega (arith, here, more));
+      again = both.0;
+      at = both.1;
       chip = c.loop-times.invariant.chip;
       turn = c.loop-times.invariant.turn;
       few = omega (arith, c.loop-times-test.true);

@@ -1,9 +1,8 @@
 use Rattle.std.proofs.Common.{sym, subst}
 use Rattle.tube_chip.specs.Act.{MayDo}
 use Rattle.tube_party.specs.declared.party.Ask.TheVariants.{Access}
-use Rattle.tube_party.specs.Moves.{MayAsk}
 use Rattle.tube_party.specs.Turn.{IsPending}
-use Rattle.session.proofs.half.step.Goals as goal
+use Rattle.session.proofs.half.step_when_admitted.Goals as goal
 
 pub act-answer-requires-clause-operation : goal.act-answer-requires-clause-operation
 act-answer-requires-clause-operation g c =
@@ -11,4 +10,4 @@ act-answer-requires-clause-operation g c =
     let pending : IsPending g.M.Party.moves c.args.n.0 s (Access c.in-Access.tick c.in-Access.op) =
     subst (IsPending g.M.Party.moves c.args.n.0 s) c.in-Access.is c.requires.pending in
     subst (λ x. MayDo x c.in-Access.op) (sym c.come.ensures.waited.same.side)
-    (subst (λ o. MayAsk c.args.half.now.pass.side o) pending.2 (g.met.M.Party.permitted s c.args.half.now.pass.side c.requires.plays))
+    (rw pending.2 at (g.met.M.Party.permitted s c.args.half.now.pass.side c.requires.plays))

@@ -1,7 +1,7 @@
 use Rattle.std.proofs.Common.{arith}
 use Rattle.session.specs.CodeStation.{station}
 use Rattle.session.proofs.Gone.{gone_on}
-use Rattle.session.proofs.lookahead.go_on.Goals as goal
+use Rattle.session.proofs.lookahead.advance_to_ask.Goals as goal
 
 pub returns : goal.returns
 returns g c =

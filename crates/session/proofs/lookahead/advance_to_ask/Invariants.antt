@@ -1,5 +1,5 @@
 use Rattle.session.specs.CodeSight.{readings_seen, observed_events}
-use Rattle.session.proofs.lookahead.go_on.Given as goal
+use Rattle.session.proofs.lookahead.advance_to_ask.Given as goal
 
 abbrev pub ghosts-see_next : goal.ghosts-see_next
 ghosts-see_next g a = record {
