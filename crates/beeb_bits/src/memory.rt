@@ -16,6 +16,12 @@ impl From<AllocError> for NoMemory {
     }
 }
 
+impl From<NoMemory> for AllocError {
+    fn from(_error: NoMemory) -> AllocError {
+        AllocError
+    }
+}
+
 /// So many bytes, all 00.
 ///
 /// # Errors

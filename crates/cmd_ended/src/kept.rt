@@ -38,10 +38,8 @@ fn merged(
         AreFirst n list keep host.now para.now → v.items ≡ take keep (accesses list)) }
 {
     rising_list_is_merge();
-    match merge(alloc, host, para, keep) {
-        Ok(kept) => Ok(kept),
-        Err(_) => Err(AllocError),
-    }
+    let kept = merge(alloc, host, para, keep)?;
+    Ok(kept)
 }
 
 // What is kept: how many accesses they are, and their trace.
@@ -49,13 +47,11 @@ fn kept_of(alloc: Global, clock: Clock, kept: &[Entry]) -> Result<Kept, AllocErr
     requires { (n : ℕ) × (n ≤ MOST) × IsTraceBelow n kept.now }
     ensures { IfOk result (λ there. kept_seen there ≡ kept_of clock kept.now) }
 {
-    match write(alloc, clock, kept) {
-        Ok(trace) => Ok(Kept {
-            count: kept.len() as u64,
-            trace,
-        }),
-        Err(_) => Err(AllocError),
-    }
+    let trace = write(alloc, clock, kept)?;
+    Ok(Kept {
+        count: kept.len() as u64,
+        trace,
+    })
 }
 
 // The session file of a run, if it is to be saved.

@@ -78,8 +78,6 @@ pub(crate) fn session_file(
         entries,
         ..begun
     };
-    match encode(alloc, &saved) {
-        Ok(file) => Ok(file),
-        Err(_) => Err(AllocError),
-    }
+    let file = encode(alloc, &saved)?;
+    Ok(file)
 }

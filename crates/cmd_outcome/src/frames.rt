@@ -32,10 +32,8 @@ pub(crate) fn frame_name(alloc: Global, out: &str, number: usize) -> Result<Stri
 fn picture(alloc: Global, frame: &Frame) -> Result<Vec<u8>, AllocError>
     ensures { IfOk result (λ v. v.items ≡ pixmap frame.now) }
 {
-    match ppm(alloc, frame) {
-        Ok(bytes) => Ok(bytes),
-        Err(_) => Err(AllocError),
-    }
+    let bytes = ppm(alloc, frame)?;
+    Ok(bytes)
 }
 
 /// The pixmap of the frame of this number, no bytes where there is none.

@@ -70,10 +70,8 @@ pub(crate) fn report_text<D: BusDevice>(
     let para = para_line(&left.para);
     let kept = kept_count(&left.kept);
     let frames = frame_count(&left.host);
-    match text(alloc, left.ticks, host, para, left.tube, kept, frames) {
-        Ok(bytes) => Ok(bytes),
-        Err(_) => Err(AllocError),
-    }
+    let bytes = text(alloc, left.ticks, host, para, left.tube, kept, frames)?;
+    Ok(bytes)
 }
 
 /// The memory of a machine, no bytes where it is not there.

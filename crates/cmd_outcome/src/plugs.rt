@@ -15,10 +15,8 @@ fn spilled<D: BusDevice>(alloc: Global, plug: &D) -> Result<Vec<u8>, AllocError>
     ensures { IfOk result (λ v. v.items ≡ plug_spills (D.plug plug.now)) }
 {
     let mut bytes = Vec::new(alloc);
-    match plug.spill(&mut bytes) {
-        Ok(()) => Ok(bytes),
-        Err(_) => Err(AllocError),
-    }
+    plug.spill(&mut bytes)?;
+    Ok(bytes)
 }
 
 /// What the plugged device of this number spills, no bytes where there is none.

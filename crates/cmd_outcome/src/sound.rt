@@ -33,13 +33,9 @@ fn sound_file(
     requires order { NeverFallFrom 0 writes.now }
     ensures { IfOk result (λ v. v.items ≡ sound_file clock ticks.0 writes.now) }
 {
-    let Ok(samples) = render(alloc, writes, microseconds_below(clock, ticks)) else {
-        return Err(AllocError);
-    };
-    match wav(alloc, &samples) {
-        Ok(bytes) => Ok(bytes),
-        Err(_) => Err(AllocError),
-    }
+    let samples = render(alloc, writes, microseconds_below(clock, ticks))?;
+    let bytes = wav(alloc, &samples)?;
+    Ok(bytes)
 }
 
 /// The sound file of a host after a run of so many ticks.

@@ -52,9 +52,7 @@ fn push_decoded(
     requires { pc + length bytes.now ≤ 65536 }
     ensures { IfOk result (λ _. text.new.items ≡ text.old.items ++ first_line (behind_line (decode part bytes.now pc))) }
 {
-    let Ok(decoded) = disassemble(alloc, part, bytes, pc) else {
-        return Err(AllocError);
-    };
+    let decoded = disassemble(alloc, part, bytes, pc)?;
     push_first_line(text, behind_line(&decoded))
 }
 
