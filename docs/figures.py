@@ -30,19 +30,19 @@ CLOCKS = [
 # The turns of both threads: for each thread what it does, from and to a place on the axis from 0 to 100, with the function
 # and its kind; then what goes from one to the other.
 HOST = [
-    (0, 17, "go_on", "looks and accesses below the other's bound: no word", "work"),
+    (0, 17, "advance_to_ask", "looks and accesses below the other's bound: no word", "work"),
     (17, 27, "come", "a step past it: learn, publish, rest", "wait"),
-    (27, 62, "go_on", "as far as the second processor has entrusted", "work"),
+    (27, 62, "advance_to_ask", "as far as the second processor has entrusted", "work"),
     (62, 71, "act", "an access that changes its lines", "act"),
-    (71, 100, "go_on", "on, up to the new bound", "work"),
+    (71, 100, "advance_to_ask", "on, up to the new bound", "work"),
 ]
 PARA = [
-    (0, 12, "go_on", "below the host's horizon: as `drive`", "work"),
+    (0, 12, "advance_to_ask", "below the host's horizon: as `drive`", "work"),
     (12, 22, "go_ahead", "sets a mark", "act"),
     (22, 48, "stride_to", "strides past the mark: looks and status reads on trust", "trust"),
     (48, 70, "strides_on", "the next stride, while the host uses the first", "lost"),
     (70, 82, "roll_back", "back to the mark, on to the access", "act"),
-    (82, 100, "go_on", "goes on from there", "work"),
+    (82, 100, "advance_to_ask", "goes on from there", "work"),
 ]
 # What goes from one to the other: from the host, from which place to which, how wide the text is, the function, what it tells.
 WORDS = [
