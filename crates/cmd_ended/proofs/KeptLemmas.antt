@@ -1,6 +1,7 @@
 -- What is kept of the accesses of a reference run: the first of both sides' first are the first of all.
-use Rattle.std.proofs.Common.{◌≡◌, ◌∙◌, sym, refl, ap, subst, ℕ, zero, suc, ◌+◌, ◌*◌, ◌<◌, ◌≤◌, length, take, List, [], ◌∷◌, ◌++◌, Bool, true, false}
-use Rattle.std.proofs.Common.{IsTrue, nat_lt, nat_le, cond, All, Option, Some, option_map, Result, Ok, Err, IfOk, arith}
+use Rattle.std.proofs.Common.{◌≡◌, ◌∙◌, sym, refl, ap, ℕ, zero, suc, ◌+◌, ◌*◌, ◌<◌, ◌≤◌, length, take, List, [], ◌∷◌, ◌++◌, Bool}
+use Rattle.std.proofs.Common.{IsTrue, nat_lt, cond, All, Option, Some, Result, Ok, Err, IfOk, arith}
+use Rattle.std.proofs.lemmas.List.{take-take}
 use Rattle.std.proofs.lemmas.List.Elements.{All-nil, All-cons, All-head, All-tail, All-take}
 use Rattle.std.proofs.lemmas.Bool.Decides.{nat_tests}
 use Rattle.beeb_bits.specs.Order.{before}
@@ -8,11 +9,11 @@ use Rattle.beeb_bits.specs.declared.clock.Clock.{Clock}
 use Rattle.beeb_bits.specs.declared.Side.{Side}
 use Rattle.beeb_bits.specs.declared.Side.TheVariants.{Host, Para}
 use Rattle.tube_chip.specs.declared.Op.{Op}
-use Rattle.tube_chip.specs.declared.Op.TheVariants.{Read, Write, Reset}
+use Rattle.tube_chip.specs.declared.Op.TheVariants.{Read}
 use Rattle.tube_chip.specs.declared.Answer.{Answer}
-use Rattle.tube_chip.specs.declared.Answer.TheVariants.{Byte, Seen}
+use Rattle.tube_chip.specs.declared.Answer.TheVariants.{Byte}
 use Rattle.tube_chip.specs.State.{State}
-use Rattle.tube_chip.specs.Act.{Query, access, look, act}
+use Rattle.tube_chip.specs.Act.{Query, access, act}
 use Rattle.tube_chip.specs.Events.{Event, IsBefore, Rises, RisesAfter, IsAnsweredFrom, merge, of_side, is_side}
 use Rattle.tube_chip.specs.Laws.{RisingListIsMerge}
 use Rattle.tube_trace.specs.declared.Entry.{Entry}
@@ -24,106 +25,73 @@ use Rattle.tube_party.specs.Reference.{World, IsTraceBelow}
 use Rattle.host_mach.specs.State.{HostState}
 use Rattle.para_mach.specs.State.{ParaState}
 use Rattle.save_state.specs.Saved.{Session}
-use Rattle.save_state.specs.File.{file_of}
 use Rattle.cmd_outcome.specs.Names.{Names}
 use Rattle.cmd_outcome.specs.Left.{Kept}
 use Rattle.cmd_outcome.specs.Verdicts.{machine_verdict, both_left}
-use Rattle.cmd_ended.specs.Save.{saved_of}
-use Rattle.cmd_ended.specs.Kept.{kept_of, kept_verdict}
+use Rattle.cmd_ended.specs.Kept.{kept_verdict}
 use Rattle.cmd_ended.specs.Code.{AreFirst, AreKept, AreFiles}
 
 -- ---- taking of merged lists
 
-take_less : (k j : ℕ) (xs : List Event) → k ≤ j → take k (take j xs) ≡ take k xs
-take_less zero j xs h = refl
-take_less (suc k) zero xs h = absurd (omega (arith, h))
-take_less (suc k) (suc j) [] h = refl
-take_less (suc k) (suc j) (x ∷ xs) h = ap (λ (z : List Event). x ∷ z) (take_less k j xs (omega (arith, h)))
-
-either : (t : Bool) (k : ℕ) (a b : Event) (p q r s : List Event) → take k p ≡ take k q → take k r ≡ take k s → take (suc k) (cond t (b ∷ p) (a ∷ r)) ≡ take (suc k) (cond t (b ∷ q) (a ∷ s))
-either true k a b p q r s one two = ap (λ (z : List Event). b ∷ z) one
-either false k a b p q r s one two = ap (λ (z : List Event). a ∷ z) two
+by_first : (t : Bool) (k : ℕ) (a b : Event) (p q r s : List Event) → take k p ≡ take k q → take k r ≡ take k s → take (suc k) (cond t (b ∷ p) (a ∷ r)) ≡ take (suc k) (cond t (b ∷ q) (a ∷ s))
+by_first t k a b p q r s one two = grind arith
 
 -- the first k of a merge are those of the merge of the first k of each
 merge_less : (k i j : ℕ) (xs ys : List Event) → k ≤ i → k ≤ j → take k (merge (take i xs) (take j ys)) ≡ take k (merge xs ys)
 merge_less zero i j xs ys hi hj = refl
 merge_less (suc k) zero j xs ys hi hj = absurd (omega (arith, hi))
 merge_less (suc k) (suc i) zero xs ys hi hj = absurd (omega (arith, hj))
-merge_less (suc k) (suc i) (suc j) [] ys hi hj = take_less (suc k) (suc j) ys hj
+merge_less (suc k) (suc i) (suc j) [] ys hi hj = take-take (suc k) (suc j) ys hj
 merge_less (suc k) (suc i) (suc j) (a ∷ xs) [] hi hj = ap (λ (z : List Event). a ∷ z) (merge_less k i (suc j) xs [] (omega (arith, hi)) (omega (arith, hj)))
 merge_less (suc k) (suc i) (suc j) (a ∷ xs) (b ∷ ys) hi hj =
-    either (nat_lt b.tick a.tick) k a b _ _ _ _ (merge_less k (suc i) j (a ∷ xs) ys (omega (arith, hi)) (omega (arith, hj)))
-    (merge_less k i (suc j) xs (b ∷ ys) (omega (arith, hi)) (omega (arith, hj)))
+    let one = merge_less k (suc i) j (a ∷ xs) ys (omega (arith, hi)) (omega (arith, hj)) in
+    let two = merge_less k i (suc j) xs (b ∷ ys) (omega (arith, hi)) (omega (arith, hj)) in
+    by_first (nat_lt b.tick a.tick) k a b _ _ _ _ one two
 
 -- ---- the accesses of a side
 
-with_entry : (t : Bool) (e : Event) (x : Entry) (own left : List Event) → entry_of e.tick e.side e.query e.answer ≡ x ∷ [] → events_of (accesses own) ≡ left →
-    events_of (accesses (cond t (e ∷ own) own)) ≡ cond t (event_of x ∷ left) left
-with_entry true e x own left one is = ap (λ (n : List Entry). events_of (n ++ accesses own)) one ∙ ap (λ (z : List Event). event_of x ∷ z) is
-with_entry false e x own left one is = is
+-- an event and an entry of a side, and an entry below a tick
+abbrev IsAt : Side → Event → Type 0
+IsAt s e = e.side ≡ s
 
-without_entry : (t : Bool) (e : Event) (own left : List Event) → entry_of e.tick e.side e.query e.answer ≡ [] → events_of (accesses own) ≡ left →
-    events_of (accesses (cond t (e ∷ own) own)) ≡ left
-without_entry true e own left none is = ap (λ (n : List Entry). events_of (n ++ accesses own)) none ∙ is
-without_entry false e own left none is = is
+abbrev IsFrom : Side → Entry → Type 0
+IsFrom s x = x.side ≡ s
 
-one_own : (s : Side) (e : Event) (q : Query) (a : Answer) (own : List Event) (rest : List Entry) → e.query ≡ q → e.answer ≡ a →
-    events_of (accesses own) ≡ of_side s (events_of rest) →
-    events_of (accesses (cond (is_side s e.side) (e ∷ own) own)) ≡ of_side s (events_of (entry_of e.tick e.side e.query e.answer ++ rest))
-one_own s e (access op) (Byte b) own rest asked told is =
-    let x : Entry = record { tick = record { 0 = e.tick }; side = e.side; op = op; answer = b } in
-    let one : entry_of e.tick e.side e.query e.answer ≡ x ∷ [] = rw (asked, told) refl in
-    with_entry (is_side s e.side) e x own _ one is ∙ ap (λ (n : List Entry). of_side s (events_of (n ++ rest))) (sym one)
-one_own s e (access op) (Seen l) own rest asked told is =
-    let none : entry_of e.tick e.side e.query e.answer ≡ [] = rw (asked, told) refl in
-    without_entry (is_side s e.side) e own _ none is ∙ ap (λ (n : List Entry). of_side s (events_of (n ++ rest))) (sym none)
-one_own s e look a own rest asked told is =
-    let none : entry_of e.tick e.side e.query e.answer ≡ [] = rw asked refl in
-    without_entry (is_side s e.side) e own _ none is ∙ ap (λ (n : List Entry). of_side s (events_of (n ++ rest))) (sym none)
+abbrev pub Below : ℕ → Entry → Type 0
+Below n x = (x.tick).0 < n
 
 own_accesses : (s : Side) (es : List Event) → events_of (accesses (of_side s es)) ≡ of_side s (events_of (accesses es))
 own_accesses s [] = refl
-own_accesses s (e ∷ es) = one_own s e e.query e.answer (of_side s es) (accesses es) refl refl (own_accesses s es)
+own_accesses s (e ∷ es) = grind (arith, own_accesses s es)
 
-sided_by : (s side : Side) (e : Event) (l : List Event) → e.side ≡ side → All (λ (x : Event). x.side ≡ s) l → All (λ (x : Event). x.side ≡ s) (cond (is_side s side) (e ∷ l) l)
-sided_by Host Host e l is on = All-cons (λ (x : Event). x.side ≡ Host) e l is on
-sided_by Para Para e l is on = All-cons (λ (x : Event). x.side ≡ Para) e l is on
-sided_by Host Para e l is on = on
-sided_by Para Host e l is on = on
+sided_by : (s side : Side) (e : Event) (l : List Event) → e.side ≡ side → All (IsAt s) l → All (IsAt s) (cond (is_side s side) (e ∷ l) l)
+sided_by Host Host e l is on = All-cons (IsAt Host) e l is on
+sided_by Para Para e l is on = All-cons (IsAt Para) e l is on
+sided_by s side e l is on = on
 
-sided : (s : Side) (es : List Event) → All (λ (x : Event). x.side ≡ s) (of_side s es)
-sided s [] = All-nil (λ (x : Event). x.side ≡ s)
+sided : (s : Side) (es : List Event) → All (IsAt s) (of_side s es)
+sided s [] = All-nil (IsAt s)
 sided s (e ∷ es) = sided_by s e.side e (of_side s es) refl (sided s es)
 
-entry_sided : (s side : Side) (t : ℕ) (q : Query) (a : Answer) (xs : List Entry) → side ≡ s → All (λ (x : Entry). x.side ≡ s) xs → All (λ (x : Entry). x.side ≡ s) (entry_of t side q a ++ xs)
-entry_sided s side t (access op) (Byte b) xs is on = All-cons (λ (x : Entry). x.side ≡ s) _ xs is on
-entry_sided s side t (access op) (Seen l) xs is on = on
-entry_sided s side t look a xs is on = on
+entry_sided : (s side : Side) (t : ℕ) (q : Query) (a : Answer) (xs : List Entry) → side ≡ s → All (IsFrom s) xs → All (IsFrom s) (entry_of t side q a ++ xs)
+entry_sided s side t (access op) (Byte b) xs is on = All-cons (IsFrom s) _ xs is on
+entry_sided s side t q a xs is on = on
 
-entries_sided : (s : Side) (es : List Event) → All (λ (x : Event). x.side ≡ s) es → All (λ (x : Entry). x.side ≡ s) (accesses es)
-entries_sided s [] all = All-nil (λ (x : Entry). x.side ≡ s)
-entries_sided s (e ∷ es) all =
-    entry_sided s e.side e.tick e.query e.answer (accesses es) (All-head (λ (x : Event). x.side ≡ s) e es all) (entries_sided s es (All-tail (λ (x : Event). x.side ≡ s) e es all))
+entries_sided : (s : Side) (es : List Event) → All (IsAt s) es → All (IsFrom s) (accesses es)
+entries_sided s [] all = All-nil (IsFrom s)
+entries_sided s (e ∷ es) all = entry_sided s e.side e.tick e.query e.answer (accesses es) (All-head (IsAt s) e es all) (entries_sided s es (All-tail (IsAt s) e es all))
 
 -- ---- their order
 
 before-then : (a b c : ℕ) (x y z : Side) → IsTrue (before a x b y) → IsTrue (before b y c z) → IsTrue (before a x c z)
-before-then a b c Host Host Host one two = grind (arith, nat_tests)
-before-then a b c Host Host Para one two = grind (arith, nat_tests)
-before-then a b c Host Para Host one two = grind (arith, nat_tests)
-before-then a b c Host Para Para one two = grind (arith, nat_tests)
-before-then a b c Para Host Host one two = grind (arith, nat_tests)
-before-then a b c Para Host Para one two = grind (arith, nat_tests)
-before-then a b c Para Para Host one two = grind (arith, nat_tests)
-before-then a b c Para Para Para one two = grind (arith, nat_tests)
+before-then a b c x y z one two = grind (arith, nat_tests)
 
 past : (x e : Event) (es : List Event) → IsBefore x e → RisesAfter e es → RisesAfter x es
 past x e [] first rises = tt
 past x e (f ∷ es) first rises = (before-then x.tick e.tick f.tick x.side e.side f.side first rises.0, rises.1)
 
 after_one : (t : Bool) (x e : Event) (own : List Event) → IsBefore x e → RisesAfter e own → RisesAfter x own → RisesAfter x (cond t (e ∷ own) own)
-after_one true x e own first with_it without = (first, with_it)
-after_one false x e own first with_it without = without
+after_one t x e own first with_it without = grind arith
 
 own_rises_after : (s : Side) (x : Event) (es : List Event) → RisesAfter x es → RisesAfter x (of_side s es)
 own_rises_after s x [] rises = tt
@@ -135,22 +103,21 @@ rest_rises x [] rises = tt
 rest_rises x (e ∷ es) rises = rises.1
 
 from_one : (t : Bool) (e : Event) (own : List Event) → RisesAfter e own → Rises (cond t (e ∷ own) own)
-from_one true e own rises = rises
-from_one false e own rises = rest_rises e own rises
+from_one t e own rises = grind (arith, rest_rises)
 
 own_rises : (s : Side) (es : List Event) → Rises es → Rises (of_side s es)
 own_rises s [] rises = tt
 own_rises s (e ∷ es) rises = from_one (is_side s e.side) e (of_side s es) (own_rises_after s e es rises)
 
 few_rise_after : (k : ℕ) (x : Event) (es : List Event) → RisesAfter x es → RisesAfter x (take k es)
-few_rise_after zero x es rises = tt
-few_rise_after (suc k) x [] rises = tt
 few_rise_after (suc k) x (e ∷ es) rises = (rises.0, few_rise_after k e es rises.1)
+few_rise_after zero x es rises = tt
+few_rise_after k x [] rises = tt
 
 pub few_rise : (k : ℕ) (es : List Event) → Rises es → Rises (take k es)
-few_rise zero es rises = tt
-few_rise (suc k) [] rises = tt
 few_rise (suc k) (e ∷ es) rises = few_rise_after k e es rises
+few_rise zero es rises = tt
+few_rise k [] rises = tt
 
 -- ---- entries and their events
 
@@ -166,16 +133,16 @@ accesses_back (x ∷ xs) = ap (λ (z : List Entry). x ∷ z) (accesses_back xs)
 same_entries : (xs ys : List Entry) → events_of xs ≡ events_of ys → xs ≡ ys
 same_entries xs ys is = sym (accesses_back xs) ∙ ap accesses is ∙ accesses_back ys
 
--- what is kept of a side
+-- what is kept of a side, as events
+own_events : (s : Side) (list : List Event) (keep : ℕ) (own : List Entry) → own ≡ take keep (accesses (of_side s list)) →
+    events_of own ≡ take keep (of_side s (events_of (accesses list)))
+own_events s list keep own is = ap events_of is ∙ events_take keep (accesses (of_side s list)) ∙ ap (take keep) (own_accesses s list)
+
 pub of_one_side : (s : Side) (list : List Event) (keep : ℕ) (own : List Entry) → Rises (events_of (accesses list)) → own ≡ take keep (accesses (of_side s list)) → IsOfSide s own
-of_one_side s list keep own rises is =
-    let events : events_of own ≡ take keep (of_side s (events_of (accesses list))) =
-    ap events_of is ∙ events_take keep (accesses (of_side s list)) ∙ ap (take keep) (own_accesses s list) in
-    record {
-      rises = subst Rises (sym events) (few_rise keep _ (own_rises s _ rises));
-      each = subst (λ (xs : List Entry). All (λ (x : Entry). x.side ≡ s) xs) (sym is)
-          (All-take (λ (x : Entry). x.side ≡ s) keep _ (entries_sided s (of_side s list) (sided s list)));
-    }
+of_one_side s list keep own rises is = record {
+  rises = rw (own_events s list keep own is) (few_rise keep _ (own_rises s _ rises));
+  each = rw is (All-take (IsFrom s) keep _ (entries_sided s (of_side s list) (sided s list)));
+}
 
 -- what is kept of both sides
 pub of_both_sides : (list : List Event) (keep : ℕ) (host para all : List Entry) → RisingListIsMerge → Rises (events_of (accesses list)) →
@@ -184,28 +151,22 @@ pub of_both_sides : (list : List Event) (keep : ℕ) (host para all : List Entry
 of_both_sides list keep host para all law rises is_host is_para merged =
     let whole = events_of (accesses list) in
     let least : keep ≤ keep = omega arith in
-    let own_host : events_of host ≡ take keep (of_side Host whole) =
-    ap events_of is_host ∙ events_take keep (accesses (of_side Host list)) ∙ ap (take keep) (own_accesses Host list) in
-    let own_para : events_of para ≡ take keep (of_side Para whole) =
-    ap events_of is_para ∙ events_take keep (accesses (of_side Para list)) ∙ ap (take keep) (own_accesses Para list) in
-    let few : take keep (merge (events_of host) (events_of para)) ≡ take keep (merge (of_side Host whole) (of_side Para whole)) =
-    rw (own_host, own_para) (merge_less keep keep keep (of_side Host whole) (of_side Para whole) least least) in
-    same_entries all (take keep (accesses list)) (merged ∙ few ∙ ap (take keep) (law whole rises) ∙ sym (events_take keep (accesses list)))
+    let few = merge_less keep keep keep (of_side Host whole) (of_side Para whole) least least in
+    same_entries all (take keep (accesses list))
+    (rw (own_events Host list keep host is_host, own_events Para list keep para is_para) at merged ∙ few ∙ ap (take keep) (law whole rises) ∙ sym (events_take keep (accesses list)))
 
 -- ---- lines and counts
 
 answers_0 : (c : State) (side : Side) (op : Op) (b : ℕ) → (act c side (access op)).1 ≡ Byte b → IsAnswer op b
 answers_0 c side (Read number) b is = tt
-answers_0 c side (Write number byte) b is = cc
-answers_0 c side Reset b is = cc
+answers_0 c side op b is = cc
 
-pub all_lines : (c : State) (n : ℕ) (xs : List Entry) → n ≤ 1073741824 → All IsEntry xs → All (λ (x : Entry). (x.tick).0 < n) xs → IsAnsweredFrom c (events_of xs) → All HasLine xs
+pub all_lines : (c : State) (n : ℕ) (xs : List Entry) → n ≤ 1073741824 → All IsEntry xs → All (Below n) xs → IsAnsweredFrom c (events_of xs) → All HasLine xs
 all_lines c n [] most may below answered = All-nil HasLine
 all_lines c n (x ∷ xs) most may below answered =
-    let low : (x.tick).0 < n = All-head (λ (y : Entry). (y.tick).0 < n) x xs below in
     All-cons HasLine x xs
-    (record { may = All-head IsEntry x xs may; tick = omega (arith, low, most); answer = answers_0 c x.side x.op x.answer answered.0 })
-    (all_lines (act c x.side (access x.op)).0 n xs most (All-tail IsEntry x xs may) (All-tail (λ (y : Entry). (y.tick).0 < n) x xs below) answered.1)
+    (record { may = All-head IsEntry x xs may; tick = omega (arith, All-head (Below n) x xs below, most); answer = answers_0 c x.side x.op x.answer answered.0 })
+    (all_lines (act c x.side (access x.op)).0 n xs most (All-tail IsEntry x xs may) (All-tail (Below n) x xs below) answered.1)
 
 -- the place of a side in a tick
 half : Side → ℕ
@@ -214,38 +175,25 @@ half Para = 1
 
 later : (a b : ℕ) (x y : Side) → IsTrue (before a x b y) → 2 * a + half x < 2 * b + half y
 unfolding half
-later a b Host Host h = grind (arith, nat_tests)
-later a b Host Para h = grind (arith, nat_tests)
-later a b Para Host h = grind (arith, nat_tests)
-later a b Para Para h = grind (arith, nat_tests)
+later a b x y h = grind (arith, nat_tests)
 
 in_time : (a n : ℕ) (x : Side) → a < n → 2 * a + half x < 2 * n
 unfolding half
-in_time a n Host h = omega (arith, h)
-in_time a n Para h = omega (arith, h)
+in_time a n x h = grind arith
 
-few_after : (n : ℕ) (x : Entry) (xs : List Entry) → (x.tick).0 < n → All (λ (y : Entry). (y.tick).0 < n) xs → RisesAfter (event_of x) (events_of xs) →
+few_after : (n : ℕ) (x : Entry) (xs : List Entry) → (x.tick).0 < n → All (Below n) xs → RisesAfter (event_of x) (events_of xs) →
     2 * (x.tick).0 + half x.side + length xs < 2 * n
-few_after n x [] low below rises = let time = in_time (x.tick).0 n x.side low in omega (arith, time)
+few_after n x [] low below rises = omega (arith, in_time (x.tick).0 n x.side low)
 few_after n x (y ∷ xs) low below rises =
-    let more = few_after n y xs (All-head (λ (z : Entry). (z.tick).0 < n) y xs below) (All-tail (λ (z : Entry). (z.tick).0 < n) y xs below) rises.1 in
-    let next = later (x.tick).0 (y.tick).0 x.side y.side rises.0 in
-    omega (arith, more, next)
+    omega (arith, few_after n y xs (All-head (Below n) y xs below) (All-tail (Below n) y xs below) rises.1, later (x.tick).0 (y.tick).0 x.side y.side rises.0)
 
-few_all : (n : ℕ) (xs : List Entry) → All (λ (y : Entry). (y.tick).0 < n) xs → Rises (events_of xs) → length xs ≤ 2 * n
+few_all : (n : ℕ) (xs : List Entry) → All (Below n) xs → Rises (events_of xs) → length xs ≤ 2 * n
 few_all n [] below rises = omega arith
-few_all n (x ∷ xs) below rises =
-    let more = few_after n x xs (All-head (λ (z : Entry). (z.tick).0 < n) x xs below) (All-tail (λ (z : Entry). (z.tick).0 < n) x xs below) rises in
-    omega (arith, more)
-
-count_by : (side : Side) (e : Event) (h p : List Event) (n : ℕ) → length h + length p ≡ n →
-    length (cond (is_side Host side) (e ∷ h) h) + length (cond (is_side Para side) (e ∷ p) p) ≡ suc n
-count_by Host e h p n is = omega (arith, is)
-count_by Para e h p n is = omega (arith, is)
+few_all n (x ∷ xs) below rises = omega (arith, few_after n x xs (All-head (Below n) x xs below) (All-tail (Below n) x xs below) rises)
 
 count_events : (es : List Event) → length (of_side Host es) + length (of_side Para es) ≡ length es
 count_events [] = refl
-count_events (e ∷ es) = count_by e.side e (of_side Host es) (of_side Para es) (length es) (count_events es)
+count_events (e ∷ es) = grind (arith, count_events es)
 
 length_events : (xs : List Entry) → length (events_of xs) ≡ length xs
 length_events [] = refl
@@ -257,18 +205,11 @@ count_own s list = sym (length_events (accesses (of_side s list))) ∙ ap length
 -- all accesses are those of both sides
 pub counted : (list : List Event) (host para : ℕ) → host ≡ length (accesses (of_side Host list)) → para ≡ length (accesses (of_side Para list)) → host + para ≡ length (accesses list)
 counted list host para is_host is_para =
-    let h : host ≡ length (of_side Host (events_of (accesses list))) = is_host ∙ count_own Host list in
-    let p : para ≡ length (of_side Para (events_of (accesses list))) = is_para ∙ count_own Para list in
-    let both = count_events (events_of (accesses list)) in
-    let same = length_events (accesses list) in
-    omega (arith, h, p, both, same)
+    omega (arith, is_host ∙ count_own Host list, is_para ∙ count_own Para list, count_events (events_of (accesses list)), length_events (accesses list))
 
 pub few_counted : (n : ℕ) (list : List Event) (host para : ℕ) → n ≤ 1073741824 → IsTraceBelow n (accesses list) →
     host ≡ length (accesses (of_side Host list)) → para ≡ length (accesses (of_side Para list)) → host + para < 18446744073709551616
-few_counted n list host para most is is_host is_para =
-    let all = counted list host para is_host is_para in
-    let few = few_all n (accesses list) is.below is.rises in
-    omega (arith, all, few, most)
+few_counted n list host para most is is_host is_para = omega (arith, counted list host para is_host is_para, few_all n (accesses list) is.below is.rises, most)
 
 -- what is kept of both sides, as they are handed on
 pub first_of : {H P : Type 0} (n : ℕ) (list : List Event) (keep : ℕ) (d : Done H P) (host para : List Entry) → AreKept n list keep d → host ≡ d.host_list.items → para ≡ d.para_list.items →
@@ -282,13 +223,7 @@ pub kept_is : (clock : Clock) (begun : Option Session) (ticks keep : ℕ) (names
     (kept : Kept) (saved : Option (List ℕ)) → host ≡ w.host → para ≡ w.para → tube ≡ length (accesses w.list) → AreFiles clock begun ticks keep tube w.list kept saved →
     machine_verdict (both_left clock ticks tube names host para kept saved) ≡ kept_verdict clock begun ticks keep names w
 unfolding kept_verdict
-kept_is clock begun ticks keep names w host para tube kept saved is_host is_para many files =
-    ap (λ (x : HostState). machine_verdict (both_left clock ticks tube names x para kept saved)) is_host
-    ∙ ap (λ (x : ParaState). machine_verdict (both_left clock ticks tube names w.host x kept saved)) is_para
-    ∙ ap (λ (x : Kept). machine_verdict (both_left clock ticks tube names w.host w.para x saved)) files.kept_is
-    ∙ ap (λ (x : Option (List ℕ)). machine_verdict (both_left clock ticks tube names w.host w.para (kept_of clock (take keep (accesses w.list))) x)) files.saved_is
-    ∙ ap (λ (x : ℕ). machine_verdict (both_left clock ticks x names w.host w.para (kept_of clock (take keep (accesses w.list)))
-    (option_map (λ (b : Session). file_of (saved_of b ticks (nat_le x keep) (take keep (accesses w.list)))) begun))) many
+kept_is clock begun ticks keep names w host para tube kept saved is_host is_para many files = rw (is_host, is_para, files.kept_is, files.saved_is, many)
 
 -- what is so of a view is so of each run
 pub for_each : {X E V : Type 0} (r : Result X E) (view : X → V) (v : V) (P : HostState → ParaState → Type 0) (w : HostState → ParaState → V) → IfOk r (λ x. view x ≡ v) →
@@ -300,4 +235,4 @@ for_each (Err e) view v P w is all = tt
 pub both_is : (clock : Clock) (ticks tube : ℕ) (names : Names) (bytes : List ℕ) (s : HostState) (p : ParaState) (kept : Kept) (saved : Option (List ℕ)) → bytes ≡ [] →
     record { names = names; clock = clock; ticks = ticks; tube = tube; host = Some s; para = Some p; kept = Some kept; saved = saved; bytes = bytes }
     ≡ both_left clock ticks tube names s p kept saved
-both_is clock ticks tube names bytes s p kept saved none = rw none refl
+both_is clock ticks tube names bytes s p kept saved none = rw none

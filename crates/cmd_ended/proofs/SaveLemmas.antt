@@ -1,12 +1,11 @@
 -- The entries of a trace below a tick, and the session of a run.
-use Rattle.std.proofs.Common.{◌≡◌, ◌∙◌, sym, refl, ap, subst, ℕ, zero, suc, ◌+◌, ◌-◌, ◌<◌, ◌≤◌, length, take, drop, map, List, [], ◌∷◌, ◌++◌, Bool}
+use Rattle.std.proofs.Common.{◌≡◌, ◌∙◌, refl, ap, subst, ℕ, zero, suc, ◌+◌, ◌-◌, ◌<◌, ◌≤◌, length, take, drop, map, List, [], ◌∷◌, ◌++◌, Bool}
 use Rattle.std.proofs.Common.{true, false, IsTrue, nat_lt, slice_index_or, All, arith, append-nil, if◌then◌else◌}
-use Rattle.std.proofs.lemmas.List.{drop_more}
+use Rattle.std.proofs.lemmas.List.{drop_more, length-take}
 use Rattle.std.proofs.lemmas.List.Elements.{All-nil, All-cons, All-head, All-tail, All-take}
 use Rattle.std.proofs.lemmas.Bool.Decides.{nat_tests}
 use Rattle.beeb_bits.specs.Order.{before}
 use Rattle.beeb_bits.specs.declared.Side.{Side}
-use Rattle.beeb_bits.specs.declared.Side.TheVariants.{Host, Para}
 use Rattle.tube_chip.specs.State.{State, power_on}
 use Rattle.tube_chip.specs.Act.{act, access}
 use Rattle.tube_chip.specs.Events.{Rises, RisesAfter, IsAnsweredFrom}
@@ -17,15 +16,12 @@ use Rattle.tube_party.specs.Reference.{IsTraceBelow}
 use Rattle.save_state.specs.Saved.{Session}
 use Rattle.save_state.specs.File.{IsSession}
 use Rattle.cmd_ended.specs.Save.{below, saved_tick, saved_of}
-use Rattle.cmd_ended.proofs.KeptLemmas.{few_rise, events_take, all_lines}
+use Rattle.cmd_ended.proofs.KeptLemmas.{Below, few_rise, events_take, all_lines}
 
 -- ---- of entries, each before the next, those below a tick are the first
 
 not_sooner : (a b : ℕ) (x y : Side) → IsTrue (before a x b y) → a ≤ b
-not_sooner a b Host Host h = grind (arith, nat_tests)
-not_sooner a b Host Para h = grind (arith, nat_tests)
-not_sooner a b Para Host h = grind (arith, nat_tests)
-not_sooner a b Para Para h = grind (arith, nat_tests)
+not_sooner a b x y h = grind (arith, nat_tests)
 
 rest_rises : (x : Entry) (xs : List Entry) → RisesAfter (event_of x) (events_of xs) → Rises (events_of xs)
 rest_rises x [] rises = tt
@@ -36,19 +32,16 @@ drop_rises zero xs rises = rises
 drop_rises (suc i) [] rises = tt
 drop_rises (suc i) (x ∷ xs) rises = drop_rises i xs (rest_rises x xs rises)
 
-not_below : (t : ℕ) (x : Entry) → t ≤ (x.tick).0 → nat_lt (x.tick).0 t ≡ false
-not_below t x late = grind (arith, nat_tests)
-
 none_after : (t : ℕ) (x : Entry) (xs : List Entry) → t ≤ (x.tick).0 → RisesAfter (event_of x) (events_of xs) → below t xs ≡ []
 none_after t x [] late rises = refl
 none_after t x (y ∷ xs) late rises =
-    let sooner = not_sooner (x.tick).0 (y.tick).0 x.side y.side rises.0 in
-    let later : t ≤ (y.tick).0 = omega (arith, late, sooner) in
-    rw (not_below t y later) (none_after t y xs later rises.1)
+    let later : t ≤ (y.tick).0 = omega (arith, late, not_sooner (x.tick).0 (y.tick).0 x.side y.side rises.0) in
+    let none = none_after t y xs later rises.1 in
+    grind (arith, nat_tests)
 
 -- none from here on
 pub none_from : (t : ℕ) (x : Entry) (xs : List Entry) → t ≤ (x.tick).0 → Rises (events_of (x ∷ xs)) → below t (x ∷ xs) ≡ []
-none_from t x xs late rises = rw (not_below t x late) (none_after t x xs late rises)
+none_from t x xs late rises = let none = none_after t x xs late rises in grind (arith, nat_tests)
 
 pub count_here : (t i : ℕ) (xs : List Entry) (d : Entry) → i < length xs → t ≤ ((slice_index_or xs i d).tick).0 → Rises (events_of xs) →
     below t xs ≡ take i xs ++ below t (drop i xs) → below t xs ≡ take i xs
@@ -62,67 +55,54 @@ count_here t i xs d h late rises is =
 -- ---- the first entries of a trace are a trace
 
 answered_take : (k : ℕ) (c : State) (xs : List Entry) → IsAnsweredFrom c (events_of xs) → IsAnsweredFrom c (events_of (take k xs))
-answered_take zero c xs answered = tt
-answered_take (suc k) c [] answered = tt
 answered_take (suc k) c (x ∷ xs) answered = (answered.0, answered_take k (act c x.side (access x.op)).0 xs answered.1)
+answered_take zero c xs answered = tt
+answered_take k c [] answered = tt
 
 take_rises : (k : ℕ) (xs : List Entry) → Rises (events_of xs) → Rises (events_of (take k xs))
-take_rises k xs rises = subst Rises (sym (events_take k xs)) (few_rise k (events_of xs) rises)
+take_rises k xs rises = rw events_take (few_rise k (events_of xs) rises)
 
-below_by : (t : ℕ) (b : Bool) (x : Entry) (ys : List Entry) → nat_lt (x.tick).0 t ≡ b → All (λ (e : Entry). (e.tick).0 < t) ys →
-    All (λ (e : Entry). (e.tick).0 < t) (if b then x ∷ ys else ys)
-below_by t true x ys is all = All-cons (λ (e : Entry). (e.tick).0 < t) x ys (grind (arith, nat_tests)) all
+below_by : (t : ℕ) (b : Bool) (x : Entry) (ys : List Entry) → nat_lt (x.tick).0 t ≡ b → All (Below t) ys →
+    All (Below t) (if b then x ∷ ys else ys)
+below_by t true x ys is all = All-cons (Below t) x ys (grind (arith, nat_tests)) all
 below_by t false x ys is all = all
 
-all_below : (t : ℕ) (xs : List Entry) → All (λ (e : Entry). (e.tick).0 < t) (below t xs)
-all_below t [] = All-nil (λ (e : Entry). (e.tick).0 < t)
+all_below : (t : ℕ) (xs : List Entry) → All (Below t) (below t xs)
+all_below t [] = All-nil (Below t)
 all_below t (x ∷ xs) = below_by t (nat_lt (x.tick).0 t) x (below t xs) refl (all_below t xs)
 
 pub first_of_trace : (t k n : ℕ) (xs ys : List Entry) → ys ≡ take k xs → below t xs ≡ take k xs → IsTraceBelow n xs → IsTraceBelow t ys
 first_of_trace t k n xs ys taken is trace =
-    subst (λ (zs : List Entry). IsTraceBelow t zs) (sym taken)
-    (record {
+    rw taken (record {
       entries = All-take IsEntry k xs trace.entries;
       rises = take_rises k xs trace.rises;
-      below = subst (λ (zs : List Entry). All (λ (e : Entry). (e.tick).0 < t) zs) is (all_below t xs);
+      below = rw is at (all_below t xs);
       answered = answered_take k power_on xs trace.answered;
     })
 
 pub take_trace : (k n : ℕ) (xs ys : List Entry) → ys ≡ take k xs → IsTraceBelow n xs → IsTraceBelow n ys
 take_trace k n xs ys taken trace =
-    subst (λ (zs : List Entry). IsTraceBelow n zs) (sym taken)
-    (record {
+    rw taken (record {
       entries = All-take IsEntry k xs trace.entries;
       rises = take_rises k xs trace.rises;
-      below = All-take (λ (e : Entry). (e.tick).0 < n) k xs trace.below;
+      below = All-take (Below n) k xs trace.below;
       answered = answered_take k power_on xs trace.answered;
     })
 
 pub take_few : {A : Type 0} (k most : ℕ) (xs ys : List A) → ys ≡ take k xs → k ≤ most → length ys ≤ most
-take_few zero most xs ys is few = rw is (omega arith)
-take_few (suc k) most [] ys is few = rw is (omega arith)
-take_few (suc k) zero (x ∷ xs) ys is few = absurd (omega (arith, few))
-take_few (suc k) (suc most) (x ∷ xs) ys is few = let rest = take_few k most xs (take k xs) refl (omega (arith, few)) in rw is (omega (arith, rest))
-
-length_take_le : (k : ℕ) (xs : List Entry) → length (take k xs) ≤ length xs
-length_take_le zero xs = omega arith
-length_take_le (suc k) [] = omega arith
-length_take_le (suc k) (x ∷ xs) = let rest = length_take_le k xs in omega (arith, rest)
-
-length_less : (k : ℕ) (xs : List Entry) → length xs ≤ 4194304 → length (take k xs) ≤ 4194304
-length_less k xs few = let less = length_take_le k xs in omega (arith, less, few)
+take_few {A} k most xs ys is few = rw is (omega (arith, length-take {A = A}))
 
 -- ---- the session of a run
 
 pub trace_lines : (n : ℕ) (xs : List Entry) → n ≤ 1073741824 → IsTraceBelow n xs → All HasLine xs
 trace_lines n xs most trace = all_lines power_on n xs most trace.entries trace.below trace.answered
 
-low_at : (n k : ℕ) (xs : List Entry) → All (λ (e : Entry). (e.tick).0 < n) xs → slice_index_or (map (λ (e : Entry). (e.tick).0) xs) k 0 ≤ n
+low_at : (n k : ℕ) (xs : List Entry) → All (Below n) xs → slice_index_or (map (λ (e : Entry). (e.tick).0) xs) k 0 ≤ n
 low_at n k [] below = omega arith
-low_at n zero (x ∷ xs) below = let low = All-head (λ (e : Entry). (e.tick).0 < n) x xs below in omega (arith, low)
-low_at n (suc k) (x ∷ xs) below = low_at n k xs (All-tail (λ (e : Entry). (e.tick).0 < n) x xs below)
+low_at n zero (x ∷ xs) below = omega (arith, All-head (Below n) x xs below)
+low_at n (suc k) (x ∷ xs) below = low_at n k xs (All-tail (Below n) x xs below)
 
-tick_low : (n : ℕ) (all : Bool) (xs : List Entry) → All (λ (e : Entry). (e.tick).0 < n) xs → saved_tick n all xs ≤ n
+tick_low : (n : ℕ) (all : Bool) (xs : List Entry) → All (Below n) xs → saved_tick n all xs ≤ n
 tick_low n true xs below = omega arith
 tick_low n false xs below = low_at n (length xs - 1) xs below
 
@@ -134,9 +114,8 @@ saved_is b s n all k kept begun most few trace first is =
     let t : ℕ = saved_tick n all kept in
     let low : t ≤ n = tick_low n all kept trace.below in
     let mine : IsTraceBelow t (below t kept) = first_of_trace t k n kept (below t kept) first first trace in
-    let fewer : length (below t kept) ≤ 4194304 = rw first (length_less k kept few) in
-    subst IsSession (sym is)
-    (record {
+    let fewer : length (below t kept) ≤ 4194304 = rw first (omega (arith, length-take k kept)) in
+    rw is (record {
       ticks = omega (arith, low, most);
       plugs = begun.plugs;
       many = begun.many;

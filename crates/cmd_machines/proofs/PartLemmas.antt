@@ -1,12 +1,11 @@
 -- What the machines of a session are made of: slots below 16, and a script that is no longer than a session's.
-use Rattle.std.proofs.Common.{◌≡◌, ◌∙◌, sym, refl, ap, subst, ℕ, zero, suc, ◌<◌, ◌≤◌, ◌==◌, Bool, true, false, length, map, slice_index_or, get_or}
-use Rattle.std.proofs.Common.{List, [], ◌∷◌, ◌++◌, Option, Some, None, option_map, Result, Ok, Err, IfOk, IfSome, IsTrue, nat_le, arith}
-use Rattle.std.proofs.Common.{if◌then◌else◌}
+use Rattle.std.proofs.Common.{◌≡◌, ◌∙◌, sym, refl, ap, subst, ℕ, zero, suc, ◌<◌, ◌≤◌, ◌==◌, length, map, slice_index_or, get_or}
+use Rattle.std.proofs.Common.{List, [], ◌∷◌, ◌++◌, Option, Some, None, option_map, Result, Ok, Err, IfOk, IfSome, arith}
 use Rattle.std.proofs.lemmas.Bool.Decides.{nat_tests}
 use Rattle.std.specs.List.{All, range_with_len}
 use Rattle.std.specs.declared.vec.Vec.{Vec}
 use Rattle.std.specs.declared.alloc.Global.{Global}
-use Rattle.rom_set.specs.Roms.{Rom, rom_seen, roms_seen}
+use Rattle.rom_set.specs.Roms.{Rom, roms_seen}
 use Rattle.cmd_words.specs.declared.keys.Slot.{Slot}
 use Rattle.cmd_words.specs.declared.keys.Slot.TheVariants as slots
 use Rattle.save_state.specs.declared.Kind.TheVariants as parts
@@ -16,6 +15,7 @@ use Rattle.cmd_machines.specs.Inputs.{Inputs, no_inputs, with_input, with_inputs
 use Rattle.cmd_machines.specs.Sessions.{part_slots, if_there, there, inputs_in}
 use Rattle.cmd_machines.specs.View.{items, seen_inputs}
 use Rattle.cmd_machines.specs.declared.inputs.Inputs as held
+use Rattle.cmd_machines.proofs.ReadLemmas.{disc_leaves}
 
 -- ---- a fact of each part that is there
 
@@ -23,14 +23,7 @@ use Rattle.cmd_machines.specs.declared.inputs.Inputs as held
 abbrev MayBe : Slot → List ℕ → Type 0
 MayBe (slots.Rom n) bytes = n < 16
 MayBe slots.Keys bytes = length bytes ≤ 1048576
-MayBe slots.Trace bytes = Unit {0}
-MayBe slots.Source bytes = Unit {0}
-MayBe slots.Image bytes = Unit {0}
-MayBe slots.State bytes = Unit {0}
-MayBe slots.Os bytes = Unit {0}
-MayBe slots.Tube bytes = Unit {0}
-MayBe slots.Font bytes = Unit {0}
-MayBe (slots.Disc n) bytes = Unit {0}
+MayBe slot bytes = Unit {0}
 
 abbrev EachMayBe : List (Slot × List ℕ) → Type 0
 EachMayBe [] = Unit {0}
@@ -66,21 +59,12 @@ more_below : (roms : List Rom) (r : Rom) → AreBelow roms → r.slot < 16 → A
 more_below [] r below low = (low, tt)
 more_below (x ∷ roms) r below low = (below.0, more_below roms r below.1 low)
 
-by_disc : (first : Bool) (bytes : List ℕ) (i : Inputs) → MayStand i → MayStand (if first then record i { disc0 = Some bytes } else record i { disc1 = Some bytes })
-by_disc true bytes i stands = record { roms = stands.roms; keys = stands.keys }
-by_disc false bytes i stands = record { roms = stands.roms; keys = stands.keys }
-
 one_stands : (slot : Slot) (bytes : List ℕ) (i : Inputs) → MayBe slot bytes → MayStand i → MayStand (with_input slot bytes i)
 one_stands (slots.Rom n) bytes i may stands = record { roms = more_below i.roms _ stands.roms may; keys = stands.keys }
 one_stands slots.Keys bytes i may stands = record { roms = stands.roms; keys = may }
-one_stands slots.Trace bytes i may stands = record { roms = stands.roms; keys = stands.keys }
-one_stands slots.Source bytes i may stands = record { roms = stands.roms; keys = stands.keys }
-one_stands slots.Image bytes i may stands = record { roms = stands.roms; keys = stands.keys }
-one_stands slots.State bytes i may stands = record { roms = stands.roms; keys = stands.keys }
-one_stands slots.Os bytes i may stands = record { roms = stands.roms; keys = stands.keys }
-one_stands slots.Tube bytes i may stands = record { roms = stands.roms; keys = stands.keys }
-one_stands slots.Font bytes i may stands = record { roms = stands.roms; keys = stands.keys }
-one_stands (slots.Disc n) bytes i may stands = by_disc (n == 0) bytes i stands
+one_stands (slots.Disc n) bytes i may stands =
+    let same = disc_leaves (n == 0) bytes i in record { roms = rw same.0 stands.roms; keys = rw same.1 stands.keys }
+one_stands slot bytes i may stands = record { roms = stands.roms; keys = stands.keys }
 
 all_stand : (list : List (Slot × List ℕ)) (i : Inputs) → EachMayBe list → MayStand i → MayStand (with_inputs list i)
 all_stand [] i each stands = stands
@@ -88,24 +72,21 @@ all_stand (x ∷ list) i each stands = all_stand list (with_input x.0 x.1 i) eac
 
 -- ---- of a session
 
-same_some : {x y : List ℕ} → Some x ≡ Some y → x ≡ y
-same_some is = cc
-
 abbrev front_slots : List Slot
 front_slots = slots.Os ∷ slots.Tube ∷ map slots.Rom (range_with_len 0 16) ++ slots.Font ∷ slots.Disc 0 ∷ slots.Disc 1 ∷ []
 
 free_front : AreFree front_slots
-free_front = (λ bytes. tt, (λ bytes. tt, (λ bytes. omega arith, (λ bytes. omega arith, (λ bytes. omega arith, (λ bytes. omega arith, (λ bytes. omega arith, (λ bytes. omega arith, (λ bytes. omega arith, (λ bytes. omega arith, (λ bytes. omega arith, (λ bytes. omega arith, (λ bytes. omega arith, (λ bytes. omega arith, (λ bytes. omega arith, (λ bytes. omega arith, (λ bytes. omega arith, (λ bytes. omega arith, (λ bytes. tt, (λ bytes. tt, (λ bytes. tt, tt)))))))))))))))))))))
+free_front = omega arith
 
 keys_part : (p : Option (List ℕ)) (bytes : List ℕ) → IsPart parts.Keys p → p ≡ Some bytes → length bytes ≤ 1048576
 keys_part None bytes is some = cc
-keys_part (Some body) bytes is some = let few : length body ≤ 1048576 = grind (arith, nat_tests) in subst (λ (b : List ℕ). length b ≤ 1048576) (same_some some) few
+keys_part (Some body) bytes is some = grind (arith, nat_tests)
 
-in_stand : (s : Session) → IsPart parts.Keys (part s 21) → MayStand (inputs_in s)
+pub in_stand : (s : Session) → IsPart parts.Keys (part s 21) → MayStand (inputs_in s)
 unfolding inputs_in inputs_of part_slots
 in_stand s keys =
     all_stand (there part_slots s.parts) no_inputs
-    (each_there (front_slots) s.parts free_front (λ bytes some. keys_part (part s 21) bytes keys some))
+    (each_there front_slots s.parts free_front (λ bytes some. keys_part (part s 21) bytes keys some))
     (record { roms = tt; keys = tt })
 
 rom_at : (xs : List (ℕ × Vec ℕ Global)) (k : ℕ) (d : ℕ × Vec ℕ Global) → AreBelow (roms_seen xs) → k < length xs → (get_or xs k d).0 < 16
@@ -113,7 +94,7 @@ rom_at [] k d below h = absurd (omega (arith, h))
 rom_at (x ∷ xs) zero d below h = below.0
 rom_at (x ∷ xs) (suc k) d below h = rom_at xs k d below.1 (omega (arith, h))
 
-keys_held : (keys : Option (Vec ℕ Global)) → IfSome (option_map items keys) (λ keys. length keys ≤ 1048576) → IfSome keys (λ keys. length keys.items ≤ 1048576)
+pub keys_held : (keys : Option (Vec ℕ Global)) → IfSome (option_map items keys) (λ keys. length keys ≤ 1048576) → IfSome keys (λ keys. length keys.items ≤ 1048576)
 keys_held None short = tt
 keys_held (Some bytes) short = short
 

@@ -5,7 +5,7 @@ use Rattle.std.specs.List.{filter_map, cons_option}
 use Rattle.rom_set.specs.Roms.{Rom}
 use Rattle.cmd_words.specs.declared.keys.Slot.{Slot}
 use Rattle.cmd_words.specs.declared.keys.Slot.TheVariants as slots
-use Rattle.cmd_words.specs.Keys.{Value, file, output, numeric, one_of, four_digits, Key}
+use Rattle.cmd_words.specs.Keys.{Value, file, Key}
 use Rattle.cmd_words.specs.Given.{Values}
 use Rattle.cmd_words.specs.Reads.{file_of, files_of, rom_slot}
 use Rattle.cmd_stages.specs.Plan.{Want, Inputs, AreWithin}
@@ -21,27 +21,21 @@ pub same_slots : (ws : List (Want Slot)) (is : Inputs Slot) → AreWithin ws is 
 same_slots [] [] fits = refl
 same_slots [] (i ∷ is) fits = absurd fits
 same_slots (w ∷ ws) [] fits = absurd fits
-same_slots (w ∷ ws) (i ∷ is) fits = rw (fits.0, same_slots ws is fits.2) refl
+same_slots (w ∷ ws) (i ∷ is) fits = rw (fits.0, same_slots ws is fits.2)
 
-one_disc : (first : Bool) (bytes : List ℕ) (i : inputs.Inputs) →
-    numbers_of (if first then record i { disc0 = Some bytes } else record i { disc1 = Some bytes }).roms ≡ numbers_of i.roms ++ []
-one_disc true bytes i = sym (append-nil (numbers_of i.roms))
-one_disc false bytes i = sym (append-nil (numbers_of i.roms))
+-- a disc leaves the paged ROMs and the script
+pub disc_leaves : (first : Bool) (bytes : List ℕ) (i : inputs.Inputs) →
+    let j : inputs.Inputs = if first then record i { disc0 = Some bytes } else record i { disc1 = Some bytes } in (j.roms ≡ i.roms) × (j.keys ≡ i.keys)
+disc_leaves true bytes i = (refl, refl)
+disc_leaves false bytes i = (refl, refl)
 
 one_more : (slot : Slot) (bytes : List ℕ) (i : inputs.Inputs) → numbers_of (inputs.with_input slot bytes i).roms ≡ numbers_of i.roms ++ cons_option (rom_slot slot) []
 one_more (slots.Rom n) bytes i = map-append (λ (r : Rom). r.slot) i.roms (record { slot = n; bytes = bytes } ∷ [])
-one_more (slots.Disc n) bytes i = one_disc (n == 0) bytes i
-one_more slots.Trace bytes i = sym (append-nil (numbers_of i.roms))
-one_more slots.Source bytes i = sym (append-nil (numbers_of i.roms))
-one_more slots.Image bytes i = sym (append-nil (numbers_of i.roms))
-one_more slots.State bytes i = sym (append-nil (numbers_of i.roms))
-one_more slots.Os bytes i = sym (append-nil (numbers_of i.roms))
-one_more slots.Tube bytes i = sym (append-nil (numbers_of i.roms))
-one_more slots.Font bytes i = sym (append-nil (numbers_of i.roms))
-one_more slots.Keys bytes i = sym (append-nil (numbers_of i.roms))
+one_more (slots.Disc n) bytes i = rw (disc_leaves (n == 0) bytes i).0 (sym (append-nil (numbers_of i.roms)))
+one_more slot bytes i = sym (append-nil (numbers_of i.roms))
 
 seam : (ns ms : List ℕ) (o : Option ℕ) → (ns ++ cons_option o []) ++ ms ≡ ns ++ cons_option o ms
-seam ns ms None = rw append-nil refl
+seam ns ms None = rw append-nil
 seam ns ms (Some n) = append_assoc ns (n ∷ []) ms
 
 pub numbers_read : (list : Inputs Slot) (i : inputs.Inputs) →
@@ -56,15 +50,7 @@ numbers_read (one ∷ more) i =
 -- a script that is wanted is at most so long
 abbrev pub IsCapped : Slot → ℕ → Type 0
 IsCapped slots.Keys cap = cap ≤ 1048576
-IsCapped (slots.Rom n) cap = Unit {0}
-IsCapped (slots.Disc n) cap = Unit {0}
-IsCapped slots.Trace cap = Unit {0}
-IsCapped slots.Source cap = Unit {0}
-IsCapped slots.Image cap = Unit {0}
-IsCapped slots.State cap = Unit {0}
-IsCapped slots.Os cap = Unit {0}
-IsCapped slots.Tube cap = Unit {0}
-IsCapped slots.Font cap = Unit {0}
+IsCapped slot cap = Unit {0}
 
 abbrev pub AreCapped : List (Want Slot) → Type 0
 AreCapped [] = Unit {0}
@@ -73,21 +59,10 @@ AreCapped (w ∷ ws) = IsCapped w.0 w.2 × AreCapped ws
 abbrev pub ShortKeys : inputs.Inputs → Type 0
 ShortKeys i = IfSome i.keys (λ keys. length keys ≤ 1048576)
 
-by_first : (first : Bool) (bytes : List ℕ) (i : inputs.Inputs) → ShortKeys i → ShortKeys (if first then record i { disc0 = Some bytes } else record i { disc1 = Some bytes })
-by_first true bytes i short = short
-by_first false bytes i short = short
-
 one_short : (slot : Slot) (bytes : List ℕ) (cap : ℕ) (i : inputs.Inputs) → IsCapped slot cap → length bytes ≤ cap → ShortKeys i → ShortKeys (inputs.with_input slot bytes i)
 one_short slots.Keys bytes cap i capped fits short = omega (arith, capped, fits)
-one_short (slots.Rom n) bytes cap i capped fits short = short
-one_short (slots.Disc n) bytes cap i capped fits short = by_first (n == 0) bytes i short
-one_short slots.Trace bytes cap i capped fits short = short
-one_short slots.Source bytes cap i capped fits short = short
-one_short slots.Image bytes cap i capped fits short = short
-one_short slots.State bytes cap i capped fits short = short
-one_short slots.Os bytes cap i capped fits short = short
-one_short slots.Tube bytes cap i capped fits short = short
-one_short slots.Font bytes cap i capped fits short = short
+one_short (slots.Disc n) bytes cap i capped fits short = rw (disc_leaves (n == 0) bytes i).1 short
+one_short slot bytes cap i capped fits short = short
 
 pub all_short : (ws : List (Want Slot)) (list : Inputs Slot) (i : inputs.Inputs) → AreWithin ws list → AreCapped ws → ShortKeys i → ShortKeys (inputs.with_inputs list i)
 all_short [] [] i fits capped short = short
@@ -99,19 +74,8 @@ all_short (w ∷ ws) (x ∷ list) i fits capped short =
 one_file : (value : Value) (v : Option (List ℕ)) (ws : List (Want Slot)) → AreCapped ws → AreCapped (file_of value v ++ ws)
 one_file (file slot) None ws capped = capped
 one_file (file slots.Keys) (Some name) ws capped = (omega arith, capped)
-one_file (file (slots.Rom n)) (Some name) ws capped = (tt, capped)
-one_file (file (slots.Disc n)) (Some name) ws capped = (tt, capped)
-one_file (file slots.Trace) (Some name) ws capped = (tt, capped)
-one_file (file slots.Source) (Some name) ws capped = (tt, capped)
-one_file (file slots.Image) (Some name) ws capped = (tt, capped)
-one_file (file slots.State) (Some name) ws capped = (tt, capped)
-one_file (file slots.Os) (Some name) ws capped = (tt, capped)
-one_file (file slots.Tube) (Some name) ws capped = (tt, capped)
-one_file (file slots.Font) (Some name) ws capped = (tt, capped)
-one_file output v ws capped = capped
-one_file (numeric least most) v ws capped = capped
-one_file (one_of words) v ws capped = capped
-one_file four_digits v ws capped = capped
+one_file (file slot) (Some name) ws capped = (tt, capped)
+one_file value v ws capped = capped
 
 pub files_capped : (ks : List Key) (vs : Values) → AreCapped (files_of ks vs)
 files_capped [] vs = tt

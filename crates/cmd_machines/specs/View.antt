@@ -5,7 +5,6 @@ use Rattle.std.specs.declared.alloc.Global.{Global}
 use Rattle.bus_plug.specs.Plug.{Plug}
 use Rattle.rom_set.specs.Roms.{roms_seen}
 use Rattle.cmd_machines.specs.declared.inputs.Inputs.{Inputs}
-use Rattle.cmd_machines.specs.declared.inputs.HostFiles.{HostFiles}
 use Rattle.cmd_machines.specs.declared.setup.Setup.{Setup}
 use Rattle.cmd_machines.specs.Inputs as inputs
 use Rattle.cmd_machines.specs.Setup as setups
@@ -26,17 +25,6 @@ seen_inputs i = record {
   disc0 = option_map items i.disc0;
   disc1 = option_map items i.disc1;
   keys = option_map items i.keys;
-}
-
--- what the host is made of, and nothing else
-abbrev pub seen_files : HostFiles → inputs.Inputs
-seen_files f = record inputs.no_inputs {
-  os = f.os.items;
-  roms = roms_seen f.roms.items;
-  font = option_map items f.font;
-  disc0 = option_map items f.disc0;
-  disc1 = option_map items f.disc1;
-  keys = option_map items f.keys;
 }
 
 -- what the words say of the machines, by what the plugged devices are

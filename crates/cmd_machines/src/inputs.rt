@@ -23,17 +23,6 @@ pub struct Inputs {
     pub keys: Option<Vec<u8>>,
 }
 
-/// What the host is made of: its ROMs and font, the discs of both drives and the key script.
-#[derive(Drop)]
-pub struct HostFiles {
-    pub os: Vec<u8>,
-    pub roms: Vec<(u8, Vec<u8>)>,
-    pub font: Option<Vec<u8>>,
-    pub disc0: Option<Vec<u8>>,
-    pub disc1: Option<Vec<u8>>,
-    pub keys: Option<Vec<u8>>,
-}
-
 impl Inputs {
     pub fn none(alloc: Global) -> Inputs
         ensures { seen_inputs result ≡ no_inputs }

@@ -12,7 +12,7 @@ mod setup;
 mod starting;
 
 pub use discs::discs_of;
-pub use inputs::{HostFiles, Inputs};
+pub use inputs::Inputs;
 pub use law::{begun_is_session, lengths_come_first};
 pub use machines::{machine_of, machines_of};
 pub use roms::roms_of;

@@ -1,5 +1,5 @@
 -- The outcome of a replay that differs nowhere, of one that differs, and of a trace with a wrong answer.
-use Rattle.std.proofs.Common.{◌≡◌, refl, ℕ, ◌+◌, List, [], Option, Some, None}
+use Rattle.std.proofs.Common.{◌≡◌, ℕ, ◌+◌, List, [], Option, Some, None}
 use Rattle.beeb_bits.specs.declared.clock.Clock.{Clock}
 use Rattle.beeb_bits.specs.declared.Side.{Side}
 use Rattle.tube_trace.specs.declared.Entry.{Entry}
@@ -22,19 +22,19 @@ module _ {S : Type 0} (moves : Moves S) (side : Side) (ticks : ℕ) (left : ℕ 
       last ≡ (replay_of moves side entries ticks s).machine → tube ≡ side_count side ticks entries → l ≡ left tube last →
       machine_verdict l ≡ replayed moves side ticks left (entries, s)
   unfolding replayed
-  done_is l tube last right none same counted is = rw (right, none, is, same, counted) refl
+  done_is l tube last right none same counted is = rw (right, none, is, same, counted)
 
   pub differs_is : (line : ℕ) (doing : Option Doing) → wrong entries ≡ None → (replay_of moves side entries ticks s).place ≡ Some (line, doing) →
       said_verdict (Differs line doing) (differs_text line doing) ≡ replayed moves side ticks left (entries, s)
   unfolding replayed
-  differs_is line doing right some = rw (right, some) refl
+  differs_is line doing right some = rw (right, some)
 
   pub wrong_is : (at byte : ℕ) → wrong entries ≡ Some (at, byte) → wrong_verdict (at + 1) byte ≡ replayed moves side ticks left (entries, s)
   unfolding replayed
-  wrong_is at byte is = rw is refl
+  wrong_is at byte is = rw is
 
 -- what a machine leaves, where no bytes stand beside it
 pub left_is : (clock : Clock) (ticks tube : ℕ) (names : Names) (bytes : List ℕ) (parts shown : Option HostState × Option ParaState) → bytes ≡ [] → parts ≡ shown →
     record { names = names; clock = clock; ticks = ticks; tube = tube; host = parts.0; para = parts.1; kept = None; saved = None; bytes = bytes }
     ≡ left_of clock ticks tube names shown
-left_is clock ticks tube names bytes parts shown none same = rw (none, same) refl
+left_is clock ticks tube names bytes parts shown none same = rw (none, same)

@@ -1,5 +1,5 @@
 -- What comes of a session.
-use Rattle.std.proofs.Common.{◌≡◌, ◌∙◌, sym, refl, ap, subst, ℕ, Option, All, List, Result, Ok}
+use Rattle.std.proofs.Common.{◌≡◌, sym, ap, ℕ, Option, List, Ok}
 use Rattle.beeb_bits.specs.declared.clock.Clock.{Clock}
 use Rattle.bus_plug.specs.Plug.{Plug}
 use Rattle.tube_trace.specs.declared.Entry.{Entry}
@@ -11,11 +11,8 @@ use Rattle.host_mach.specs.Step.{host_moves}
 use Rattle.host_mach.specs.View.{host_seen}
 use Rattle.para_mach.specs.State.{ParaState}
 use Rattle.para_mach.specs.Step.{para_moves}
-use Rattle.tube_trace.specs.Entries.{IsEntry}
 use Rattle.save_state.specs.Saved.{Session}
 use Rattle.save_state.specs.File.{IsSession}
-use Rattle.cmd_stages.specs.declared.stop.Refusal.{Refusal}
-use Rattle.cmd_status.specs.declared.status.Cause.{Cause}
 use Rattle.cmd_machines.specs.Inputs.{Inputs}
 use Rattle.cmd_machines.specs.Setup.{Setup}
 use Rattle.cmd_machines.specs.Machines.{machines_of}
@@ -37,8 +34,7 @@ module _ {D : Type 0} (plug : D → Plug) (clock : Clock) (begun : Option Sessio
 
   pub went_so : (there : Back (HostMachine D) ParaState) → GoesSo there → Went plug n keep there
   went_so (On done) goes = (s, t, goes.2)
-  went_so (Wrong line byte) goes = tt
-  went_so (Differs line doing) goes = tt
+  went_so there goes = tt
 
   pub comes_so : (there : Back (HostMachine D) ParaState) (v : Verdict Ending) → GoesSo there → Comes plug clock begun n keep names there v →
       unless_wrong (wrong entries)
@@ -49,9 +45,7 @@ module _ {D : Type 0} (plug : D → Plug) (clock : Clock) (begun : Option Sessio
 
 -- the accesses of a session
 pub accesses_are : (s : Session) (entries : List Entry) → IsSession s → entries ≡ s.entries → AreAccesses s.ticks entries
-accesses_are s entries keeps is =
-    subst (λ (xs : List Entry). AreAccesses s.ticks xs) (sym is)
-    (record { each = λ k d h. (keeps.lines k d h).may; rises = keeps.rises; low = keeps.below })
+accesses_are s entries keeps is = rw is (record { each = λ k d h. (keeps.lines k d h).may; rises = keeps.rises; low = keeps.below })
 
 -- what a session comes to, by its parts
 pub session_gives : (plugs : List Plug) (ticks keep : ℕ) (names : Names) (i made : Inputs) (bytes : List ℕ) (s : Session) (set : Setup) (m : HostState × ParaState) (begun : Option Session)
@@ -62,10 +56,4 @@ pub session_gives : (plugs : List Plug) (ticks keep : ℕ) (names : Names) (i ma
     ≡ v → session_after plugs ticks keep names i ≡ Ok v
 unfolding session_after session_ended
 session_gives plugs ticks keep names i made bytes s set m begun entries v read told setup parts machines saved listed is =
-    let there : state_of i.state ≡ Ok s = rw (← read) told in
-    let both : machines_of (setup_in s plugs) (inputs_in s) ≡ Ok m = rw (← setup, ← parts) machines in
-    let begins : begun ≡ begun_if names.save (setup_in s plugs) (inputs_in s) = rw (← setup, ← parts) saved in
-    let ends : unless_wrong (wrong s.entries)
-    (verdict_of_place (kept_verdict s.clock (begun_if names.save (setup_in s plugs) (inputs_in s)) ticks keep names) (reference host_moves para_moves m.0 m.1 ticks)
-    (place_of host_moves para_moves s.entries s.ticks ticks m.0 m.1)) ≡ v = rw (← begins, ← listed) is in
-    rw (there, both) (ap Ok ends)
+    rw (← read, told, ← setup, ← parts, machines, ← saved, ← listed) (ap Ok is)

@@ -1,29 +1,26 @@
 -- What was read, computed and written keeps the whole promise.
+use Rattle.std.proofs.lemmas.Option.{IfSome_then}
 use Rattle.std.proofs.Common.{◌≡◌, refl, ap, ℕ, Bool, true, false, map, Option, Some, None, Result, Ok, Err, IfSome, IsOkAnd, arith, inl, inr}
 use Rattle.beeb_files.specs.Files.{Files}
-use Rattle.beeb_files.specs.Counts.{Rose, Stayed, NoneFell}
+use Rattle.beeb_files.specs.Counts.{Rose, Stayed}
 use Rattle.beeb_files.specs.Crew.{Counts}
-use Rattle.beeb_files.specs.Outlet.{OutletState, NoCountFell}
+use Rattle.beeb_files.specs.Outlet.{OutletState}
 use Rattle.cmd_stages.specs.declared.stop.Stop.{Stop}
 use Rattle.cmd_stages.specs.declared.stop.Stop.TheVariants.{Refused, ReadFault, TooLong, WriteFault, NoThread, NoMemory}
 use Rattle.cmd_stages.specs.declared.stop.Refusal.{Refusal}
 use Rattle.cmd_stages.specs.Plan.{Verdict, Inputs, Plan, read_all, verdict, or_stop, AreWithin, ComesTo}
-use Rattle.cmd_stages.specs.Promise.{World, HasPaired, HasNoThread, HasCrewStayed, IsCrewAfter, ComesOut, EndsAs, IsComplete, CarriesOut, IsUntouched}
+use Rattle.cmd_stages.specs.Promise.{World, HasNoThread, HasCrewStayed, ComesOut, EndsAs, IsComplete, CarriesOut, IsUntouched}
 use Rattle.cmd_stages.specs.Stages.{ReadsAll, Works, Writes, HasKept}
 use Rattle.cmd_stages.specs.View.{seen_input}
 use Rattle.std.specs.declared.vec.Vec.{Vec}
 use Rattle.std.specs.declared.alloc.Global.{Global}
 
-rose_not_stayed : (before now : ℕ) → Rose before now → Stayed before now → ⊥
+pub rose_not_stayed : (before now : ℕ) → Rose before now → Stayed before now → ⊥
 rose_not_stayed before now rose stayed = omega arith
 
-thread_not_stayed : (paired : Bool) (before now : Counts) → HasNoThread paired before now → HasCrewStayed paired before now → ⊥
+pub thread_not_stayed : (paired : Bool) (before now : Counts) → HasNoThread paired before now → HasCrewStayed paired before now → ⊥
 thread_not_stayed true before now rose stayed = rose_not_stayed before.faults now.faults rose stayed
 thread_not_stayed false before now none stayed = none
-
-told_map : {P Q : Files → Type 0} (o : Option Files) → IfSome o P → ((files : Files) → P files → Q files) → IfSome o Q
-told_map None p f = tt
-told_map (Some files) p f = f files p
 
 -- what holds anyway holds where the files are told
 told_any : {Q : Files → Type 0} (o : Option Files) → ((files : Files) → Q files) → IfSome o Q
@@ -43,33 +40,27 @@ module _ {K E C : Type 0} (p : Plan K E C) where
 
   module _ (old new : World) where
     complete : (r : Result E (Stop C)) → EndsAs p old new r → IfSome old.shelf.files (IsComplete p old new r)
-    complete (Ok ending) e = told_map old.shelf.files (comes_told old.shelf.files (Ok e.0) e.1.0) (λ files is none. inl (rw (is, e.2) refl))
-    complete (Err (Refused cause)) e = told_map old.shelf.files (comes_told old.shelf.files (Err (Refused cause)) e.0) (λ files is none. inl (rw is refl))
+    complete (Ok ending) e = IfSome_then old.shelf.files (comes_told old.shelf.files (Ok e.0) e.1.0) (λ files is none. inl (rw (is, e.2)))
+    complete (Err (Refused cause)) e = IfSome_then old.shelf.files (comes_told old.shelf.files (Err (Refused cause)) e.0) (λ files is none. inl (rw is))
     complete (Err (ReadFault name)) e = told_any old.shelf.files (λ files none. absurd (rose_not_stayed _ _ e.0.rose (none.read name e.0.wanted)))
-    complete (Err (TooLong name)) e = told_map old.shelf.files e.0.told (λ files t none. inl (rw t.1 refl))
+    complete (Err (TooLong name)) e = IfSome_then old.shelf.files e.0.told (λ files t none. inl (rw t.1))
     complete (Err (WriteFault name)) (v, comes, inl w) =
-        told_map old.shelf.files (comes_told old.shelf.files (Ok v) comes.0) (λ files is none. absurd (rose_not_stayed _ _ w.1 (none.written v is name w.0)))
+        IfSome_then old.shelf.files (comes_told old.shelf.files (Ok v) comes.0) (λ files is none. absurd (rose_not_stayed _ _ w.1 (none.written v is name w.0)))
     complete (Err (WriteFault name)) (v, comes, inr w) = told_any old.shelf.files (λ files none. absurd (rose_not_stayed _ _ w.2 none.said))
     complete (Err NoThread) e = told_any old.shelf.files (λ files none. absurd (thread_not_stayed p.paired old.crew new.crew e.2 none.crew))
     complete (Err NoMemory) e = told_any old.shelf.files (λ files none. inr refl)
 
-    carried : (r : Result E (Stop C)) → EndsAs p old new r → NoneFell old.shelf.faults new.shelf.faults → NoCountFell old.outlet new.outlet →
-        IsCrewAfter p.paired old.crew new.crew → new.shelf.files ≡ old.shelf.files → CarriesOut p old new r
-    carried r e fell count crew stays = record { ends = e; complete = complete r e; counts = (fell, count, crew); shelf = stays }
-
-    same_count : new.outlet ≡ old.outlet → NoCountFell old.outlet new.outlet
-    same_count same = rw same (record { names = λ name. let n : ℕ = old.outlet.faults name in omega arith; say = let n : ℕ = old.outlet.say_faults in omega arith })
+    carried : (r : Result E (Stop C)) → EndsAs p old new r → HasKept p old new → CarriesOut p old new r
+    carried r e kept = record { ends = e; complete = complete r e; counts = (kept.read, kept.written, kept.crew); shelf = kept.files }
 
     untouched : new.outlet ≡ old.outlet → IsUntouched old.outlet new.outlet
     untouched same = record { files = ap (λ (o : OutletState). o.files) same; said = ap (λ (o : OutletState). o.said) same }
 
     unread : (s : Stop C) → ReadsAll {K = K} p.reads old.shelf new.shelf (Err s) → new.outlet ≡ old.outlet → EndsAs p old new (Err s)
-    unread (Refused cause) reads same = absurd reads
     unread (ReadFault name) reads same = (reads, untouched same)
     unread (TooLong name) reads same = (reads, untouched same)
-    unread (WriteFault name) reads same = absurd reads
-    unread NoThread reads same = absurd reads
     unread NoMemory reads same = inl (untouched same)
+    unread stop reads same = absurd reads
 
     -- what comes of what was read, where it comes to something
     comes_ok : (inputs : Inputs K) → AreWithin p.reads inputs → IfSome old.shelf.files (λ files. read_all {C = C} files p.reads ≡ Ok inputs) →
@@ -81,46 +72,31 @@ module _ {K E C : Type 0} (p : Plan K E C) where
         IfSome old.shelf.files (λ files. read_all {C = C} files p.reads ≡ Ok inputs) →
         (s : Stop C) → Works (λ (v : Verdict E). v) p.paired old.crew new.crew (Err s) (p.after inputs) → new.outlet ≡ old.outlet → EndsAs p old new (Err s)
     unworked inputs fit told (Refused cause) works same = (comes_after old.shelf.files inputs _ fit told (ap or_stop works), untouched same)
-    unworked inputs fit told (ReadFault name) works same = absurd works
-    unworked inputs fit told (TooLong name) works same = absurd works
-    unworked inputs fit told (WriteFault name) works same = absurd works
     unworked inputs fit told NoThread works same =
         let ok = comes_ok inputs fit told (p.after inputs) refl works.0 in (ok.0, ok.1, works.1, untouched same)
     unworked inputs fit told NoMemory works same = inl (untouched same)
+    unworked inputs fit told stop works same = absurd works
 
     written : (v : Verdict E) → ComesOut p old new v → (r : Result E (Stop C)) → Writes v old.outlet new.outlet r → EndsAs p old new r
     written v comes (Ok ending) w = (v, comes, w.0, w.1)
-    written v comes (Err (Refused cause)) w = absurd w
-    written v comes (Err (ReadFault name)) w = absurd w
-    written v comes (Err (TooLong name)) w = absurd w
     written v comes (Err (WriteFault name)) w = (v, comes, w)
-    written v comes (Err NoThread) w = absurd w
     written v comes (Err NoMemory) (inl w) = inl w
     written v comes (Err NoMemory) (inr w) = inr (v, comes, w)
-
-    same_crew : new.crew ≡ old.crew → (paired : Bool) → IsCrewAfter paired old.crew new.crew
-    same_crew same true = rw same (let f : ℕ = old.crew.faults in omega arith, let n : ℕ = old.crew.pairs in omega arith)
-    same_crew same false = same
-
-    -- a file was not read
-    pub ends_unread : (s : Stop C) → ReadsAll {K = K} p.reads old.shelf new.shelf (Err s) → new.outlet ≡ old.outlet → NoneFell old.shelf.faults new.shelf.faults →
-        new.crew ≡ old.crew → new.shelf.files ≡ old.shelf.files → CarriesOut p old new (Err s)
-    ends_unread s reads same fell crew stays = carried (Err s) (unread s reads same) fell (same_count same) (same_crew crew p.paired) stays
+    written v comes (Err stop) w = absurd w
 
     -- ---- the law of the stages
 
     pub stops_at_reading : (s : Stop C) → ReadsAll {K = K} p.reads old.shelf new.shelf (Err s) → new.outlet ≡ old.outlet → new.crew ≡ old.crew → HasKept p old new →
         CarriesOut p old new (Err s)
-    stops_at_reading s reads same crew kept = ends_unread s reads same kept.read crew kept.files
+    stops_at_reading s reads same crew kept = carried (Err s) (unread s reads same) kept
 
     pub stops_at_work : (inputs : Vec (K × Vec ℕ Global) Global) (s : Stop C) → ReadsAll {C = C} p.reads old.shelf new.shelf (Ok inputs) →
         Works (λ (v : Verdict E). v) p.paired old.crew new.crew (Err s) (p.after (map seen_input inputs.items)) → new.outlet ≡ old.outlet → HasKept p old new →
         CarriesOut p old new (Err s)
-    stops_at_work inputs s reads works same kept =
-        carried (Err s) (unworked (map seen_input inputs.items) reads.0 reads.1 s works same) kept.read kept.written kept.crew kept.files
+    stops_at_work inputs s reads works same kept = carried (Err s) (unworked (map seen_input inputs.items) reads.0 reads.1 s works same) kept
 
     pub goes_on_to_writing : (inputs : Vec (K × Vec ℕ Global) Global) (v : Verdict E) (r : Result E (Stop C)) → ReadsAll {C = C} p.reads old.shelf new.shelf (Ok inputs) →
         Works {C = C} (λ (x : Verdict E). x) p.paired old.crew new.crew (Ok v) (p.after (map seen_input inputs.items)) → Writes v old.outlet new.outlet r → HasKept p old new →
         CarriesOut p old new r
     goes_on_to_writing inputs v r reads works w kept =
-        carried r (written v (comes_after old.shelf.files (map seen_input inputs.items) (Ok v) reads.0 reads.1 (ap or_stop works.0), works.1) r w) kept.read kept.written kept.crew kept.files
+        carried r (written v (comes_after old.shelf.files (map seen_input inputs.items) (Ok v) reads.0 reads.1 (ap or_stop works.0), works.1) r w) kept

@@ -1,16 +1,19 @@
 -- Reading the files that are wanted one by one.
-use Rattle.std.proofs.Common.{◌≡◌, ◌∙◌, sym, refl, ap, ℕ, ◌+◌, ◌<◌, ◌≤◌, List, [], ◌∷◌, ◌++◌, map, take, drop, length, get_or, Option, Some, None, Result, Ok, Err, IfSome, IsErrAnd, IsErrAnd, Contains}
-use Rattle.std.proofs.lemmas.List.{drop_more, take_more, get_or-map, take-append-drop}
+use Rattle.std.proofs.Common.{◌≡◌, ◌∙◌, sym, refl, ap, ℕ, ◌+◌, ◌<◌, ◌≤◌, List, [], ◌∷◌, ◌++◌, map, take, drop, length, get_or, Option, Some, None, Result, Ok, Err, IfSome, IsErrAnd, Contains}
+use Rattle.std.proofs.lemmas.Option.{IfSome_then}
+use Rattle.std.specs.declared.vec.Vec.{Vec}
+use Rattle.std.specs.declared.alloc.Global.{Global}
+use Rattle.std.proofs.lemmas.List.{map-append, drop_more, take_more, get_or-map, take-append-drop}
 use Rattle.std.proofs.Math.ListN.{length-map}
 use Rattle.std.specs.Borrow.{Bor}
 use Rattle.beeb_files.specs.Files.{Files, bytes_of}
 use Rattle.cmd_stages.specs.declared.stop.Stop.{Stop}
 use Rattle.cmd_stages.specs.Plan.{Want, Inputs, within, read_all, AreWithin, ◌>>=◌}
 use Rattle.cmd_stages.specs.Promise.{read_names}
-use Rattle.cmd_stages.specs.View.{seen_want}
+use Rattle.cmd_stages.specs.View.{seen_want, seen_input}
 use Rattle.cmd_stages.specs.Stages.{ReadsOne, ReadsAll}
 use Rattle.beeb_files.specs.Shelf.{ShelfState}
-use Rattle.cmd_stages.specs.declared.stop.Stop.TheVariants.{Refused, ReadFault, TooLong, WriteFault, NoThread, NoMemory}
+use Rattle.cmd_stages.specs.declared.stop.Stop.TheVariants.{ReadFault, TooLong, NoMemory}
 
 -- an answer whose error is this one
 pub err_is : {A C : Type 0} (r : Result A C) (e : C) → IsErrAnd r (λ given. given ≡ e) → r ≡ Err e
@@ -18,13 +21,9 @@ err_is (Ok x) e same = absurd same
 err_is (Err given) e same = ap Err same
 
 -- what is told of one thing and of another
-pub told_both : {P Q R : Files → Type 0} (o : Option Files) → IfSome o P → IfSome o Q → ((files : Files) → P files → Q files → R files) → IfSome o R
+told_both : {P Q R : Files → Type 0} (o : Option Files) → IfSome o P → IfSome o Q → ((files : Files) → P files → Q files → R files) → IfSome o R
 told_both None p q f = tt
 told_both (Some files) p q f = f files p q
-
-told_map : {P Q : Files → Type 0} (o : Option Files) → IfSome o P → ((files : Files) → P files → Q files) → IfSome o Q
-told_map None p f = tt
-told_map (Some files) p f = f files p
 
 bind_ok : {A C : Type 0} (r : Result (List A) C) → r ≡ (r >>= λ ys. Ok ([] ++ ys))
 bind_ok (Ok x) = refl
@@ -41,22 +40,16 @@ one_in_front : {K C : Type 0} (slot : K) (one : Result (List ℕ) C) (first seco
 one_in_front slot (Err s) first second both is = refl
 one_in_front slot (Ok bytes) first second both is = rw is (in_front (slot, bytes) first second)
 
-pub want_contains : {K : Type 0} (ws : List (Want K)) (i : ℕ) (w : Want K) → i < length ws → get_or ws i w ≡ w → Contains (read_names ws) w.1
-want_contains ws i w h is = (i, rw length-map h, get_or-map (λ v. v.1) ws i w w.1 h ∙ ap (λ v. v.1) is)
-
 want_split : {K : Type 0} (ws : List (Want K)) (i : ℕ) (w : Want K) → i < length ws → get_or ws i w ≡ w → ws ≡ take i ws ++ w ∷ drop (i + 1) ws
 want_split ws i w h is =
     let split : drop i ws ≡ w ∷ drop (i + 1) ws = rw is at (drop_more ws i w h) in sym (take-append-drop i ws) ∙ ap (λ rest. take i ws ++ rest) split
 
-pub want_front : {K : Type 0} (ws : List (Want K)) (i : ℕ) (w : Want K) → i < length ws → get_or ws i w ≡ w → take (i + 1) ws ≡ take i ws ++ w ∷ []
-want_front ws i w h is = rw is at (take_more ws i w h)
-
-pub want_at : {K : Type 0} (wants : List (K × Bor (List ℕ) × ℕ)) (i : ℕ) (e : K × Bor (List ℕ) × ℕ) → i < length wants → e ≡ get_or wants i e →
-    get_or (map seen_want wants) i (seen_want e) ≡ seen_want e
-want_at wants i e h is = get_or-map seen_want wants i e (seen_want e) h ∙ ap seen_want (sym is)
-
-pub wants_within : {K : Type 0} (wants : List (K × Bor (List ℕ) × ℕ)) (i : ℕ) → i < length wants → i < length (map (seen_want {K = K}) wants)
-wants_within wants i h = rw length-map h
+-- the first of the files that are wanted were read
+pub record AreRead {K : Type 0} (C : Type 0) (ws : List (Want K)) (i : ℕ) (got : Inputs K) (old mid : ShelfState) : Type 0 where
+  pub files : mid.files ≡ old.files
+  pub faults : mid.faults ≡ old.faults
+  pub within : AreWithin (take i ws) got
+  pub read : IfSome old.files (λ files. read_all {C = C} files (take i ws) ≡ Ok got)
 
 module _ {K C : Type 0} where
   read_append : (files : Files) (front back : List (Want K)) →
@@ -65,40 +58,61 @@ module _ {K C : Type 0} where
   read_append files (w ∷ ws) back =
       one_in_front w.0 (within w.1 w.2 (bytes_of files w.1)) (read_all files ws) (read_all files back) (read_all files (ws ++ back)) (read_append files ws back)
 
-  pub read_more : (files : Files) (ws : List (Want K)) (w : Want K) (got : Inputs K) (bytes : List ℕ) →
+  read_more : (files : Files) (ws : List (Want K)) (w : Want K) (got : Inputs K) (bytes : List ℕ) →
       read_all {C = C} files ws ≡ Ok got → within {C = C} w.1 w.2 (bytes_of files w.1) ≡ Ok bytes → read_all {C = C} files (ws ++ w ∷ []) ≡ Ok (got ++ (w.0, bytes) ∷ [])
-  read_more files ws w got bytes before one = rw (read_append files ws (w ∷ []), before, one) refl
+  read_more files ws w got bytes before one = rw (read_append files ws (w ∷ []), before, one)
 
   read_stop : (files : Files) (front : List (Want K)) (w : Want K) (rest : List (Want K)) (got : Inputs K) (s : Stop C) →
       read_all {C = C} files front ≡ Ok got → within {C = C} w.1 w.2 (bytes_of files w.1) ≡ Err s → read_all {C = C} files (front ++ w ∷ rest) ≡ Err s
-  read_stop files front w rest got s before one = rw (read_append files front (w ∷ rest), before, one) refl
+  read_stop files front w rest got s before one = rw (read_append files front (w ∷ rest), before, one)
 
-  stop_at : (files : Files) (vs ws : List (Want K)) (s : Stop C) → ws ≡ vs → read_all {C = C} files vs ≡ Err s → read_all {C = C} files ws ≡ Err s
-  stop_at files vs ws s is stops = rw is stops
-
-  -- what the stop at one file says of all
-  pub read_stopped : (ws : List (Want K)) (i : ℕ) (w : Want K) (got : Inputs K) (old mid new : ShelfState) → i < length ws → get_or ws i w ≡ w →
-      mid.files ≡ old.files → mid.faults ≡ old.faults → IfSome old.files (λ files. read_all {C = C} files (take i ws) ≡ Ok got) →
-      (s : Stop C) → ReadsOne w.1 w.2 mid new (Err s) → ReadsAll {K = K} ws old new (Err s)
-  read_stopped ws i w got old mid new h is files faults before (Refused cause) one = absurd one
-  read_stopped ws i w got old mid new h is files faults before (ReadFault who) one = record {
-    wanted = rw one.0 (want_contains ws i w h is);
-    rose = rw (one.0, ← faults) one.1;
-    reached = told_map old.files before (λ told read. (take i ws, w, drop (i + 1) ws, got, want_split ws i w h is, sym one.0, read));
-  }
-  read_stopped ws i w got old mid new h is files faults before (TooLong who) one = record {
-    wanted = rw one.0 (want_contains ws i w h is);
-    told = told_both old.files before (rw files at one.1) (λ told read t.
-        let stop = read_stop told (take i ws) w (drop (i + 1) ws) got (TooLong w.1) read t.1 in
-        (rw (one.0, ← faults) t.0, rw (one.0) (stop_at told (take i ws ++ w ∷ drop (i + 1) ws) ws (TooLong w.1) (want_split ws i w h is) stop)));
-  }
-  read_stopped ws i w got old mid new h is files faults before (WriteFault who) one = absurd one
-  read_stopped ws i w got old mid new h is files faults before NoThread one = absurd one
-  read_stopped ws i w got old mid new h is files faults before NoMemory one = tt
-
-pub within_more : {K : Type 0} (ws : List (Want K)) (got : Inputs K) (w : Want K) (bytes : List ℕ) → AreWithin ws got → length bytes ≤ w.2 →
+within_more : {K : Type 0} (ws : List (Want K)) (got : Inputs K) (w : Want K) (bytes : List ℕ) → AreWithin ws got → length bytes ≤ w.2 →
     AreWithin (ws ++ w ∷ []) (got ++ (w.0, bytes) ∷ [])
 within_more [] [] w bytes all fits = (refl, fits, tt)
 within_more [] (i ∷ is) w bytes all fits = absurd all
 within_more (v ∷ ws) [] w bytes all fits = absurd all
 within_more (v ∷ ws) (i ∷ is) w bytes all fits = (all.0, all.1, within_more ws is w bytes all.2 fits)
+
+module _ {K C : Type 0} (wants : List (K × Bor (List ℕ) × ℕ)) (i : ℕ) (items : List (K × Vec ℕ Global)) (old mid new : ShelfState)
+    (so_far : AreRead C (map (seen_want {K = K}) wants) i (map seen_input items) old mid) (h : i < length wants) (e : K × Bor (List ℕ) × ℕ) (is : e ≡ get_or wants i e) where
+  abbrev ws : List (Want K)
+  ws = map seen_want wants
+
+  abbrev w : Want K
+  w = seen_want e
+
+  low : i < length ws
+  low = rw length-map h
+
+  here : get_or ws i w ≡ w
+  here = get_or-map seen_want wants i e w h ∙ ap seen_want (sym is)
+
+  wanted : Contains (read_names ws) w.1
+  wanted = (i, rw length-map low, get_or-map (λ v. v.1) ws i w w.1 low ∙ ap (λ v. v.1) here)
+
+  -- what the stop at one file says of all
+  pub read_stopped : (s : Stop C) → ReadsOne w.1 w.2 mid new (Err s) → ReadsAll {K = K} ws old new (Err s)
+  read_stopped (ReadFault who) one = record {
+    wanted = rw one.0 wanted;
+    rose = rw (one.0, ← so_far.faults) one.1;
+    reached = IfSome_then old.files so_far.read (λ told read. (take i ws, w, drop (i + 1) ws, map seen_input items, want_split ws i w low here, sym one.0, read));
+  }
+  read_stopped (TooLong who) one = record {
+    wanted = rw one.0 wanted;
+    told = told_both old.files so_far.read (rw so_far.files at one.1) (λ told read t.
+        (rw (one.0, ← so_far.faults) t.0, rw (one.0, want_split ws i w low here) (read_stop told (take i ws) w (drop (i + 1) ws) (map seen_input items) (TooLong w.1) read t.1)));
+  }
+  read_stopped NoMemory one = tt
+  read_stopped stop one = absurd one
+
+  -- one file more
+  pub read_further : (v : Vec ℕ Global) → new.files ≡ mid.files → ReadsOne {C = C} w.1 w.2 mid new (Ok v) → AreRead C ws (i + 1) (map seen_input (items ++ (e.0, v) ∷ [])) old new
+  read_further v files one =
+      let front : take (i + 1) ws ≡ take i ws ++ w ∷ [] = rw here at (take_more ws i w low) in
+      let got : map seen_input (items ++ (e.0, v) ∷ []) ≡ map seen_input items ++ (e.0, v.items) ∷ [] = map-append seen_input items ((e.0, v) ∷ []) in
+      record {
+        files = files ∙ so_far.files;
+        faults = one.0 ∙ so_far.faults;
+        within = rw (front, got) (within_more _ _ w v.items so_far.within one.1);
+        read = told_both old.files so_far.read (rw so_far.files at one.2) (λ told before bytes. rw (front, got) (read_more told _ w _ v.items before bytes));
+      }

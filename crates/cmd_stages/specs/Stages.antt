@@ -19,78 +19,60 @@ use Rattle.cmd_stages.specs.View.{seen_input}
 abbrev pub ReadsOne : {C : Type 0} → List ℕ → ℕ → ShelfState → ShelfState → Result (Vec ℕ Global) (Stop C) → Type 0
 ReadsOne {C = C} name cap old new (Ok v) =
     (new.faults ≡ old.faults) × (length v.items ≤ cap) × IfSome old.files (λ files. within {C = C} name cap (bytes_of files name) ≡ Ok v.items)
-ReadsOne name cap old new (Err (Refused cause)) = ⊥
 ReadsOne name cap old new (Err (ReadFault who)) = (who ≡ name) × Rose (old.faults name) (new.faults name)
 ReadsOne {C = C} name cap old new (Err (TooLong who)) =
     (who ≡ name)
     × IfSome old.files (λ files. Stayed (old.faults name) (new.faults name) × (within {C = C} name cap (bytes_of files name) ≡ Err (TooLong name)))
-ReadsOne name cap old new (Err (WriteFault who)) = ⊥
-ReadsOne name cap old new (Err NoThread) = ⊥
 ReadsOne name cap old new (Err NoMemory) = ⊤
+ReadsOne name cap old new (Err stop) = ⊥
 
 -- the bytes of all files that are wanted, or why not
 abbrev pub ReadsAll : {K C : Type 0} → List (Want K) → ShelfState → ShelfState → Result (Vec (K × Vec ℕ Global) Global) (Stop C) → Type 0
 ReadsAll {C = C} ws old new (Ok v) =
     AreWithin ws (map seen_input v.items) × IfSome old.files (λ files. read_all {C = C} files ws ≡ Ok (map seen_input v.items))
-ReadsAll ws old new (Err (Refused cause)) = ⊥
 ReadsAll {C = C} ws old new (Err (ReadFault name)) = IsUnread C ws name old new
 ReadsAll {C = C} ws old new (Err (TooLong name)) = IsTooLong C ws name old new
-ReadsAll ws old new (Err (WriteFault name)) = ⊥
-ReadsAll ws old new (Err NoThread) = ⊥
 ReadsAll ws old new (Err NoMemory) = ⊤
+ReadsAll ws old new (Err stop) = ⊥
 
 -- What a command works out of what it read, with a crew where it has a pair. `view` is what the code's answer is seen as, `stage` what the
 -- definitions say. No thread is told only of a command that comes to something.
 abbrev pub Works : {X Y C : Type 0} → (X → Y) → Bool → Counts → Counts → Result X (Stop C) → Result Y (Refusal C) → Type 0
 Works view paired old new (Ok x) stage = (stage ≡ Ok (view x)) × HasPaired paired old new
 Works view paired old new (Err (Refused cause)) stage = stage ≡ Err (refusals.Cause cause)
-Works view paired old new (Err (ReadFault name)) stage = ⊥
-Works view paired old new (Err (TooLong name)) stage = ⊥
-Works view paired old new (Err (WriteFault name)) stage = ⊥
 Works view paired old new (Err NoThread) stage = IsOkAnd stage (λ _. ⊤) × HasNoThread paired old new
 Works view paired old new (Err NoMemory) stage = ⊤
+Works view paired old new (Err stop) stage = ⊥
 
 -- how what comes of a command was written
 abbrev pub Writes : {E C : Type 0} → Verdict E → OutletState → OutletState → Result E (Stop C) → Type 0
 Writes v old new (Ok ending) = (ending ≡ v.ending) × IsWhole v old new
-Writes v old new (Err (Refused cause)) = ⊥
-Writes v old new (Err (ReadFault name)) = ⊥
-Writes v old new (Err (TooLong name)) = ⊥
 Writes v old new (Err (WriteFault name)) = IsUnwritten v name old new
-Writes v old new (Err NoThread) = ⊥
 Writes v old new (Err NoMemory) = IsUntouched old new ⊎ IsCutShort v old new
+Writes v old new (Err stop) = ⊥
 
 -- one file was put, or a part of it
 abbrev pub PutsOne : {C : Type 0} → List ℕ → List ℕ → OutletState → OutletState → Result (Unit {0}) (Stop C) → Type 0
 PutsOne name bytes old new (Ok done) = (new.files ≡ put name bytes old.files) × (new.said ≡ old.said)
-PutsOne name bytes old new (Err (Refused cause)) = ⊥
-PutsOne name bytes old new (Err (ReadFault who)) = ⊥
-PutsOne name bytes old new (Err (TooLong who)) = ⊥
 PutsOne name bytes old new (Err (WriteFault who)) =
     (who ≡ name) × Rose (old.faults name) (new.faults name) × IsPartPut name bytes old.files new.files × (new.said ≡ old.said)
-PutsOne name bytes old new (Err NoThread) = ⊥
 PutsOne name bytes old new (Err NoMemory) = IsPartPut name bytes old.files new.files × (new.said ≡ old.said)
+PutsOne name bytes old new (Err stop) = ⊥
 
 -- the files were put, or which of them not
 abbrev pub PutsAll : {C : Type 0} → List (List ℕ × List ℕ) → OutletState → OutletState → Result (Unit {0}) (Stop C) → Type 0
 PutsAll fs old new (Ok done) = (new.files ≡ put_all fs old.files) × (new.said ≡ old.said)
-PutsAll fs old new (Err (Refused cause)) = ⊥
-PutsAll fs old new (Err (ReadFault name)) = ⊥
-PutsAll fs old new (Err (TooLong name)) = ⊥
 PutsAll fs old new (Err (WriteFault name)) = Contains (names fs) name × Rose (old.faults name) (new.faults name) × IsCutAtFile name fs old new
-PutsAll fs old new (Err NoThread) = ⊥
 PutsAll fs old new (Err NoMemory) = (name : List ℕ) × IsCutAtFile name fs old new
+PutsAll fs old new (Err stop) = ⊥
 
 -- the text was said, or a part of it
 abbrev pub Says : {C : Type 0} → List ℕ → OutletState → OutletState → Result (Unit {0}) (Stop C) → Type 0
 Says text old new (Ok done) = (new.said ≡ say text old.said) × (new.files ≡ old.files)
-Says text old new (Err (Refused cause)) = ⊥
-Says text old new (Err (ReadFault name)) = ⊥
-Says text old new (Err (TooLong name)) = ⊥
 Says text old new (Err (WriteFault name)) =
     (name ≡ dash) × (0 < length text) × Rose old.say_faults new.say_faults × IsPartSaid text old.said new.said × (new.files ≡ old.files)
-Says text old new (Err NoThread) = ⊥
 Says text old new (Err NoMemory) = IsPartSaid text old.said new.said × (new.files ≡ old.files)
+Says text old new (Err stop) = ⊥
 
 -- What stages leave beside what they promise: no count fell, and the files of the shelf are as they were.
 pub record HasKept {K E C : Type 0} (p : Plan K E C) (old new : World) : Type 0 where

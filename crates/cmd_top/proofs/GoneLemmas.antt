@@ -3,7 +3,7 @@ use Rattle.std.proofs.Common.{◌≡◌, ◌∙◌, sym, refl, ap, ℕ, List, Op
 use Rattle.beeb_bits.specs.declared.Side.{Side}
 use Rattle.beeb_bits.specs.declared.Side.TheVariants.{Host, Para}
 use Rattle.op_table.specs.declared.names.Part.{Part}
-use Rattle.cmd_words.specs.Command.{Command, check, asm, dis, replay, solo, run, resume, follow, gen, ticks_of}
+use Rattle.cmd_words.specs.Command.{Command, resume, follow, ticks_of}
 use Rattle.cmd_words.specs.Given.{Values, clock_of}
 use Rattle.host_mach.specs.Step.{host_moves}
 use Rattle.para_mach.specs.Step.{para_moves}
@@ -38,8 +38,8 @@ use Rattle.cmd_follow.specs.Follow.{listed_verdict, listed_by, listed_ended, fol
 use Rattle.cmd_top.specs.Plans.{after, plan, choice_of}
 use Rattle.cmd_top.specs.Commands.{EndsWith}
 use Rattle.cmd_top.specs.Gone.{IsResumed, IsListed, Gone}
-use Rattle.cmd_top.proofs.HeadlineLemmas.{say_nothing}
-use Rattle.cmd_top.proofs.HeardLemmas.{stage_ok, placed, session_done, was_read}
+use Rattle.cmd_top.proofs.HeadlineLemmas.{say_nothing, stage_ok, done_as}
+use Rattle.cmd_top.proofs.HeardLemmas.{placed, session_done, was_read}
 
 module _ (plugs : List Plug) (old new : World) where
   abbrev Ends : Command → Type 0
@@ -70,7 +70,7 @@ module _ (plugs : List Plug) (old new : World) where
   listed_gone c made_of m sights part side choice out comes e =
       let read = was_read (plan plugs c) old.shelf.files e.ends.0 e.ends.1.0 in
       let i : Inputs = inputs_of read.0 in
-      let got = stage_ok (made_of i) (made_of i) (listed_ended m sights part side (ticks_of c) choice out) e.ends.0 refl (ap or_stop (sym (comes i)) ∙ read.2) in
+      let got = stage_ok (made_of i) (listed_ended m sights part side (ticks_of c) choice out) e.ends.0 (ap or_stop (sym (comes i)) ∙ read.2) in
       let listing : ListingState = replay_listing m sights part side got.0.0 (ticks_of c) choice got.0.1 in
       let is : e.ends.0 ≡ listed_verdict out listing =
       placed (λ (l : ListingState). listed_verdict out l) listing (replay_of m side got.0.0 (ticks_of c) got.0.1).place (wrong got.0.0) e.ends.0 got.2 e.ends.2 in
@@ -86,23 +86,14 @@ module _ (plugs : List Plug) (old new : World) where
 
 done_gone : (plugs : List Plug) (c : Command) (old new : World) → EndsWith plugs c old new Done → Gone plugs (Some c) old new
 unfolding EndsWith Gone follow_after
-done_gone plugs (check trace) old new e = tt
-done_gone plugs (asm part source out) old new e = tt
-done_gone plugs (dis part image origin out) old new e = tt
-done_gone plugs (replay side trace ticks out given) old new e = tt
-done_gone plugs (solo ticks out keep given) old new e = tt
-done_gone plugs (run ticks out keep given) old new e = tt
 done_gone plugs (resume state ticks out keep given) old new e = resume_gone plugs old new state ticks keep out given e
 done_gone plugs (follow Host trace ticks out given) old new e =
     listed_gone plugs old new (follow Host trace ticks out given) (host_of (setup_of given plugs)) host_moves host_sight Nmos Host (choice_of given) out (λ i. refl) e
 done_gone plugs (follow Para trace ticks out given) old new e =
     listed_gone plugs old new (follow Para trace ticks out given) (para_of (clock_of given)) para_moves para_sight Cmos Para (choice_of given) out (λ i. refl) e
-done_gone plugs (gen seed) old new e = tt
+done_gone plugs c old new e = tt
 
 -- a command that was carried out as its status says
-pub gone_of : (plugs : List Plug) (c : Command) (o : Option Command) (old new : World) (status : Status) (end : Result Ending (Stop Cause)) → Some c ≡ o →
+pub gone_of : (plugs : List Plug) (c : Command) {o : Option Command} {old new : World} {status : Status} {end : Result Ending (Stop Cause)} → Some c ≡ o →
     end_of status ≡ Some end → CarriesOut (plan plugs c) old new end → status ≡ Done → Gone plugs o old new
-unfolding EndsWith
-gone_of plugs c o old new status end is ended carried done =
-    let ends : EndsWith plugs c old new status = rw ended carried in
-    rw (← is) (done_gone plugs c old new (rw done at ends))
+gone_of plugs c {old = old} {new = new} is ended carried done = rw (← is) (done_gone plugs c old new (done_as plugs c ended carried done))

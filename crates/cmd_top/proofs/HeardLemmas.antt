@@ -8,7 +8,7 @@ use Rattle.beeb_bits.specs.declared.clock.Clock.{Clock}
 use Rattle.beeb_bits.specs.declared.Side.TheVariants.{Host, Para}
 use Rattle.beeb_files.specs.Files.{Files, bytes_of, put}
 use Rattle.cmd_words.specs.declared.keys.Slot.{Slot}
-use Rattle.cmd_words.specs.Command.{Command, check, asm, dis, replay, solo, run, resume, follow, gen, is_paired}
+use Rattle.cmd_words.specs.Command.{Command, replay, solo, run, resume, is_paired, ticks_of}
 use Rattle.cmd_words.specs.Given.{Values, clock_of, save_of, wav_of}
 use Rattle.cmd_stages.specs.declared.stop.Stop.{Stop}
 use Rattle.cmd_stages.specs.declared.stop.Refusal.{Refusal}
@@ -51,10 +51,10 @@ use Rattle.cmd_ended.specs.Kept.{kept_of, saved_file, kept_verdict}
 use Rattle.cmd_pair.specs.Solo.{solo_after}
 use Rattle.cmd_session.specs.Session.{state_of, place_of, session_ended, session_after}
 use Rattle.save_state.specs.Saved as sessions
-use Rattle.cmd_top.specs.Plans.{plan}
+use Rattle.cmd_top.specs.Plans.{after, plan}
 use Rattle.cmd_top.specs.Commands.{EndsWith, if_unpaired}
 use Rattle.cmd_top.specs.Heard.{WereRead, IsHeard, Heard, reference_host, replayed_host, session_host}
-use Rattle.cmd_top.proofs.HeadlineLemmas.{read_ok}
+use Rattle.cmd_top.proofs.HeadlineLemmas.{bound_ok, stage_ok, done_as}
 
 -- ---- what is put last
 
@@ -90,7 +90,7 @@ front_of l =
     ++ if_there Trace l.kept ++ of_host spills l.host)
 
 sound_is : (l : Left) (s : HostState) (name : List ℕ) → l.host ≡ Some s → l.names.wav ≡ Some name → file_of l Sound ≡ (name, sound_bytes l.clock l.ticks s)
-sound_is l s name host wav = rw (host, wav) refl
+sound_is l s name host wav = rw (host, wav)
 
 one_sound : (l : Left) (s : HostState) (name : List ℕ) (o : Option (List ℕ)) (files : Option Files) → l.host ≡ Some s → l.names.wav ≡ o → o ≡ Some name →
     IfSome (put_all (map (file_of l) (if_there Sound o)) files) (λ now. bytes_of now name ≡ Some (sound_bytes l.clock l.ticks s))
@@ -124,11 +124,6 @@ left_heard l s name old new host wav differ is =
 
 -- ---- what each command comes to
 
-pub stage_ok : {A : Type 0} (r m : Result A (Refusal Cause)) (f : A → Verdict Ending) (v : Verdict Ending) → r ≡ m → or_stop (m >>= λ x. Ok (f x)) ≡ Ok v →
-    (x : A) × (r ≡ Ok x) × (v ≡ f x)
-stage_ok r (Ok x) f v is same = (x, is, cc)
-stage_ok r (Err refusal) f v is same = cc
-
 right_trace : (w : Option (ℕ × ℕ)) (v : Verdict Ending) → endings.Done ≡ (unless_wrong w v).ending → unless_wrong w v ≡ v
 right_trace None v done = refl
 right_trace (Some w) v done = cc
@@ -140,7 +135,7 @@ no_place done s (Some place) is = cc
 stage_two : {A B : Type 0} (r : Result A (Refusal Cause)) (g : A → Result B (Refusal Cause)) (f : A → B → Verdict Ending) (v : Verdict Ending) →
     or_stop (r >>= λ x. g x >>= λ y. Ok (f x y)) ≡ Ok v → (x : A) × (y : B) × (r ≡ Ok x) × (g x ≡ Ok y) × (v ≡ f x y)
 stage_two (Err e) g f v is = cc
-stage_two (Ok x) g f v is = let got = stage_ok (g x) (g x) (f x) v refl is in (x, got.0, refl, got.1, got.2)
+stage_two (Ok x) g f v is = let got = stage_ok (g x) (f x) v is in (x, got.0, refl, got.1, got.2)
 
 pub placed : {S : Type 0} (done : S → Verdict Ending) (s : S) (place : Option (ℕ × Option Doing)) (w : Option (ℕ × ℕ)) (v : Verdict Ending) →
     v ≡ unless_wrong w (verdict_of_place done s place) → endings.Done ≡ v.ending → v ≡ done s
@@ -167,18 +162,18 @@ session_done plugs ticks keep names i v comes done =
           (place_of s ticks m) (wrong s.entries) v got.4 done,
     )
 
+-- in these files the sound file of a host stands under this name, where the session file has another
+abbrev Hears : Values → ℕ → List ℕ → Option Files → Result (Clock × HostState) (Refusal Cause) → Type 0
+Hears given ticks name new host =
+    (clock : Clock) × (last : HostState) × (host ≡ Ok (clock, last)) × ((save_of given ≡ Some name → ⊥) → IfSome new (λ files. bytes_of files name ≡ Some (sound_bytes clock ticks last)))
+
 module _ (plugs : List Plug) (ticks : ℕ) (out : List ℕ) (given : Values) (name : List ℕ) (wav : wav_of given ≡ Some name) (i : Inputs)
     (v : Verdict Ending) (old new : Option Files) (is : new ≡ put_all v.files old) where
-  abbrev Hears : Result (Clock × HostState) (Refusal Cause) → Type 0
-  Hears host =
-      (clock : Clock) × (last : HostState) × (host ≡ Ok (clock, last)) × ((save_of given ≡ Some name → ⊥) → IfSome new (λ files. bytes_of files name ≡ Some (sound_bytes clock ticks last)))
-
-  run_heard : (keep : ℕ) → or_stop (solo_after (setup_of given plugs) ticks keep (names_of out given) i) ≡ Ok v → Hears (reference_host plugs ticks given i)
+  run_heard : (keep : ℕ) → or_stop (solo_after (setup_of given plugs) ticks keep (names_of out given) i) ≡ Ok v → Hears given ticks name new (reference_host plugs ticks given i)
   unfolding solo_after kept_verdict
   run_heard keep comes =
       let begun : Option sessions.Session = begun_if (save_of given) (setup_of given plugs) i in
-      let got = stage_ok (machines_of (setup_of given plugs) i) (machines_of (setup_of given plugs) i)
-      (λ m. kept_verdict (clock_of given) begun ticks keep (names_of out given) (reference host_moves para_moves m.0 m.1 ticks)) v refl comes in
+      let got = stage_ok (machines_of (setup_of given plugs) i) _ v comes in
       let w : Worlds HostState ParaState = reference host_moves para_moves got.0.0 got.0.1 ticks in (
         clock_of given,
         w.host,
@@ -189,7 +184,7 @@ module _ (plugs : List Plug) (ticks : ℕ) (out : List ℕ) (given : Values) (na
             w.host name old new refl wav differ (is ∙ ap (λ (x : Verdict Ending). put_all x.files old) got.2),
       )
 
-  session_heard : (keep : ℕ) → or_stop (session_after plugs ticks keep (names_of out given) i) ≡ Ok v → endings.Done ≡ v.ending → Hears (session_host plugs ticks i)
+  session_heard : (keep : ℕ) → or_stop (session_after plugs ticks keep (names_of out given) i) ≡ Ok v → endings.Done ≡ v.ending → Hears given ticks name new (session_host plugs ticks i)
   unfolding kept_verdict
   session_heard keep comes done =
       let got = session_done plugs ticks keep (names_of out given) i v comes done in
@@ -198,19 +193,18 @@ module _ (plugs : List Plug) (ticks : ℕ) (out : List ℕ) (given : Values) (na
       let w : Worlds HostState ParaState = reference host_moves para_moves got.1.0 got.1.1 ticks in (
         s.clock,
         w.host,
-        ap (λ (r : Result sessions.Session (Refusal Cause)). r >>= λ s. machines_of (setup_in s plugs) (inputs_in s) >>= λ m. Ok (s.clock, (reference host_moves para_moves m.0 m.1 ticks).host)) got.2
-            ∙ ap (λ (r : Result (HostState × ParaState) (Refusal Cause)). r >>= λ m. Ok (s.clock, (reference host_moves para_moves m.0 m.1 ticks).host)) got.3,
+        rw (got.2, got.3),
         λ differ.
             left_heard (both_left s.clock ticks (length (accesses w.list)) (names_of out given) w.host w.para (kept_of s.clock (take keep (accesses w.list)))
             (saved_file begun ticks keep w.list))
             w.host name old new refl wav differ (is ∙ ap (λ (x : Verdict Ending). put_all x.files old) got.4),
       )
 
-  replay_heard : or_stop (replay_after (setup_of given plugs) Host ticks (names_of out given) i) ≡ Ok v → endings.Done ≡ v.ending → Hears (replayed_host plugs ticks given i)
+  replay_heard : or_stop (replay_after (setup_of given plugs) Host ticks (names_of out given) i) ≡ Ok v → endings.Done ≡ v.ending → Hears given ticks name new (replayed_host plugs ticks given i)
   unfolding replay_after replayed
   replay_heard comes done =
       let left : ℕ → HostState → Left = λ tube s. host_left (clock_of given) ticks tube (names_of out given) s in
-      let got = stage_ok (host_of (setup_of given plugs) i) (host_of (setup_of given plugs) i) (replayed host_moves Host ticks left) v refl comes in
+      let got = stage_ok (host_of (setup_of given plugs) i) (replayed host_moves Host ticks left) v comes in
       let e : Ended HostState = replay_of host_moves Host got.0.0 ticks got.0.1 in
       let count : ℕ = side_count Host ticks got.0.0 in (
         clock_of given,
@@ -226,65 +220,43 @@ module _ (plugs : List Plug) (ticks : ℕ) (out : List ℕ) (given : Values) (na
 pub was_read : (p : Plan Slot Ending Cause) (o : Option Files) (v : Verdict Ending) → ComesTo p o (Ok v) →
     (inputs : plans.Inputs Slot) × WereRead p.reads o inputs × (or_stop (p.after inputs) ≡ Ok v)
 was_read p None v comes = comes
-was_read p (Some files) v comes = read_ok p.reads files (read_all files p.reads) (λ list. or_stop (p.after list)) v refl comes
+was_read p (Some files) v comes = bound_ok (read_all files p.reads) (λ list. or_stop (p.after list)) v comes
 
 if_name : (o : Option (List ℕ)) (P : List ℕ → Type 0) → ((name : List ℕ) → o ≡ Some name → P name) → IfSome o P
 if_name None P each = tt
 if_name (Some name) P each = each name refl
 
-module _ (plugs : List Plug) (old new : World) where
-  abbrev Ends : Command → Type 0
-  Ends c = CarriesOut (plan plugs c) old new (Ok endings.Done)
-
-  solo_done : (ticks keep : ℕ) (out : List ℕ) (given : Values) → Ends (solo ticks out keep given) →
-      IfSome (wav_of given) (IsHeard (solo ticks out keep given) given (reference_host plugs ticks given) old new)
-  solo_done ticks keep out given c = if_name (wav_of given) _ (λ name wav.
-      let got = was_read (plan plugs (solo ticks out keep given)) old.shelf.files c.ends.0 c.ends.1.0 in
-      let heard = run_heard plugs ticks out given name wav (inputs_of got.0) c.ends.0 old.outlet.files new.outlet.files c.ends.3.files keep got.2 in
-      record { inputs = got.0; read = got.1; clock = heard.0; last = heard.1; ended = heard.2; file = heard.3 })
-
-  run_done : (ticks keep : ℕ) (out : List ℕ) (given : Values) → Ends (run ticks out keep given) →
-      IfSome (wav_of given) (IsHeard (run ticks out keep given) given (reference_host plugs ticks given) old new)
-  run_done ticks keep out given c = if_name (wav_of given) _ (λ name wav.
-      let got = was_read (plan plugs (run ticks out keep given)) old.shelf.files c.ends.0 c.ends.1.0 in
-      let heard = run_heard plugs ticks out given name wav (inputs_of got.0) c.ends.0 old.outlet.files new.outlet.files c.ends.3.files keep got.2 in
-      record { inputs = got.0; read = got.1; clock = heard.0; last = heard.1; ended = heard.2; file = heard.3 })
-
-  resume_done : (state : List ℕ) (ticks keep : ℕ) (out : List ℕ) (given : Values) → Ends (resume state ticks out keep given) →
-      IfSome (wav_of given) (IsHeard (resume state ticks out keep given) given (session_host plugs ticks) old new)
-  resume_done state ticks keep out given c = if_name (wav_of given) _ (λ name wav.
-      let got = was_read (plan plugs (resume state ticks out keep given)) old.shelf.files c.ends.0 c.ends.1.0 in
-      let heard = session_heard plugs ticks out given name wav (inputs_of got.0) c.ends.0 old.outlet.files new.outlet.files c.ends.3.files keep got.2 c.ends.2 in
-      record { inputs = got.0; read = got.1; clock = heard.0; last = heard.1; ended = heard.2; file = heard.3 })
-
-  replay_done : (ticks : ℕ) (trace out : List ℕ) (given : Values) → Ends (replay Host trace ticks out given) →
-      IfSome (wav_of given) (IsHeard (replay Host trace ticks out given) given (replayed_host plugs ticks given) old new)
-  replay_done ticks trace out given c = if_name (wav_of given) _ (λ name wav.
-      let got = was_read (plan plugs (replay Host trace ticks out given)) old.shelf.files c.ends.0 c.ends.1.0 in
-      let heard = replay_heard plugs ticks out given name wav (inputs_of got.0) c.ends.0 old.outlet.files new.outlet.files c.ends.3.files got.2 c.ends.2 in
-      record { inputs = got.0; read = got.1; clock = heard.0; last = heard.1; ended = heard.2; file = heard.3 })
+-- what is heard of a command that is done, by what is heard of what it comes to
+heard_by : (plugs : List Plug) (old new : World) (c : Command) (given : Values) (host : Inputs → Result (Clock × HostState) (Refusal Cause))
+    (e : CarriesOut (plan plugs c) old new (Ok endings.Done)) →
+    ((name : List ℕ) → wav_of given ≡ Some name → (i : Inputs) → or_stop (after plugs c i) ≡ Ok e.ends.0 → Hears given (ticks_of c) name new.outlet.files (host i)) →
+    IfSome (wav_of given) (IsHeard c given host old new)
+heard_by plugs old new c given host e hears = if_name (wav_of given) _ (λ name wav.
+    let got = was_read (plan plugs c) old.shelf.files e.ends.0 e.ends.1.0 in
+    let heard = hears name wav (inputs_of got.0) got.2 in
+    record { inputs = got.0; read = got.1; clock = heard.0; last = heard.1; ended = heard.2; file = heard.3 })
 
 done_heard : (plugs : List Plug) (c : Command) (old new : World) → EndsWith plugs c old new Done → Heard plugs (Some c) old new
 unfolding EndsWith Heard
-done_heard plugs (check trace) old new e = tt
-done_heard plugs (asm part source out) old new e = tt
-done_heard plugs (dis part image origin out) old new e = tt
-done_heard plugs (replay Host trace ticks out given) old new e = replay_done plugs old new ticks trace out given e
-done_heard plugs (replay Para trace ticks out given) old new e = tt
-done_heard plugs (solo ticks out keep given) old new e = solo_done plugs old new ticks keep out given e
-done_heard plugs (run ticks out keep given) old new e = run_done plugs old new ticks keep out given e
-done_heard plugs (resume state ticks out keep given) old new e = resume_done plugs old new state ticks keep out given e
-done_heard plugs (follow side trace ticks out given) old new e = tt
-done_heard plugs (gen seed) old new e = tt
+done_heard plugs (replay Host trace ticks out given) old new e =
+    heard_by plugs old new (replay Host trace ticks out given) given (replayed_host plugs ticks given) e
+    (λ name wav i comes. replay_heard plugs ticks out given name wav i e.ends.0 old.outlet.files new.outlet.files e.ends.3.files comes e.ends.2)
+done_heard plugs (solo ticks out keep given) old new e =
+    heard_by plugs old new (solo ticks out keep given) given (reference_host plugs ticks given) e
+    (λ name wav i comes. run_heard plugs ticks out given name wav i e.ends.0 old.outlet.files new.outlet.files e.ends.3.files keep comes)
+done_heard plugs (run ticks out keep given) old new e =
+    heard_by plugs old new (run ticks out keep given) given (reference_host plugs ticks given) e
+    (λ name wav i comes. run_heard plugs ticks out given name wav i e.ends.0 old.outlet.files new.outlet.files e.ends.3.files keep comes)
+done_heard plugs (resume state ticks out keep given) old new e =
+    heard_by plugs old new (resume state ticks out keep given) given (session_host plugs ticks) e
+    (λ name wav i comes. session_heard plugs ticks out given name wav i e.ends.0 old.outlet.files new.outlet.files e.ends.3.files keep comes e.ends.2)
+done_heard plugs c old new e = tt
 
 -- a command that was carried out as its status says
-pub heard_of : (plugs : List Plug) (c : Command) (o : Option Command) (old new : World) (status : Status) (end : Result Ending (Stop Cause)) → Some c ≡ o →
+pub heard_of : (plugs : List Plug) (c : Command) {o : Option Command} {old new : World} {status : Status} {end : Result Ending (Stop Cause)} → Some c ≡ o →
     end_of status ≡ Some end → CarriesOut (plan plugs c) old new end → status ≡ Done → Heard plugs o old new
-unfolding EndsWith
-heard_of plugs c o old new status end is ended carried done =
-    let ends : EndsWith plugs c old new status = rw ended carried in
-    rw (← is) (done_heard plugs c old new (rw done at ends))
+heard_of plugs c {old = old} {new = new} is ended carried done = rw (← is) (done_heard plugs c old new (done_as plugs c ended carried done))
 
 -- a command that needs no crew
 pub same_unpaired : (c : Command) (o : Option Command) → Some c ≡ o → is_paired c ≡ false → Some c ≡ if_unpaired o
-same_unpaired c o is alone = rw (← is, alone) refl
+same_unpaired c o is alone = rw (← is, alone)

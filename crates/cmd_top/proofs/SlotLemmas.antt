@@ -1,5 +1,5 @@
 -- The slots of the paged ROMs that a command read.
-use Rattle.std.proofs.Common.{◌≡◌, ◌∙◌, sym, ap, subst, ℕ, zero, suc, ◌+◌, ◌<◌, ◌≤◌, List, [], ◌∷◌, map, length, get_or, IsTrue, Option, Some, None, option_map, IfSome, arith}
+use Rattle.std.proofs.Common.{◌≡◌, ◌∙◌, sym, ap, subst, ℕ, zero, suc, ◌+◌, ◌<◌, ◌≤◌, List, [], ◌∷◌, map, length, get_or, IsTrue, IfSome, arith}
 use Rattle.std.proofs.lemmas.Simd.{map-map}
 use Rattle.std.proofs.lemmas.Bool.Decides.{nat_tests}
 use Rattle.std.specs.List.{All, filter_map}
@@ -7,14 +7,14 @@ use Rattle.std.specs.declared.vec.Vec.{Vec}
 use Rattle.std.specs.declared.alloc.Global.{Global}
 use Rattle.rom_set.specs.Roms.{Rom, rom_seen, roms_seen}
 use Rattle.cmd_words.specs.declared.keys.Slot.{Slot}
-use Rattle.cmd_words.specs.declared.keys.Slot.TheVariants as slots
 use Rattle.cmd_words.specs.Keys.{keys}
-use Rattle.cmd_words.specs.Command.{Command, check, asm, dis, replay, solo, run, resume, follow, gen}
+use Rattle.cmd_words.specs.Command.{Command, replay, solo, run, follow, gen}
 use Rattle.cmd_words.specs.Reads.{reads, rom_slot, rise_from, HaveRomSlots}
 use Rattle.cmd_stages.specs.Plan.{Want, Inputs, AreWithin}
 use Rattle.cmd_machines.specs.Inputs as inputs
-use Rattle.cmd_machines.specs.View.{items, seen_inputs}
+use Rattle.cmd_machines.specs.View.{seen_inputs}
 use Rattle.cmd_machines.specs.declared.inputs.Inputs as held
+use Rattle.cmd_machines.proofs.PartLemmas.{keys_held}
 use Rattle.cmd_machines.proofs.ReadLemmas.{numbers_of, same_slots, numbers_read, AreCapped, ShortKeys, all_short, files_capped}
 
 below_at : (xs : List (ℕ × Vec ℕ Global)) (low : ℕ) → IsTrue (rise_from low (map (λ (x : ℕ × Vec ℕ Global). x.0) xs)) →
@@ -39,19 +39,12 @@ slots_below ws list i fits rise is =
 
 -- of each command
 pub all_capped : (c : Command) → AreCapped (reads c)
-all_capped (check trace) = (tt, tt)
-all_capped (asm part source out) = (tt, tt)
-all_capped (dis part image origin out) = (tt, tt)
 all_capped (replay side trace ticks out given) = (tt, files_capped keys given)
 all_capped (solo ticks out keep given) = files_capped keys given
 all_capped (run ticks out keep given) = files_capped keys given
-all_capped (resume state ticks out keep given) = (tt, tt)
 all_capped (follow side trace ticks out given) = (tt, files_capped keys given)
 all_capped (gen seed) = tt
-
-keys_held : (keys : Option (Vec ℕ Global)) → IfSome (option_map items keys) (λ keys. length keys ≤ 1048576) → IfSome keys (λ keys. length keys.items ≤ 1048576)
-keys_held None short = tt
-keys_held (Some bytes) short = short
+all_capped c = (tt, tt)
 
 -- the script that a command read is no longer than a session's
 pub keys_short : (c : Command) (list : Inputs Slot) (i : held.Inputs) → AreWithin (reads c) list → seen_inputs i ≡ inputs.inputs_of list →

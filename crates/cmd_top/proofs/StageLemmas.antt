@@ -1,5 +1,5 @@
 -- The stages of a command, with its plugged devices and its names as the definitions have them.
-use Rattle.std.proofs.Common.{◌≡◌, sym, subst, refl, ap, ℕ, Bool, true, false, List, Result, Ok, Err, arith, IsErrAnd}
+use Rattle.std.proofs.Common.{◌≡◌, sym, subst, refl, ℕ, Bool, true, false, List, Result, Ok, Err, arith}
 use Rattle.std.specs.declared.vec.Vec.{Vec}
 use Rattle.std.specs.declared.alloc.Global.{Global}
 use Rattle.beeb_files.specs.Crew.{Counts}
@@ -17,11 +17,6 @@ use Rattle.cmd_stages.specs.Stages.{ReadsAll, Works}
 use Rattle.cmd_status.specs.declared.status.Ending.{Ending}
 use Rattle.cmd_status.specs.declared.status.Cause.{Cause}
 
--- an answer whose error is this one
-pub err_is : {A C : Type 0} (r : Result A C) (e : C) → IsErrAnd r (λ given. given ≡ e) → r ≡ Err e
-err_is (Ok x) e same = absurd same
-err_is (Err given) e same = ap Err same
-
 pub same_counts : (o : OutletState) → NoCountFell o o
 same_counts o = record { names = λ name. let n : ℕ = o.faults name in omega arith; say = let n : ℕ = o.say_faults in omega arith }
 
@@ -30,7 +25,7 @@ crew_stays true crew = (let f : ℕ = crew.faults in omega arith, let n : ℕ = 
 crew_stays false crew = refl
 
 pub crew_as : (paired : Bool) (old new : Counts) → paired ≡ true → IsCrewAfter true old new → IsCrewAfter paired old new
-crew_as paired old new is crew = subst (λ (b : Bool). IsCrewAfter b old new) (sym is) crew
+crew_as paired old new is crew = rw is crew
 
 pub reads_as : (wants asked : List (Want Slot)) (old new : ShelfState) (r : Result (Vec (Slot × Vec ℕ Global) Global) (Stop Cause)) → wants ≡ asked →
     ReadsAll {C = Cause} wants old new r → ReadsAll {C = Cause} asked old new r
@@ -38,12 +33,8 @@ reads_as wants asked old new r is reads = subst (λ (ws : List (Want Slot)). Rea
 
 own_view : {X : Type 0} (view : X → Verdict Ending) (old new : Counts) (stage : Result (Verdict Ending) (Refusal Cause)) (s : Stop Cause) →
     Works view true old new (Err s) stage → Works (λ (v : Verdict Ending). v) true old new (Err s) stage
-own_view view old new stage (stops.Refused cause) works = works
 own_view view old new stage (stops.ReadFault name) works = works
-own_view view old new stage (stops.TooLong name) works = works
-own_view view old new stage (stops.WriteFault name) works = works
-own_view view old new stage stops.NoThread works = works
-own_view view old new stage stops.NoMemory works = works
+own_view view old new stage s works = works
 
 module _ (paired : Bool) (is : paired ≡ true) (old new : Counts) (stage : Result (Verdict Ending) (Refusal Cause)) where
   pub stopped_as : {X : Type 0} (view : X → Verdict Ending) (s : Stop Cause) → Works view true old new (Err s) stage →
@@ -52,7 +43,7 @@ module _ (paired : Bool) (is : paired ≡ true) (old new : Counts) (stage : Resu
 
   pub worked_as : {X : Type 0} (view : X → Verdict Ending) (x : X) → Works {C = Cause} view true old new (Ok x) stage →
       Works {C = Cause} (λ (v : Verdict Ending). v) paired old new (Ok (view x)) stage
-  worked_as view x works = subst (λ (b : Bool). Works {C = Cause} (λ (v : Verdict Ending). v) b old new (Ok (view x)) stage) (sym is) works
+  worked_as view x works = rw is works
 
 -- ---- a command without a pair
 

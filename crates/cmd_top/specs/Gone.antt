@@ -1,12 +1,12 @@
 -- The theorems of sessions and of listings: what stands when `resume` and `follow` have ended as they were asked.
-use Rattle.std.specs.Prelude.{◌≡◌, ⊤, ℕ, List, ◌++◌, Option, Some, None, Result, Ok, codes}
+use Rattle.std.specs.Prelude.{◌≡◌, ⊤, ℕ, List, ◌++◌, Option, Some, Result, Ok, codes}
 use Rattle.beeb_bits.specs.declared.Side.{Side}
 use Rattle.beeb_bits.specs.declared.Side.TheVariants.{Host, Para}
 use Rattle.op_table.specs.declared.names.Part.{Part}
 use Rattle.op_table.specs.declared.names.Part.TheVariants.{Nmos, Cmos}
 use Rattle.beeb_files.specs.Files.{put, say}
 use Rattle.cmd_words.specs.declared.keys.Slot.{Slot}
-use Rattle.cmd_words.specs.Command.{Command, check, asm, dis, replay, solo, run, resume, follow, gen, ticks_of}
+use Rattle.cmd_words.specs.Command.{Command, resume, follow, ticks_of}
 use Rattle.cmd_words.specs.Given.{Values, clock_of, save_of}
 use Rattle.cmd_words.specs.Reads.{reads}
 use Rattle.cmd_stages.specs.Plan as plans
@@ -72,16 +72,9 @@ pub record IsListed {S : Type 0} (c : Command) (made_of : Inputs → Result (Lis
       old.outlet.said
 
 unfoldable pub Gone : List Plug → Option Command → World → World → Type 0
-Gone plugs None old new = ⊤
-Gone plugs (Some (check trace)) old new = ⊤
-Gone plugs (Some (asm part source out)) old new = ⊤
-Gone plugs (Some (dis part image origin out)) old new = ⊤
-Gone plugs (Some (replay side trace ticks out given)) old new = ⊤
-Gone plugs (Some (solo ticks out keep given)) old new = ⊤
-Gone plugs (Some (run ticks out keep given)) old new = ⊤
 Gone plugs (Some (resume state ticks out keep given)) old new = IsResumed plugs (resume state ticks out keep given) keep out given old new
 Gone plugs (Some (follow Host trace ticks out given)) old new =
     IsListed (follow Host trace ticks out given) (host_of (setup_of given plugs)) host_moves host_sight Nmos Host (choice_of given) out old new
 Gone plugs (Some (follow Para trace ticks out given)) old new =
     IsListed (follow Para trace ticks out given) (para_of (clock_of given)) para_moves para_sight Cmos Para (choice_of given) out old new
-Gone plugs (Some (gen seed)) old new = ⊤
+Gone plugs c old new = ⊤

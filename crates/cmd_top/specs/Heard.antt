@@ -1,10 +1,10 @@
 -- The theorem of the sound file: what stands under the name that `--wav` gives when `solo`, `run`, `resume` or `replay host` has ended as it was asked.
 use Rattle.std.specs.Prelude.{◌≡◌, ⊤, ℕ, List, Option, Some, None, IfSome, Result, Ok}
 use Rattle.beeb_bits.specs.declared.clock.Clock.{Clock}
-use Rattle.beeb_bits.specs.declared.Side.TheVariants.{Host, Para}
+use Rattle.beeb_bits.specs.declared.Side.TheVariants.{Host}
 use Rattle.beeb_files.specs.Files.{Files, bytes_of}
 use Rattle.cmd_words.specs.declared.keys.Slot.{Slot}
-use Rattle.cmd_words.specs.Command.{Command, check, asm, dis, replay, solo, run, resume, follow, gen, ticks_of}
+use Rattle.cmd_words.specs.Command.{Command, replay, solo, run, resume, ticks_of}
 use Rattle.cmd_words.specs.Given.{Values, clock_of, save_of, wav_of}
 use Rattle.cmd_words.specs.Reads.{reads}
 use Rattle.cmd_stages.specs.Plan as plans
@@ -60,18 +60,12 @@ pub record IsHeard (c : Command) (given : Values) (host : Inputs → Result (Clo
 
 -- of each command that has a host, where the words ask for the sound file
 unfoldable pub Heard : List Plug → Option Command → World → World → Type 0
-Heard plugs None old new = ⊤
-Heard plugs (Some (check trace)) old new = ⊤
-Heard plugs (Some (asm part source out)) old new = ⊤
-Heard plugs (Some (dis part image origin out)) old new = ⊤
 Heard plugs (Some (replay Host trace ticks out given)) old new =
     IfSome (wav_of given) (IsHeard (replay Host trace ticks out given) given (replayed_host plugs ticks given) old new)
-Heard plugs (Some (replay Para trace ticks out given)) old new = ⊤
 Heard plugs (Some (solo ticks out keep given)) old new =
     IfSome (wav_of given) (IsHeard (solo ticks out keep given) given (reference_host plugs ticks given) old new)
 Heard plugs (Some (run ticks out keep given)) old new =
     IfSome (wav_of given) (IsHeard (run ticks out keep given) given (reference_host plugs ticks given) old new)
 Heard plugs (Some (resume state ticks out keep given)) old new =
     IfSome (wav_of given) (IsHeard (resume state ticks out keep given) given (session_host plugs ticks) old new)
-Heard plugs (Some (follow side trace ticks out given)) old new = ⊤
-Heard plugs (Some (gen seed)) old new = ⊤
+Heard plugs c old new = ⊤

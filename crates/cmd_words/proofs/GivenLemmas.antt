@@ -1,5 +1,5 @@
 -- Putting options in their places.
-use Rattle.std.proofs.Common.{◌≡◌, ◌∙◌, sym, refl, ap, ℕ, ◌+◌, ◌<◌, List, [], ◌∷◌, ◌++◌, map, drop, length, replicate, slice_index_or, slice_set}
+use Rattle.std.proofs.Common.{◌≡◌, ◌∙◌, sym, ap, ℕ, ◌+◌, ◌<◌, List, [], ◌++◌, map, drop, length, slice_index_or, slice_set}
 use Rattle.std.proofs.Common.{Option, Some, None, string_bytes, true, false, ◌≤◌, append_assoc, append-nil}
 use Rattle.std.specs.Option.{is_none, is_some, option_copied}
 use Rattle.std.specs.Borrow.{Bor}
@@ -12,21 +12,13 @@ use Rattle.cmd_words.proofs.KeyLemmas.{key_split, no_keys}
 use Rattle.std.proofs.lemmas.List.{drop_more, get_or-map, map-set}
 use Rattle.std.proofs.lemmas.Option.{slice_get-map, slice_get-get_or}
 use Rattle.std.proofs.Math.ListN.{length-map}
-use Rattle.std.specs.List.{slice_get}
 use Rattle.std.specs.declared.string.String.{String}
 use Rattle.std.specs.declared.alloc.Global.{Global}
-use Rattle.cmd_words.specs.Given.{Values, no_values, value_at, put_at}
+use Rattle.cmd_words.specs.Given.{Values, value_at, put_at}
 use Rattle.cmd_words.specs.View.{word_at, value_of}
 
 word_there : (words : List (String Global)) (at : ℕ) → at < length words → value_of words (Some at) ≡ Some (word_at words at)
-word_there words at h =
-    let there : value_of words (Some at) ≡ slice_get (map string_bytes words) at = sym (slice_get-map string_bytes words at) in
-    there ∙ slice_get-get_or (map string_bytes words) at [] (rw length-map h)
-
--- no option was given
-pub none_given : (words : List (String Global)) → map (value_of words) (replicate COUNT None) ≡ no_values
-unfolding no_values keys
-none_given words = refl
+word_there words at h = rw (← slice_get-map string_bytes words at) (slice_get-get_or (map string_bytes words) at [] (rw length-map h))
 
 -- the values, where one more word has a place
 pub places_set : (words : List (String Global)) (places : List (Option ℕ)) (place at : ℕ) → at < length words →
@@ -37,14 +29,13 @@ places_set words places place at h = map-set (value_of words) places place (Some
 pub put_empty : (taker : Taker) (words : List (String Global)) (places : List (Option ℕ)) (place at : ℕ) → at < length words →
     fits taker place (word_at words at) ≡ true → is_none (value_at (map (value_of words) places) place) ≡ true →
     Some (map (value_of words) (slice_set places place (Some at))) ≡ put_at taker (word_at words at) (map (value_of words) places) place
-put_empty taker words places place at h fit empty = rw (fit, empty, places_set words places place at h) refl
+put_empty taker words places place at h fit empty = rw (fit, empty, places_set words places place at h)
 
 -- the files from a key on
 pub files_more : (ws more : List (Slot × List ℕ × ℕ)) (i : ℕ) (values : Values) → i < COUNT → length values ≡ COUNT → more ≡ ws ++ file_of (key_at i).value (value_at values i) →
     more ++ files_of (drop (i + 1) keys) (drop (i + 1) values) ≡ ws ++ files_of (drop i keys) (drop i values)
 files_more ws more i values h len is =
-    let split : drop i values ≡ value_at values i ∷ drop (i + 1) values = drop_more values i None (rw len h) in
-    rw (is, append_assoc, key_split i h, split) refl
+    rw (is, append_assoc, key_split i h, drop_more values i None (rw len h))
 
 pub files_end : (ws : List (Slot × List ℕ × ℕ)) (i : ℕ) (values : Values) → COUNT ≤ i → ws ++ files_of (drop i keys) (drop i values) ≡ ws
 files_end ws i values h = rw (no_keys i h) (append-nil ws)
@@ -54,5 +45,5 @@ word_read words at d h = sym (get_or-map string_bytes words at d [] h)
 
 -- a value that is not there
 pub copied_none : (o : Option (Bor (List ℕ))) (v : Option (List ℕ)) → option_copied o ≡ v → is_some o ≡ false → is_none v ≡ true
-copied_none None v is none = rw (← is) refl
+copied_none None v is none = rw (← is)
 copied_none (Some word) v is none = cc

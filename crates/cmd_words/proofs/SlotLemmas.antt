@@ -3,9 +3,9 @@ use Rattle.std.proofs.Common.{refl, ℕ, ◌+◌, ◌≤◌, List, [], ◌∷◌
 use Rattle.std.proofs.lemmas.Bool.Decides.{nat_tests}
 use Rattle.std.specs.List.{filter_map, cons_option}
 use Rattle.cmd_words.specs.declared.keys.Slot.{Slot}
-use Rattle.cmd_words.specs.Keys.{Value, file, output, numeric, one_of, four_digits, Key, keys}
+use Rattle.cmd_words.specs.Keys.{Value, file, Key, keys}
 use Rattle.cmd_words.specs.Given.{Values}
-use Rattle.cmd_words.specs.Command.{Command, check, asm, dis, replay, solo, run, resume, follow, gen}
+use Rattle.cmd_words.specs.Command.{Command, replay, solo, run, follow}
 use Rattle.cmd_words.specs.Reads.{reads, file_of, files_of, rom_slot, rise_from, HaveRomSlots, IsLimited, IsWithin}
 
 -- numbers that rise from one number on rise from a smaller one on
@@ -16,10 +16,7 @@ from_below low high (n ∷ ns) le rises = grind (arith, nat_tests)
 -- the slot of the paged ROM that a key is of
 abbrev key_slot : Value → Option ℕ
 key_slot (file slot) = rom_slot slot
-key_slot output = None
-key_slot (numeric least most) = None
-key_slot (one_of words) = None
-key_slot four_digits = None
+key_slot value = None
 
 abbrev slots_of : List Key → List ℕ
 slots_of [] = []
@@ -28,11 +25,11 @@ slots_of (k ∷ ks) = cons_option (key_slot k.value) (slots_of ks)
 abbrev slots_read : List (Slot × List ℕ × ℕ) → List ℕ
 slots_read ws = filter_map rom_slot (map (λ w. w.0) ws)
 
-left_out : (low : ℕ) (o : Option ℕ) (ns : List ℕ) → IsTrue (rise_from low (cons_option o ns)) → IsTrue (rise_from low ns)
+pub left_out : (low : ℕ) (o : Option ℕ) (ns : List ℕ) → IsTrue (rise_from low (cons_option o ns)) → IsTrue (rise_from low ns)
 left_out low None ns rises = rises
 left_out low (Some n) ns rises = let le : low ≤ n + 1 = grind (arith, nat_tests) in from_below low (n + 1) ns le (grind (arith, nat_tests))
 
-taken : (low : ℕ) (o : Option ℕ) (ns ms : List ℕ) → ((from : ℕ) → IsTrue (rise_from from ns) → IsTrue (rise_from from ms)) →
+pub taken : (low : ℕ) (o : Option ℕ) (ns ms : List ℕ) → ((from : ℕ) → IsTrue (rise_from from ns) → IsTrue (rise_from from ms)) →
     IsTrue (rise_from low (cons_option o ns)) → IsTrue (rise_from low (cons_option o ms))
 taken low None ns ms more rises = more low rises
 taken low (Some n) ns ms more rises = let later = more (n + 1) (grind (arith, nat_tests)) in grind (arith, nat_tests)
@@ -42,10 +39,7 @@ file_rises : (value : Value) (v : Option (List ℕ)) (ns : List ℕ) (ws : List 
     IsTrue (rise_from low (cons_option (key_slot value) ns)) → IsTrue (rise_from low (slots_read (file_of value v ++ ws)))
 file_rises (file slot) (Some name) ns ws low more rises = taken low (rom_slot slot) ns (slots_read ws) more rises
 file_rises (file slot) None ns ws low more rises = more low (left_out low (rom_slot slot) ns rises)
-file_rises output v ns ws low more rises = more low rises
-file_rises (numeric least most) v ns ws low more rises = more low rises
-file_rises (one_of words) v ns ws low more rises = more low rises
-file_rises four_digits v ns ws low more rises = more low rises
+file_rises value v ns ws low more rises = more low rises
 
 files_rise : (ks : List Key) (vs : Values) (low : ℕ) → IsTrue (rise_from low (slots_of ks)) → IsTrue (rise_from low (slots_read (files_of ks vs)))
 files_rise [] vs low rises = refl
@@ -58,15 +52,11 @@ keys_rise = refl
 
 -- the paged ROMs that a command reads have different slots
 have_rom_slots : (c : Command) → HaveRomSlots (map (λ w. w.0) (reads c))
-have_rom_slots (check trace) = refl
-have_rom_slots (asm part source out) = refl
-have_rom_slots (dis part image origin out) = refl
 have_rom_slots (replay side trace ticks out given) = files_rise keys given 0 keys_rise
 have_rom_slots (solo ticks out keep given) = files_rise keys given 0 keys_rise
 have_rom_slots (run ticks out keep given) = files_rise keys given 0 keys_rise
-have_rom_slots (resume state ticks out keep given) = refl
 have_rom_slots (follow side trace ticks out given) = files_rise keys given 0 keys_rise
-have_rom_slots (gen seed) = refl
+have_rom_slots command = refl
 
 pub is_within : (c : Command) → IsLimited c → IsWithin c
 is_within c few = record { ticks = few.0; keep = few.1; roms = have_rom_slots c }

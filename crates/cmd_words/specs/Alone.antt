@@ -28,24 +28,15 @@ alone true (v ∷ ws) = alone false ws
 
 -- the two words that stand alone
 abbrev pub two : List (List ℕ) → Option (List ℕ × List ℕ)
-two [] = None
-two (a ∷ []) = None
 two (a ∷ b ∷ []) = Some (a, b)
-two (a ∷ b ∷ c ∷ ws) = None
+two words = None
 
 -- the three words that stand alone
 abbrev pub three : List (List ℕ) → Option (List ℕ × List ℕ × List ℕ)
-three [] = None
-three (a ∷ []) = None
-three (a ∷ b ∷ []) = None
 three (a ∷ b ∷ c ∷ []) = Some (a, b, c)
-three (a ∷ b ∷ c ∷ d ∷ ws) = None
+three words = None
 
 -- the four words that stand alone
 abbrev pub four : List (List ℕ) → Option (List ℕ × List ℕ × List ℕ × List ℕ)
-four [] = None
-four (a ∷ []) = None
-four (a ∷ b ∷ []) = None
-four (a ∷ b ∷ c ∷ []) = None
 four (a ∷ b ∷ c ∷ d ∷ []) = Some (a, b, c, d)
-four (a ∷ b ∷ c ∷ d ∷ e ∷ ws) = None
+four words = None

@@ -2,19 +2,15 @@
 use Rattle.std.specs.Prelude.{ℕ, ◌+◌, ◌≤◌, ◌&&◌, nat_le, nat_lt, Bool, true, IsTrue, List, [], ◌∷◌, ◌++◌, map, Option, Some, None}
 use Rattle.std.specs.List.{filter_map}
 use Rattle.cmd_words.specs.declared.keys.Slot.{Slot}
-use Rattle.cmd_words.specs.declared.keys.Slot.TheVariants.{Trace, Source, Image, State, Os, Tube, Rom, Font, Disc, Keys}
-use Rattle.cmd_words.specs.Keys.{Value, file, output, numeric, one_of, four_digits, Key, keys}
+use Rattle.cmd_words.specs.declared.keys.Slot.TheVariants.{Trace, Source, Image, State, Rom}
+use Rattle.cmd_words.specs.Keys.{Value, file, Key, keys}
 use Rattle.cmd_words.specs.Given.{Values}
 use Rattle.cmd_words.specs.Command.{Command, check, asm, dis, replay, solo, run, resume, follow, gen, ticks_of, keep_of}
 
 -- the file that an option gives
 abbrev pub file_of : Value → Option (List ℕ) → List (Slot × List ℕ × ℕ)
 file_of (file slot) (Some name) = (slot, name, 1048576) ∷ []
-file_of (file slot) None = []
-file_of output given = []
-file_of (numeric least most) given = []
-file_of (one_of words) given = []
-file_of four_digits given = []
+file_of value given = []
 
 -- the files that the options give, in the order of their keys
 abbrev pub files_of : List Key → Values → List (Slot × List ℕ × ℕ)
@@ -37,15 +33,7 @@ reads (gen seed) = []
 -- the number of a paged ROM's slot
 abbrev pub rom_slot : Slot → Option ℕ
 rom_slot (Rom number) = Some number
-rom_slot Trace = None
-rom_slot Source = None
-rom_slot Image = None
-rom_slot State = None
-rom_slot Os = None
-rom_slot Tube = None
-rom_slot Font = None
-rom_slot (Disc number) = None
-rom_slot Keys = None
+rom_slot slot = None
 
 -- the numbers that the words give are within their limits
 abbrev pub IsLimited : Command → Type 0

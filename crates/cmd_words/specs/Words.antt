@@ -15,9 +15,8 @@ use Rattle.digits.specs.Decimal.{decimal_number}
 
 -- the words after `check`: TRACE
 abbrev pub check_words : List (List ℕ) → Option Command
-check_words [] = None
 check_words (trace ∷ []) = if is_name trace then Some (check trace) else None
-check_words (trace ∷ more ∷ words) = None
+check_words words = None
 
 -- PART: `6502` or `65c02`
 abbrev pub part_of : List ℕ → Option Part
@@ -29,25 +28,17 @@ asm_with (Some part) source out = if is_name source && is_name out then Some (as
 
 -- the words after `asm`: PART SOURCE OUT
 abbrev pub asm_words : List (List ℕ) → Option Command
-asm_words [] = None
-asm_words (part ∷ []) = None
-asm_words (part ∷ source ∷ []) = None
 asm_words (part ∷ source ∷ out ∷ []) = asm_with (part_of part) source out
-asm_words (part ∷ source ∷ out ∷ more ∷ words) = None
+asm_words words = None
 
 abbrev pub dis_with : Option Part → List ℕ → Option ℕ → List ℕ → Option Command
-dis_with None image origin out = None
-dis_with (Some part) image None out = None
 dis_with (Some part) image (Some origin) out = if is_name image && is_name out then Some (dis part image origin out) else None
+dis_with part image origin out = None
 
 -- the words after `dis`: PART IMAGE ORIGIN OUT, where ORIGIN is four upper-case hexadecimal digits
 abbrev pub dis_words : List (List ℕ) → Option Command
-dis_words [] = None
-dis_words (part ∷ []) = None
-dis_words (part ∷ image ∷ []) = None
-dis_words (part ∷ image ∷ origin ∷ []) = None
 dis_words (part ∷ image ∷ origin ∷ out ∷ []) = dis_with (part_of part) image (address_of origin) out
-dis_words (part ∷ image ∷ origin ∷ out ∷ more ∷ words) = None
+dis_words words = None
 
 -- SIDE: `host` or `para`
 abbrev pub side_of : List ℕ → Option Side
@@ -137,9 +128,8 @@ resume_words words = option_and_then (resume_by words) (three (alone false words
 
 -- the words after `gen`: SEED, below 2^64
 abbrev pub gen_words : List (List ℕ) → Option Command
-gen_words [] = None
 gen_words (seed ∷ []) = option_map gen (decimal_number 18446744073709551615 seed)
-gen_words (seed ∷ more ∷ words) = None
+gen_words words = None
 
 -- the command that the words spell, if any
 unfoldable pub command : List (List ℕ) → Option Command

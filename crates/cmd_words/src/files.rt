@@ -53,6 +53,7 @@ fn with_option<'a>(
 }
 
 // These files, and those that the options give.
+#[tactic(auto, using(crate::proofs::GivenLemmas::files_more, crate::proofs::GivenLemmas::files_end))]
 fn with_options<'a>(files: Vec<Want<'a>>, given: Given<'a>) -> Result<Vec<Want<'a>>, AllocError>
     ensures { let more = files_of keys (seen_given given.entry) in
         IfOk result (λ v. map seen_want v.items ≡ map seen_want files.entry.items ++ more) }

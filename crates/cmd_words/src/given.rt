@@ -199,8 +199,8 @@ impl<'a> Given<'a> {
         }
     }
 
-    #[tactic(auto, using(crate::proofs::GivenLemmas::places_set))]
     // These options, and one more, at a place that is to be empty, whose value is the word `at`.
+    #[tactic(auto, using(crate::proofs::GivenLemmas::places_set, crate::proofs::GivenLemmas::word_read, crate::proofs::GivenLemmas::copied_none))]
     fn put_at(self, taker: Taker, place: usize, at: usize) -> Option<Given<'a>>
         requires place { place < COUNT }
         requires at { at < length self.words.now }

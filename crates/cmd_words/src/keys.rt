@@ -261,6 +261,7 @@ pub(crate) fn kind_of(place: usize) -> Value
 }
 
 /// The place of a key among all.
+#[tactic(auto, using(crate::proofs::KeyLemmas::key_split, crate::proofs::KeyLemmas::no_keys, crate::proofs::KeyLemmas::place_begin, crate::proofs::KeyLemmas::shifted))]
 pub(crate) fn place_of(word: &str) -> Option<usize>
     ensures place { result ≡ place_of word.now }
     ensures bound { IfSome result (λ i. i < COUNT) }

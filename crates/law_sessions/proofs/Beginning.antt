@@ -1,8 +1,7 @@
 -- What the words of `solo` and of `run` name is a run that begins.
-use Rattle.std.proofs.Common.{◌≡◌, ◌∙◌, sym, refl, ap, subst, ℕ, ◌≤◌, List, map, Bool, true, false, ◌&&◌, nat_le, IsTrue, Option, Some, None, Ok, arith, if◌then◌else◌}
+use Rattle.std.proofs.Common.{◌≡◌, refl, ℕ, ◌≤◌, List, map, Bool, ◌&&◌, nat_le, Option, Some, None, Ok, arith, if◌then◌else◌}
 use Rattle.std.specs.Prelude.{unwrap_or, codes}
 use Rattle.std.proofs.lemmas.Bool.Decides.{nat_tests}
-use Rattle.std.specs.List.{filter_map}
 use Rattle.bus_plug.specs.Plug.{Plug}
 use Rattle.digits.specs.Decimal.{is_decimal, decimal_value}
 use Rattle.host_mach.specs.State.{HostState}
@@ -10,28 +9,23 @@ use Rattle.para_mach.specs.State.{ParaState}
 use Rattle.cmd_words.specs.declared.keys.Slot.{Slot}
 use Rattle.cmd_words.specs.Keys.{keys}
 use Rattle.cmd_words.specs.Given.{Values, value_of, plugs_in}
-use Rattle.cmd_words.specs.Reads.{files_of, rom_slot, rise_from, HaveRomSlots}
+use Rattle.cmd_words.specs.Reads.{files_of, HaveRomSlots}
 use Rattle.cmd_stages.specs.Plan.{Want, Inputs, AreWithin}
 use Rattle.cmd_machines.specs.Inputs as inputs
 use Rattle.cmd_machines.specs.Setup.{setup_of}
 use Rattle.cmd_machines.specs.Machines.{machines_of}
-use Rattle.cmd_machines.proofs.ReadLemmas.{numbers_of, same_slots, numbers_read, AreCapped, all_short, files_capped}
+use Rattle.cmd_machines.proofs.ReadLemmas.{same_slots, numbers_read, AreCapped, all_short, files_capped}
 use Rattle.law_sessions.specs.OneRun.{Begins}
 use Rattle.law_sessions.specs.Words.{WordsBegin}
 
 -- ---- the number of devices
 
-by_test : (b : Bool) (n : ℕ) → (b ≡ true → n ≤ 8) → unwrap_or (if b then Some n else None) 0 ≤ 8
-by_test true n low = low refl
-by_test false n low = omega arith
-
-low_by : (b : Bool) (n : ℕ) → (b && nat_le n 8) ≡ true → n ≤ 8
-low_by true n is = grind (arith, nat_tests)
-low_by false n is = cc
-
 few_plugs : (value : Option (List ℕ)) → plugs_in value ≤ 8
 few_plugs None = omega arith
-few_plugs (Some word) = by_test (is_decimal word && nat_le (decimal_value word) 8) (decimal_value word) (λ is. low_by (is_decimal word) (decimal_value word) is)
+few_plugs (Some word) = by_value (is_decimal word) (decimal_value word)
+  where
+    by_value : (b : Bool) (n : ℕ) → unwrap_or (if b && nat_le n 8 then Some n else None) 0 ≤ 8
+    by_value b n = grind (arith, nat_tests)
 
 -- ---- a run that begins
 
@@ -40,13 +34,11 @@ begins : (given : Values) (ws : List (Want Slot)) → AreCapped ws → HaveRomSl
     Begins (setup_of given plugs) (inputs.inputs_of list) plugs m
 unfolding inputs.inputs_of
 begins given ws capped rise list plugs m fits made =
-    let numbers : numbers_of (inputs.inputs_of list).roms ≡ filter_map rom_slot (map (λ (w : Want Slot). w.0) ws) =
-    numbers_read list inputs.no_inputs ∙ ap (λ (slots : List Slot). filter_map rom_slot slots) (same_slots ws list fits) in
     record {
       made = made;
       number = few_plugs (value_of given (codes "--plugs"));
       plugged = refl;
-      roms = subst (λ (ns : List ℕ). IsTrue (rise_from 0 ns)) (sym numbers) rise;
+      roms = rw (numbers_read list inputs.no_inputs, same_slots ws list fits) rise;
       keys = all_short ws list inputs.no_inputs fits capped tt;
     }
 

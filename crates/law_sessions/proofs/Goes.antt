@@ -1,5 +1,5 @@
 -- A run that goes on from its session file.
-use Rattle.std.proofs.Common.{◌≡◌, ◌∙◌, refl, ap, ℕ, ◌≤◌, min, nat_le, List, length, take, None, option_map, Ok, arith}
+use Rattle.std.proofs.Common.{◌≡◌, ◌∙◌, refl, ap, ℕ, min, nat_le, List, length, take, None, option_map, Ok, arith}
 use Rattle.bus_plug.specs.Plug.{Plug}
 use Rattle.tube_trace.specs.FirstWrong.{wrong}
 use Rattle.tube_party.specs.Reference.{reference}
@@ -14,8 +14,8 @@ use Rattle.cmd_status.specs.declared.status.Ending.{Ending}
 use Rattle.cmd_status.specs.declared.status.Ending.TheVariants.{Done}
 use Rattle.cmd_outcome.specs.Names.{Names}
 use Rattle.cmd_outcome.specs.Verdicts.{machine_verdict}
-use Rattle.cmd_machines.specs.Inputs.{Inputs, inputs_of}
-use Rattle.cmd_machines.specs.Setup.{Setup, setup_of}
+use Rattle.cmd_machines.specs.Inputs.{Inputs}
+use Rattle.cmd_machines.specs.Setup.{Setup}
 use Rattle.cmd_machines.specs.Machines.{machines_of}
 use Rattle.cmd_machines.specs.Sessions.{begun, begun_if, setup_in, inputs_in}
 use Rattle.cmd_ended.specs.Save.{saved_tick, saved_of, below}
@@ -32,15 +32,12 @@ pub one_run : (set : Setup) (i : Inputs) (plugs : List Plug) (m : HostState × P
     begun_if names.save (setup_in s plugs) (inputs_in s) ≡ begun_if names.save set i → s.clock ≡ set.clock →
     session_after plugs ticks kept names j ≡ solo_after set ticks kept names i
 unfolding session_after session_ended solo_after
-one_run set i plugs m s ticks kept names j read again made right agree begins clock = rw (read, again, made, right, agree, begins, clock) refl
+one_run set i plugs m s ticks kept names j read again made right agree begins clock = rw (read, again, made, right, agree, begins, clock)
 
 ends : (set : Setup) (i : Inputs) (m : HostState × ParaState) (ticks kept : ℕ) (names : Names) → machines_of set i ≡ Ok m →
     (v : Verdict Ending) × (solo_after set ticks kept names i ≡ Ok v) × (v.ending ≡ Done)
 unfolding solo_after kept_verdict machine_verdict
-ends set i m ticks kept names made = (kept_verdict set.clock (begun_if names.save set i) ticks kept names (reference host_moves para_moves m.0 m.1 ticks), rw made refl, refl)
-
-least : (a b : ℕ) → min a b ≤ a
-least a b = omega arith
+ends set i m ticks kept names made = (kept_verdict set.clock (begun_if names.save set i) ticks kept names (reference host_moves para_moves m.0 m.1 ticks), rw made, refl)
 
 module _ (again : MachinesAreMadeAgain) (reads : SavedRunIsRead) (resumes : SavedRunIsResumed host_moves para_moves) where
   pub goes_on : SavedRunIsOneRun
@@ -52,7 +49,7 @@ module _ (again : MachinesAreMadeAgain) (reads : SavedRunIsRead) (resumes : Save
       let made = again set i plugs t (below t (take keep (accesses_of m n))) there.plugged there.roms in
       let read : state_of j.state ≡ Ok s = ap state_of is ∙ (reads set i plugs m n keep there most few).1 in
       let same : session_after plugs ticks kept names j ≡ solo_after set ticks kept names i =
-      one_run set i plugs m s ticks kept names j read (made.0 ∙ there.made) there.made (none_wrong t s.entries law.1.legal) (law.1.agree (min t ticks) (least t ticks))
+      one_run set i plugs m s ticks kept names j read (made.0 ∙ there.made) there.made (none_wrong t s.entries law.1.legal) (law.1.agree (min t ticks) (omega arith))
       (ap (λ (b : Session). option_map (λ (name : List ℕ). b) names.save) made.1) refl in
       let end = ends set i m ticks kept names there.made in
       (same, (end.0, same ∙ end.1, end.2))
@@ -62,8 +59,6 @@ module _ (again : MachinesAreMadeAgain) (reads : SavedRunIsRead) (resumes : Save
 module _ (begin : WordsBegin) (one : SavedRunIsOneRun) where
   pub words_on : WordsGoOn
   words_on = record {
-    solo = λ ticks out keep given within list plugs m fits made.
-        one (setup_of given plugs) (inputs_of list) plugs m ticks keep (begin.solo ticks out keep given within list plugs m fits made) within.ticks within.keep;
-    run = λ ticks out keep given within list plugs m fits made.
-        one (setup_of given plugs) (inputs_of list) plugs m ticks keep (begin.run ticks out keep given within list plugs m fits made) within.ticks within.keep;
+    solo = λ ticks out keep given within list plugs m fits made. one _ _ plugs m ticks keep (begin.solo ticks out keep given within list plugs m fits made) within.ticks within.keep;
+    run = λ ticks out keep given within list plugs m fits made. one _ _ plugs m ticks keep (begin.run ticks out keep given within list plugs m fits made) within.ticks within.keep;
   }

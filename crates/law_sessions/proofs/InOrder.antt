@@ -1,19 +1,16 @@
 -- The status of a command is that of the first of its causes that holds.
-use Rattle.std.proofs.Common.{◌≡◌, ◌∙◌, sym, refl, ap, append-nil, ℕ, ◌+◌, nat_lt, Bool, true, false, List, [], ◌∷◌, ◌++◌, map, length, Option, Some, None, Result, Ok, Err, Contains, arith, inl, inr, ◌⊎◌, if◌then◌else◌}
+use Rattle.std.proofs.Common.{◌≡◌, ◌∙◌, sym, refl, ap, append-nil, ℕ, ◌+◌, nat_lt, Bool, true, false, List, [], ◌∷◌, ◌++◌, map, length, Option, Some, None, Result, Ok, Err, Contains, inl, inr, ◌⊎◌, if◌then◌else◌}
 use Rattle.std.specs.Prelude.{unwrap_or, IsSomeAnd}
 use Rattle.beeb_bits.specs.declared.clock.Clock.{Clock}
 use Rattle.beeb_bits.specs.declared.Side.{Side}
 use Rattle.beeb_bits.specs.declared.Side.TheVariants.{Host, Para}
 use Rattle.beeb_files.specs.Files.{Files, bytes_of}
 use Rattle.beeb_files.specs.Counts.{Rose, Stayed}
-use Rattle.beeb_files.specs.Crew.{Counts}
 use Rattle.asm65.specs.declared.AsmError.{AsmError}
 use Rattle.asm65.specs.declared.AsmError.TheVariants as asm_errors
 use Rattle.asm65.specs.Source.{Program, source}
 use Rattle.dis65.specs.Listing.{decode}
 use Rattle.bus_plug.specs.Plug.{Plug}
-use Rattle.disc_image.specs.Image.{Image}
-use Rattle.rom_set.specs.Roms.{Roms}
 use Rattle.key_script.specs.declared.Event.{Event}
 use Rattle.key_script.specs.declared.ScriptError.{ScriptError}
 use Rattle.key_script.specs.declared.ScriptError.TheVariants as script_errors
@@ -25,10 +22,9 @@ use Rattle.tube_trace.specs.declared.TraceError.TheVariants as trace_errors
 use Rattle.tube_trace.specs.Trace.{trace}
 use Rattle.tube_trace.specs.FirstWrong.{wrong}
 use Rattle.tube_party.specs.declared.Doing.{Doing}
-use Rattle.tube_party.specs.Replay.{Ended, replay_of}
 use Rattle.tube_party.specs.Reference.{reference}
 use Rattle.follow.specs.Machines.{host_sight, para_sight}
-use Rattle.follow.specs.Listing.{ListingState, replay_listing}
+use Rattle.follow.specs.Listing.{replay_listing}
 use Rattle.host_mach.specs.State as host
 use Rattle.host_mach.specs.Step.{host_moves}
 use Rattle.para_mach.specs.State as para
@@ -46,7 +42,8 @@ use Rattle.cmd_stages.specs.declared.stop.Refusal.{Refusal}
 use Rattle.cmd_stages.specs.declared.stop.Refusal.TheVariants as refusals
 use Rattle.cmd_stages.specs.Plan as plans
 use Rattle.cmd_stages.specs.Plan.{Verdict, Want, Plan, read_all, within, verdict, or_stop, or_refusal, ComesTo, ◌>>=◌}
-use Rattle.cmd_stages.specs.Promise.{World, CarriesOut, EndsAs, IsReached, HasNoThread, HasCrewStayed, read_names, names, ending_of}
+use Rattle.cmd_stages.specs.Promise.{World, CarriesOut, EndsAs, IsReached, read_names, names, ending_of}
+use Rattle.cmd_stages.proofs.EndLemmas.{rose_not_stayed, thread_not_stayed}
 use Rattle.cmd_status.specs.declared.status.Status.{Status}
 use Rattle.cmd_status.specs.declared.status.Status.TheVariants.{Done, Usage, ReadFault, TooLong, BadImage, BadScript, BadTrace, BadSource, BadState, WriteFault, NoThread, NoMemory, Wrong, Differs}
 use Rattle.cmd_status.specs.declared.status.Ending.{Ending}
@@ -57,11 +54,9 @@ use Rattle.cmd_status.specs.declared.status.Which.TheVariants as places
 use Rattle.cmd_status.specs.Status.{number, end_of}
 use Rattle.cmd_machines.specs.Inputs.{Inputs, inputs_of}
 use Rattle.cmd_machines.specs.Setup.{Setup, setup_of}
-use Rattle.cmd_machines.specs.Machines.{machines_of, rom_of}
-use Rattle.cmd_machines.specs.Roms.{roms_of}
-use Rattle.cmd_machines.specs.Discs.{discs_of}
+use Rattle.cmd_machines.specs.Machines.{machines_of}
 use Rattle.cmd_machines.specs.Script.{script_refusal, script_of}
-use Rattle.cmd_machines.specs.Lengths.{Sized, host_images, para_images, both_images, first_misfit, unless_caused, if_fit, disc_in, roms_in, LengthsComeFirst}
+use Rattle.cmd_machines.specs.Lengths.{Sized, host_images, para_images, both_images, first_misfit, unless_caused, if_fit, LengthsComeFirst}
 use Rattle.cmd_machines.specs.Sessions.{begun_if, setup_in, inputs_in}
 use Rattle.cmd_outcome.specs.Names.{Names, names_of}
 use Rattle.cmd_outcome.specs.Trace.{refusal_of, trace_of, is_same, if_same, entries_of}
@@ -71,16 +66,16 @@ use Rattle.cmd_replayed.specs.Made as machines
 use Rattle.cmd_replayed.specs.Made.{host_of, para_of}
 use Rattle.cmd_replayed.specs.Replay.{verdict_of_place, unless_wrong}
 use Rattle.cmd_replay.specs.Replay.{side_count, replayed, replay_after}
-use Rattle.cmd_follow.specs.Follow.{listed_verdict, listed_by, listed_ended, follow_after}
+use Rattle.cmd_follow.specs.Follow.{listed_verdict, listed_by, follow_after}
 use Rattle.cmd_pair.specs.Solo.{solo_after}
-use Rattle.cmd_session.specs.Session.{state_of, state_refusal, place_of, session_ended, session_after}
+use Rattle.cmd_session.specs.Session.{state_of, state_refusal, session_ended, session_after}
 use Rattle.cmd_tools.specs.Asm as tools
-use Rattle.cmd_tools.specs.Check.{check_after, ok_text}
+use Rattle.cmd_tools.specs.Check.{check_after}
 use Rattle.cmd_tools.specs.Check as tools_check
 use Rattle.follow.specs.declared.Choice.{Choice}
 use Rattle.cmd_top.specs.Plans.{plan, after, choice_of}
 use Rattle.cmd_top.specs.Commands.{EndsWith}
-use Rattle.law_sessions.specs.Refusals.{first_of, unread_by, unread, misfit, bad_trace, other_clock, bad_script_by, bad_script, bad_state, bad_source, wrong_by, differs_at, held, entries_in, entries_at, events_by, events_in, host_at, trace_causes, entry_causes, replay_causes, pair_causes, session_causes, read_causes, causes, IsAnswer, NoFault, ComesToWriting, RefusesInOrder, RefusalsInOrder}
+use Rattle.law_sessions.specs.Refusals.{first_of, unread_by, unread, misfit, bad_trace, other_clock, bad_script_by, bad_script, bad_state, bad_source, wrong_by, differs_at, held, entries_in, entries_at, events_by, events_in, host_at, trace_causes, entry_causes, replay_causes, pair_causes, session_causes, read_causes, causes, NoFault, ComesToWriting, RefusesInOrder, RefusalsInOrder}
 
 -- a command that comes to this tells the first of these causes
 abbrev Tells : Result (Verdict Ending) (Stop Cause) → List (Option Status) → Type 0
@@ -141,8 +136,7 @@ module _ (clock : Clock) (g : List Entry → Result (Verdict Ending) (Refusal Ca
       Says ((or_refusal refusal_of t >>= if_same clock) >>= g) (bad_trace t ∷ other_clock clock t ∷ list)
   traced_by (Ok t) says = by_clock (is_same clock t.0) t.1 says
   traced_by (Err (trace_errors.BadLine line)) says = refl
-  traced_by (Err (trace_errors.BadOrder line)) says = refl
-  traced_by (Err trace_errors.NoMemory) says = refl
+  traced_by t says = refl
 
   para_trace : (bytes : List ℕ) → Says (g (entries_at true bytes)) list → Says (entries_of clock bytes >>= g) (trace_causes true clock bytes ++ list)
   unfolding entries_of trace_of
@@ -154,15 +148,13 @@ module _ (clock : Clock) (g : List Entry → Result (Verdict Ending) (Refusal Ca
   host_trace false [] says = says
   host_trace false (b ∷ bytes) says = refl
 
-module _ {A : Type 0} (f : List Event → Result A (Refusal Cause)) (g : A → Result (Verdict Ending) (Refusal Cause)) (list : List (Option Status)) where
-  scripted_by : (s : Result (List Event) ScriptError) → Says (f (events_by s) >>= g) list → Says ((or_refusal script_refusal s >>= f) >>= g) (bad_script_by s ∷ list)
+module _ (g : List Event → Result (Verdict Ending) (Refusal Cause)) (list : List (Option Status)) where
+  scripted_by : (s : Result (List Event) ScriptError) → Says (g (events_by s)) list → Says (or_refusal script_refusal s >>= g) (bad_script_by s ∷ list)
   scripted_by (Ok events) says = says
   scripted_by (Err (script_errors.BadLine line)) says = refl
-  scripted_by (Err (script_errors.BadOrder line)) says = refl
-  scripted_by (Err (script_errors.TooManyShots line)) says = refl
-  scripted_by (Err script_errors.NoMemory) says = refl
+  scripted_by s says = refl
 
-  scripted : (keys : Option (List ℕ)) → Says (f (events_in keys) >>= g) list → Says ((script_of keys >>= f) >>= g) (bad_script keys ∷ list)
+  scripted : (keys : Option (List ℕ)) → Says (g (events_in keys)) list → Says (script_of keys >>= g) (bad_script keys ∷ list)
   unfolding script_of
   scripted None says = says
   scripted (Some text) says = scripted_by (script text) says
@@ -173,25 +165,14 @@ ends_by : {S : Type 0} (w : Option (ℕ × ℕ)) (place : Option (ℕ × Option 
     Says (Ok (unless_wrong w (verdict_of_place done s place))) (wrong_by w ∷ differs_at place ∷ [])
 ends_by (Some w) place done s is = refl
 ends_by None (Some place) done s is = refl
-ends_by None None done s is = rw is refl
+ends_by None None done s is = rw is
 
 -- ---- a host against a trace
-
--- what follows two parts, and then one more
-bound_both : {A B C D : Type 0} (a : Result A (Refusal Cause)) (b : Result B (Refusal Cause)) (f : A → B → Result C (Refusal Cause)) (g : C → Result D (Refusal Cause)) →
-    ((a >>= λ x. b >>= f x) >>= g) ≡ (a >>= λ x. b >>= λ y. f x y >>= g)
-bound_both (Err e) b f g = refl
-bound_both (Ok x) (Err e) f g = refl
-bound_both (Ok x) (Ok y) f g = refl
 
 bound : {A B C : Type 0} (r : Result A (Refusal Cause)) (f : A → Result B (Refusal Cause)) (g : B → Result C (Refusal Cause)) →
     ((r >>= f) >>= g) ≡ (r >>= λ x. f x >>= g)
 bound (Ok x) f g = refl
 bound (Err e) f g = refl
-
--- what a command says does not depend on how it is put
-put : (r q : Result (Verdict Ending) (Refusal Cause)) (list : List (Option Status)) → r ≡ q → Says q list → Says r list
-put r q list same says = rw same says
 
 module _ (lengths : LengthsComeFirst) where
   -- the host against its entries, whatever comes of them
@@ -201,27 +182,10 @@ module _ (lengths : LengthsComeFirst) where
       (map misfit (host_images set.kinds i) ++ (trace_causes set.tube set.clock i.trace ++ bad_script i.keys ∷ entry_causes (entries_at set.tube i.trace) place))
   unfolding host_of
   host_told set i place g says =
-      let made : Roms → Option Image × Option Image → List Event → host.HostState =
-      λ roms discs events. host.with_tube set.tube (host.power_on set.clock roms discs.0 discs.1 events set.plugs) in
-      let from_script : Roms → Option Image × Option Image → List Entry → Result (List Entry × host.HostState) (Refusal Cause) =
-      λ roms discs entries. script_of i.keys >>= λ events. Ok (entries, made roms discs events) in
-      let from_trace : Roms → Option Image × Option Image → Result (List Entry × host.HostState) (Refusal Cause) =
-      λ roms discs. machines.entries_at set.tube set.clock i.trace >>= from_script roms discs in
-      let roms : Roms = roms_in i in
-      let discs : Option Image × Option Image = (disc_in set.kinds.0 i.disc0, disc_in set.kinds.1 i.disc1) in
-      let entries : List Entry = entries_at set.tube i.trace in
-      let last : List (Option Status) = entry_causes entries place in
-      let script_told : Says (from_script roms discs entries >>= g) (bad_script i.keys ∷ last) =
-      scripted (λ events. Ok (entries, made roms discs events)) g last i.keys says in
-      let trace_told : Says (from_trace roms discs >>= g) (trace_causes set.tube set.clock i.trace ++ bad_script i.keys ∷ last) =
-      put (from_trace roms discs >>= g) (machines.entries_at set.tube set.clock i.trace >>= λ (es : List Entry). from_script roms discs es >>= g)
-      (trace_causes set.tube set.clock i.trace ++ bad_script i.keys ∷ last)
-      (bound (machines.entries_at set.tube set.clock i.trace) (from_script roms discs) g)
-      (host_trace set.clock (λ (es : List Entry). from_script roms discs es >>= g) (bad_script i.keys ∷ last) set.tube i.trace script_told) in
-      put (host_of set i >>= g) (if_fit (host_images set.kinds i) (from_trace roms discs >>= g))
-      (map misfit (host_images set.kinds i) ++ (trace_causes set.tube set.clock i.trace ++ bad_script i.keys ∷ last))
-      (bound_both (roms_of roms) (discs_of set.kinds i.disc0 i.disc1) from_trace g ∙ lengths.host set.kinds i (λ r d. from_trace r d >>= g))
-      (all_fit (from_trace roms discs >>= g) (trace_causes set.tube set.clock i.trace ++ bad_script i.keys ∷ last) (host_images set.kinds i) trace_told)
+      let last : List (Option Status) = entry_causes (entries_at set.tube i.trace) place in
+      simp (bound, lengths.host)
+      (all_fit _ (trace_causes set.tube set.clock i.trace ++ bad_script i.keys ∷ last) (host_images set.kinds i)
+      (host_trace set.clock _ (bad_script i.keys ∷ last) set.tube i.trace (scripted _ last i.keys says)))
 
   -- the second processor against its entries
   para_told : (clock : Clock) (i : Inputs) (place : Option (ℕ × Option Doing)) (g : List Entry × para.ParaState → Result (Verdict Ending) (Refusal Cause)) →
@@ -229,80 +193,47 @@ module _ (lengths : LengthsComeFirst) where
       Says (para_of clock i >>= g) (map misfit (para_images i) ++ (trace_causes true clock i.trace ++ entry_causes (entries_at true i.trace) place))
   unfolding para_of
   para_told clock i place g says =
-      let from_trace : List ℕ → Result (List Entry × para.ParaState) (Refusal Cause) = λ rom. entries_of clock i.trace >>= λ entries. Ok (entries, para.power_on clock rom) in
       let last : List (Option Status) = entry_causes (entries_at true i.trace) place in
-      let trace_told : Says (from_trace i.tube >>= g) (trace_causes true clock i.trace ++ last) =
-      put (from_trace i.tube >>= g) (entries_of clock i.trace >>= λ (es : List Entry). g (es, para.power_on clock i.tube))
-      (trace_causes true clock i.trace ++ last)
-      (bound (entries_of clock i.trace) (λ (es : List Entry). Ok (es, para.power_on clock i.tube)) g)
-      (para_trace clock (λ (es : List Entry). g (es, para.power_on clock i.tube)) last i.trace says) in
-      put (para_of clock i >>= g) (if_fit (para_images i) (from_trace i.tube >>= g))
-      (map misfit (para_images i) ++ (trace_causes true clock i.trace ++ last))
-      (bound (rom_of i.tube) from_trace g ∙ lengths.para i (λ rom. from_trace rom >>= g))
-      (all_fit (from_trace i.tube >>= g) (trace_causes true clock i.trace ++ last) (para_images i) trace_told)
+      simp (bound, lengths.para) (all_fit _ (trace_causes true clock i.trace ++ last) (para_images i) (para_trace clock _ last i.trace says))
 
   -- both machines
   both_told : (set : Setup) (i : Inputs) (g : host.HostState × para.ParaState → Result (Verdict Ending) (Refusal Cause)) (list : List (Option Status)) →
       Says (g (host_at set i, para.power_on set.clock i.tube)) list →
       Says (machines_of set i >>= g) (map misfit (both_images set.kinds i) ++ bad_script i.keys ∷ list)
-  both_told set i g list says =
-      let discs : Option Image × Option Image = (disc_in set.kinds.0 i.disc0, disc_in set.kinds.1 i.disc1) in
-      let made : List Event → Result (host.HostState × para.ParaState) (Refusal Cause) =
-      λ events. Ok (host.power_on set.clock (roms_in i) discs.0 discs.1 events set.plugs, para.power_on set.clock i.tube) in
-      put (machines_of set i >>= g) (if_fit (both_images set.kinds i) ((script_of i.keys >>= made) >>= g))
-      (map misfit (both_images set.kinds i) ++ bad_script i.keys ∷ list)
-      (ap (λ r. r >>= g) (lengths.both set i) ∙ fit_bound (first_misfit (both_images set.kinds i)) (script_of i.keys >>= made) g)
-      (all_fit ((script_of i.keys >>= made) >>= g) (bad_script i.keys ∷ list) (both_images set.kinds i) (scripted made g list i.keys says))
+  both_told set i g list says = simp (lengths.both, fit_bound, bound) (all_fit _ (bad_script i.keys ∷ list) (both_images set.kinds i) (scripted _ list i.keys says))
 
   -- ---- each command, by what it read
 
   replay_told : (set : Setup) (side : Side) (ticks : ℕ) (names : Names) (i : Inputs) → Says (replay_after set side ticks names i) (replay_causes set side ticks i)
   unfolding replay_after replayed machine_verdict
   replay_told set Host ticks names i =
-      let entries : List Entry = entries_at set.tube i.trace in
-      let end : Ended host.HostState = replay_of host_moves Host entries ticks (host.with_tube set.tube (host_at set i)) in
-      host_told set i end.place (λ m. Ok (replayed host_moves Host ticks (λ tube. host_left set.clock ticks tube names) m))
-      (ends_by (wrong entries) end.place (λ e. machine_verdict (host_left set.clock ticks (side_count Host ticks entries) names e)) end.machine refl)
+      host_told set i _ _ (ends_by _ _ (λ s. machine_verdict (host_left set.clock ticks (side_count Host ticks (entries_at set.tube i.trace)) names s)) _ refl)
   replay_told set Para ticks names i =
-      let entries : List Entry = entries_at true i.trace in
-      let end : Ended para.ParaState = replay_of para_moves Para entries ticks (para.power_on set.clock i.tube) in
-      para_told set.clock i end.place (λ m. Ok (replayed para_moves Para ticks (λ tube. para_left set.clock ticks tube names) m))
-      (ends_by (wrong entries) end.place (λ e. machine_verdict (para_left set.clock ticks (side_count Para ticks entries) names e)) end.machine refl)
+      para_told set.clock i _ _ (ends_by _ _ (λ s. machine_verdict (para_left set.clock ticks (side_count Para ticks (entries_at true i.trace)) names s)) _ refl)
 
   follow_told : (set : Setup) (side : Side) (ticks : ℕ) (choice : Choice) (out : List ℕ) (i : Inputs) → Says (follow_after set side ticks choice out i) (replay_causes set side ticks i)
   unfolding follow_after listed_by
   follow_told set Host ticks choice out i =
-      let entries : List Entry = entries_at set.tube i.trace in
       let start : host.HostState = host.with_tube set.tube (host_at set i) in
-      host_told set i (replay_of host_moves Host entries ticks start).place (λ m. Ok (listed_ended host_moves host_sight Nmos Host ticks choice out m))
-      (ends_by (wrong entries) (replay_of host_moves Host entries ticks start).place (λ (l : ListingState). listed_verdict out l)
-      (replay_listing host_moves host_sight Nmos Host entries ticks choice start) refl)
+      host_told set i _ _ (ends_by _ _ (listed_verdict out) (replay_listing host_moves host_sight Nmos Host (entries_at set.tube i.trace) ticks choice start) refl)
   follow_told set Para ticks choice out i =
-      let entries : List Entry = entries_at true i.trace in
       let start : para.ParaState = para.power_on set.clock i.tube in
-      para_told set.clock i (replay_of para_moves Para entries ticks start).place (λ m. Ok (listed_ended para_moves para_sight Cmos Para ticks choice out m))
-      (ends_by (wrong entries) (replay_of para_moves Para entries ticks start).place (λ (l : ListingState). listed_verdict out l)
-      (replay_listing para_moves para_sight Cmos Para entries ticks choice start) refl)
+      para_told set.clock i _ _ (ends_by _ _ (listed_verdict out) (replay_listing para_moves para_sight Cmos Para (entries_at true i.trace) ticks choice start) refl)
 
   solo_told : (set : Setup) (ticks keep : ℕ) (names : Names) (i : Inputs) → Says (solo_after set ticks keep names i) (pair_causes set i)
   unfolding solo_after kept_verdict machine_verdict
-  solo_told set ticks keep names i =
-      both_told set i
-      (λ (m : host.HostState × para.ParaState). Ok (kept_verdict set.clock (begun_if names.save set i) ticks keep names (reference host_moves para_moves m.0 m.1 ticks))) [] refl
+  solo_told set ticks keep names i = both_told set i _ [] refl
 
   session_told_by : (plugs : List Plug) (ticks keep : ℕ) (names : Names) (f : Result Session StateError) →
       Says (or_refusal state_refusal f >>= λ s. machines_of (setup_in s plugs) (inputs_in s) >>= λ m. Ok (unless_wrong (wrong s.entries) (session_ended plugs ticks keep names s m)))
       (bad_state f ∷ session_causes plugs ticks f)
   unfolding session_ended kept_verdict machine_verdict setup_in
-  session_told_by plugs ticks keep names (Err (state_errors.BadField at)) = refl
-  session_told_by plugs ticks keep names (Err state_errors.NoMemory) = refl
   session_told_by plugs ticks keep names (Ok s) =
-      let m : host.HostState × para.ParaState = (host_at (setup_in s plugs) (inputs_in s), para.power_on s.clock (inputs_in s).tube) in
-      both_told (setup_in s plugs) (inputs_in s)
-      (λ (x : host.HostState × para.ParaState). Ok (unless_wrong (wrong s.entries) (session_ended plugs ticks keep names s x)))
-      (wrong_by (wrong s.entries) ∷ differs_at (place_of s ticks m) ∷ [])
-      (ends_by (wrong s.entries) (place_of s ticks m) (kept_verdict s.clock (begun_if names.save (setup_in s plugs) (inputs_in s)) ticks keep names)
-      (reference host_moves para_moves m.0 m.1 ticks) refl)
+      both_told (setup_in s plugs) (inputs_in s) _ _
+      (ends_by _ _ (kept_verdict s.clock (begun_if names.save (setup_in s plugs) (inputs_in s)) ticks keep names)
+      (reference host_moves para_moves (host_at (setup_in s plugs) (inputs_in s)) (para.power_on s.clock (inputs_in s).tube) ticks) refl)
+  session_told_by plugs ticks keep names (Err (state_errors.BadField at)) = refl
+  session_told_by plugs ticks keep names file = refl
 
   session_told : (plugs : List Plug) (ticks keep : ℕ) (names : Names) (i : Inputs) →
       Says (session_after plugs ticks keep names i) (bad_state (sessions.file i.state) ∷ session_causes plugs ticks (sessions.file i.state))
@@ -313,26 +244,20 @@ checked : (entries : List Entry) (w : Option (ℕ × ℕ)) → Says (Ok (tools_c
 checked entries None = refl
 checked entries (Some w) = refl
 
-check_told_by : (t : Result (Clock × List Entry) TraceError) → Says (or_refusal refusal_of t >>= λ x. Ok (tools_check.check_verdict x.1 (wrong x.1))) (bad_trace t ∷ wrong_by (wrong (entries_in t)) ∷ [])
-check_told_by (Err (trace_errors.BadLine line)) = refl
-check_told_by (Err (trace_errors.BadOrder line)) = refl
-check_told_by (Err trace_errors.NoMemory) = refl
+check_told_by : (t : Result (Clock × List Entry) TraceError) →
+    Says (or_refusal refusal_of t >>= λ x. Ok (tools_check.check_verdict x.1 (wrong x.1))) (bad_trace t ∷ wrong_by (wrong (entries_in t)) ∷ [])
 check_told_by (Ok t) = checked t.1 (wrong t.1)
+check_told_by (Err (trace_errors.BadLine line)) = refl
+check_told_by t = refl
 
 asm_told_by : (out : List ℕ) (p : Result Program AsmError) → Says (or_refusal tools.refusal_of p >>= λ x. Ok (file_verdict out x.1)) (bad_source p ∷ [])
-asm_told_by out (Ok p) = refl
 asm_told_by out (Err (asm_errors.Syntax line)) = refl
-asm_told_by out (Err (asm_errors.NoSuchForm line)) = refl
-asm_told_by out (Err (asm_errors.UnknownLabel line)) = refl
-asm_told_by out (Err (asm_errors.Repeated line)) = refl
-asm_told_by out (Err (asm_errors.OutOfRange line)) = refl
-asm_told_by out (Err (asm_errors.TooLong line)) = refl
-asm_told_by out (Err asm_errors.NoMemory) = refl
+asm_told_by out p = refl
 
 dis_told_by : (b : Bool) (v : Verdict Ending) (n : ℕ) → v.ending ≡ endings.Done →
     Says (if b then Err (refusals.Cause (causes_of.BadImage places.Image n)) else Ok v) ((if b then Some (BadImage places.Image n) else None) ∷ [])
 dis_told_by true v n done = refl
-dis_told_by false v n done = rw done refl
+dis_told_by false v n done = rw done
 
 -- what a command comes to by what it read
 read_told : LengthsComeFirst → (plugs : List Plug) (c : Command) (i : Inputs) → ((seed : ℕ) → Some c ≡ Some (gen seed) → ⊥) → Says (after plugs c i) (read_causes plugs c i)
@@ -374,20 +299,8 @@ status_by (Some (Err stops.NoThread)) = NoThread
 status_by (Some (Err stops.NoMemory)) = NoMemory
 
 back : (s : Status) → s ≡ status_by (end_of s)
-back Done = refl
-back Usage = refl
 back (ReadFault name) = refl
-back (TooLong name) = refl
-back (BadImage which len) = refl
-back (BadScript line kind) = refl
-back (BadTrace line kind) = refl
-back (BadSource line kind) = refl
-back (BadState at) = refl
-back (WriteFault name) = refl
-back NoThread = refl
-back NoMemory = refl
-back (Wrong line byte) = refl
-back (Differs line doing) = refl
+back s = refl
 
 same_end : (a b : Status) → end_of a ≡ end_of b → a ≡ b
 same_end a b is = back a ∙ ap status_by is ∙ sym (back b)
@@ -397,24 +310,7 @@ comes_to : (s : Status) (ending : Ending) → end_of s ≡ Some (Ok ending) → 
 comes_to Done ending is = inl refl
 comes_to (Wrong line byte) ending is = inr refl
 comes_to (Differs line doing) ending is = inr refl
-comes_to Usage ending is = cc
-comes_to (ReadFault name) ending is = cc
-comes_to (TooLong name) ending is = cc
-comes_to (BadImage which len) ending is = cc
-comes_to (BadScript line kind) ending is = cc
-comes_to (BadTrace line kind) ending is = cc
-comes_to (BadSource line kind) ending is = cc
-comes_to (BadState at) ending is = cc
-comes_to (WriteFault name) ending is = cc
-comes_to NoThread ending is = cc
-comes_to NoMemory ending is = cc
-
-rose_not_stayed : (before now : ℕ) → Rose before now → Stayed before now → ⊥
-rose_not_stayed before now rose stayed = omega arith
-
-thread_not_stayed : (paired : Bool) (before now : Counts) → HasNoThread paired before now → HasCrewStayed paired before now → ⊥
-thread_not_stayed true before now rose stayed = rose_not_stayed before.faults now.faults rose stayed
-thread_not_stayed false before now none stayed = none
+comes_to s ending is = cc
 
 -- both parts of what was read
 parts_read : (slot : Slot) (one : Result (List ℕ) (Stop Cause)) (more : Result (plans.Inputs Slot) (Stop Cause)) (inputs : plans.Inputs Slot) →
@@ -426,10 +322,10 @@ parts_read slot (Err stop) more inputs is = cc
 -- a file that is not there, behind files that were read
 stops_there : (files : Files) (front : List (Want Slot)) (w : Want Slot) (rest : List (Want Slot)) (inputs : plans.Inputs Slot) →
     read_all {C = Cause} files front ≡ Ok inputs → bytes_of files w.1 ≡ None → read_all {C = Cause} files (front ++ w ∷ rest) ≡ Err (stops.ReadFault w.1)
-stops_there files [] w rest inputs read gone = rw gone refl
+stops_there files [] w rest inputs read gone = rw gone
 stops_there files (x ∷ front) w rest inputs read gone =
     let got = parts_read x.0 (within x.1 x.2 (bytes_of files x.1)) (read_all files front) inputs read in
-    rw (got.2, stops_there files front w rest got.1 got.3 gone) refl
+    rw (got.2, stops_there files front w rest got.1 got.3 gone)
 
 -- no cause holds of files that were read
 none_unread : (files : Files) (front : List (Want Slot)) (inputs : plans.Inputs Slot) → read_all {C = Cause} files front ≡ Ok inputs → first_of (map (unread files) front) ≡ Done
@@ -511,24 +407,11 @@ module _ (lengths : LengthsComeFirst) (plugs : List Plug) (files : Files) (c : C
 no_words : (plugs : List Plug) (files : Files) (old new : World) (status : Status) → status ≡ Usage → RefusesInOrder plugs files None old new status
 no_words plugs files old new status is = record {
   first = λ none. inl is;
-  reading = λ name other. absurd (not_read status name is other);
-  starting = λ other. absurd (not_started status is other);
-  writing = λ name other. absurd (not_written status name is other);
+  reading = λ name other. cc;
+  starting = λ other. cc;
+  writing = λ name other. cc;
 }
-  where
-    not_read : (status : Status) (name : List ℕ) → status ≡ Usage → status ≡ ReadFault name → ⊥
-    not_read status name is other = cc
-
-    not_started : (status : Status) → status ≡ Usage → status ≡ NoThread → ⊥
-    not_started status is other = cc
-
-    not_written : (status : Status) (name : List ℕ) → status ≡ Usage → status ≡ WriteFault name → ⊥
-    not_written status name is other = cc
-
-in_order : LengthsComeFirst → (plugs : List Plug) (files : Files) (spelt : Option Command) (old new : World) (status : Status) → old.shelf.files ≡ Some files →
-    ((seed : ℕ) → spelt ≡ Some (gen seed) → ⊥) → IsAnswer plugs spelt old new status → RefusesInOrder plugs files spelt old new status
-in_order lengths plugs files None old new status told alone answer = no_words plugs files old new status (answer.usage.1 refl)
-in_order lengths plugs files (Some c) old new status told alone answer = carried_in_order lengths plugs files c old new told alone status answer.ran
 
 pub refusals_in_order : LengthsComeFirst → RefusalsInOrder
-refusals_in_order lengths plugs files spelt old new status told alone answer = in_order lengths plugs files spelt old new status told alone answer
+refusals_in_order lengths plugs files None old new status told alone answer = no_words plugs files old new status (answer.usage.1 refl)
+refusals_in_order lengths plugs files (Some c) old new status told alone answer = carried_in_order lengths plugs files c old new told alone status answer.ran

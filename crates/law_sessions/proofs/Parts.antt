@@ -1,28 +1,19 @@
 -- The parts of a session are what was read.
 use Rattle.std.proofs.Common.{◌≡◌, ◌∙◌, sym, refl, ap, subst, ℕ, zero, suc, ◌+◌, ◌<◌, ◌≤◌, ◌==◌, Bool, true, false, List, [], ◌∷◌, ◌++◌, map, IsTrue}
-use Rattle.std.proofs.Common.{Option, Some, None, Result, Ok, arith, append_assoc, append-nil}
+use Rattle.std.proofs.Common.{Option, Some, None, arith, append_assoc, append-nil}
 use Rattle.std.proofs.lemmas.Bool.Decides.{nat_tests}
 use Rattle.std.specs.List.{range_with_len}
 use Rattle.disc_image.specs.declared.Kind.{Kind}
 use Rattle.disc_image.specs.declared.Kind.TheVariants.{Ssd, Dsd}
-use Rattle.disc_image.specs.Image.{Image}
-use Rattle.bus_plug.specs.Plug.{Plug}
 use Rattle.rom_set.specs.Roms.{Rom}
 use Rattle.cmd_words.specs.declared.keys.Slot.{Slot}
 use Rattle.cmd_words.specs.declared.keys.Slot.TheVariants as slots
 use Rattle.cmd_words.specs.Reads.{rise_from}
-use Rattle.host_mach.specs.State as host
-use Rattle.para_mach.specs.State as para
-use Rattle.cmd_stages.specs.Plan.{◌>>=◌}
-use Rattle.cmd_stages.specs.declared.stop.Refusal.{Refusal}
-use Rattle.cmd_status.specs.declared.status.Cause.{Cause}
 use Rattle.save_state.specs.Saved.{Session}
 use Rattle.cmd_machines.specs.Inputs.{Inputs, no_inputs, with_input, with_inputs, inputs_of}
 use Rattle.cmd_machines.specs.Setup.{Setup, setup}
 use Rattle.cmd_machines.specs.Discs.{disc_of, discs_of}
-use Rattle.cmd_machines.specs.Roms.{roms_of}
-use Rattle.cmd_machines.specs.Script.{script_of}
-use Rattle.cmd_machines.specs.Machines.{rom_of, os_of, machines_of}
+use Rattle.cmd_machines.specs.Machines.{machines_of}
 use Rattle.cmd_machines.specs.Sessions.{part_slots, rom_of_slot, part_of, has_two_sides, begun, if_there, there, inputs_in, kind_by, setup_in}
 use Rattle.law_sessions.specs.OneRun.{MachinesAreMadeAgain}
 
@@ -58,17 +49,6 @@ module _ (i : Inputs) (more : List Slot) where
   abbrev with_roms : Inputs → List Rom → Inputs
   with_roms x roms = record x { roms = x.roms ++ roms }
 
-  abbrev behind_it : ℕ → ℕ → List (Slot × List ℕ)
-  behind_it low count = there (these (low + 1) count more) (map (part_of i) (these (low + 1) count more))
-
-  -- a slot without a ROM
-  empty : (low count : ℕ) (x y : Inputs) → rom_of_slot i.roms low ≡ None → Reads (low + 1) count x y → Reads low (suc count) x y
-  empty low count x y none go = ap (λ (p : Option (List ℕ)). with_inputs (if_there (slots.Rom low) p ++ behind_it low count) x) none ∙ go
-
-  -- a slot with a ROM
-  full : (low count : ℕ) (x y : Inputs) (bytes : List ℕ) → rom_of_slot i.roms low ≡ Some bytes → Reads (low + 1) count (with_input (slots.Rom low) bytes x) y → Reads low (suc count) x y
-  full low count x y bytes some go = ap (λ (p : Option (List ℕ)). with_inputs (if_there (slots.Rom low) p ++ behind_it low count) x) some ∙ go
-
   found : (low : ℕ) (r : Rom) (roms : List Rom) → Stand low (r ∷ roms) → r.slot ≡ low → rom_of_slot i.roms low ≡ Some r.bytes
   found low r roms stand is =
       let same : (r.slot == low) ≡ true = grind (arith, nat_tests) in
@@ -97,13 +77,13 @@ module _ (i : Inputs) (more : List Slot) where
   one_slot true count low r roms x is rises stand here later =
       let same : r.slot ≡ low = grind (arith, nat_tests) in
       let rest : RisesFrom (low + 1) roms = subst (λ (k : ℕ). RisesFrom (k + 1) roms) same (rest_rises low r roms rises) in
-      full low count x (with_roms x (r ∷ roms)) r.bytes (found low r roms stand same)
+      rw (found low r roms stand same)
       (subst (Reads (low + 1) count (with_input (slots.Rom low) r.bytes x)) (put low r roms x same) (here rest (behind low r roms stand same)))
   one_slot false count low r roms x is rises stand here later =
       let rest : RisesFrom (low + 1) (r ∷ roms) = grind (arith, nat_tests) in
       let least : low ≤ low = omega arith in
       let less : low < low + 1 = omega arith in
-      empty low count x (with_roms x (r ∷ roms)) (stand low least ∙ none_in low (low + 1) (r ∷ roms) less rest)
+      rw (stand low least ∙ none_in low (low + 1) (r ∷ roms) less rest)
       (later rest (λ n le. stand n (omega (arith, le))))
 
   read_roms : (count low : ℕ) (left : List Rom) (x : Inputs) → low + count ≡ 16 → RisesFrom low left → Stand low left → Reads low count x (with_roms x left)
@@ -111,7 +91,7 @@ module _ (i : Inputs) (more : List Slot) where
   read_roms zero low (r ∷ roms) x sum rises stand = absurd (grind (arith, nat_tests))
   read_roms (suc count) low [] x sum rises stand =
       let least : low ≤ low = omega arith in
-      empty low count x (with_roms x []) (stand low least)
+      rw (stand low least)
       (read_roms count (low + 1) [] x (omega (arith, sum)) refl (λ n le. stand n (omega (arith, le))))
   read_roms (suc count) low (r ∷ roms) x sum rises stand =
       one_slot (r.slot == low) count low r roms x refl rises stand
@@ -187,9 +167,7 @@ disc_kept drive Dsd (Some bytes) = refl
 discs_kept : (kinds : Kind × Kind) (disc0 disc1 : Option (List ℕ)) →
     discs_of (kind_by (has_two_sides kinds.0 disc0), kind_by (has_two_sides kinds.1 disc1)) disc0 disc1 ≡ discs_of kinds disc0 disc1
 unfolding discs_of
-discs_kept kinds disc0 disc1 =
-    ap (λ (a : Result (Option Image) (Refusal Cause)). a >>= λ d0. disc_of 1 (kind_by (has_two_sides kinds.1 disc1)) disc1 >>= λ d1. Ok (d0, d1)) (disc_kept 0 kinds.0 disc0)
-    ∙ ap (λ (b : Result (Option Image) (Refusal Cause)). disc_of 0 kinds.0 disc0 >>= λ d0. b >>= λ d1. Ok (d0, d1)) (disc_kept 1 kinds.1 disc1)
+discs_kept kinds disc0 disc1 = rw (disc_kept 0 kinds.0 disc0, disc_kept 1 kinds.1 disc1)
 
 sides_kept : (kind : Kind) (p : Option (List ℕ)) → has_two_sides (kind_by (has_two_sides kind p)) p ≡ has_two_sides kind p
 sides_kept kind None = refl
@@ -204,27 +182,18 @@ set_again set i = setup set.clock (kind_by (has_two_sides set.kinds.0 i.disc0), 
 
 machines_kept : (set : Setup) (i : Inputs) → machines_of (set_again set i) (files_of i) ≡ machines_of set i
 unfolding machines_of
-machines_kept set i =
-    ap (λ (r : Result (Option Image × Option Image) (Refusal Cause)).
-    os_of i.os
-    >>= λ os. rom_of i.tube
-    >>= λ rom. roms_of (record { os = os; slots = i.roms; font = i.font })
-    >>= λ roms. r
-    >>= λ discs. script_of i.keys
-    >>= λ script. Ok (host.power_on set.clock roms discs.0 discs.1 script set.plugs, para.power_on set.clock rom))
-    (discs_kept set.kinds i.disc0 i.disc1)
+machines_kept set i = rw (discs_kept set.kinds i.disc0 i.disc1)
 
 begun_kept : (set : Setup) (i : Inputs) → begun (set_again set i) (files_of i) ≡ begun set i
 unfolding begun part_slots
-begun_kept set i = rw (sides_kept set.kinds.0 i.disc0, sides_kept set.kinds.1 i.disc1) refl
+begun_kept set i = rw (sides_kept set.kinds.0 i.disc0, sides_kept set.kinds.1 i.disc1)
 
 pub made_again : MachinesAreMadeAgain
 unfolding begun setup_in inputs_in
 made_again set i plugs n list plugged roms =
     let s : Session = record (begun set i) { ticks = n; entries = list } in
-    let set_is : setup_in s plugs ≡ set_again set i =
-    ap (λ (ps : List Plug). setup set.clock (kind_by (has_two_sides set.kinds.0 i.disc0), kind_by (has_two_sides set.kinds.1 i.disc1)) set.number ps true) (sym plugged) in
+    let set_is : setup_in s plugs ≡ set_again set i = rw plugged in
     let files_are : inputs_in s ≡ files_of i = read_again i roms in (
-      ap (λ (a : Setup). machines_of a (inputs_in s)) set_is ∙ ap (machines_of (set_again set i)) files_are ∙ machines_kept set i,
+      rw (set_is, files_are) (machines_kept set i),
       ap (λ (a : Setup). begun a (inputs_in s)) set_is ∙ ap (begun (set_again set i)) files_are ∙ begun_kept set i,
     )

@@ -1,8 +1,7 @@
-use Rattle.std.proofs.Common.{refl, map, option_map}
+use Rattle.std.proofs.Common.{refl, option_map}
 use Rattle.save_state.specs.Saved.{session}
 use Rattle.host_mach.specs.View.{host_seen}
-use Rattle.cmd_outcome.specs.View.{names_seen, verdict_of}
-use Rattle.cmd_machines.specs.View.{seen_inputs, seen_setup}
+use Rattle.cmd_outcome.specs.View.{names_seen}
 use Rattle.cmd_session.proofs.SessionLemmas.{went_so, comes_so, accesses_are, session_gives}
 use Rattle.cmd_session.proofs.resumed.session_outcome.Goals as goal
 
@@ -17,16 +16,11 @@ bring_back-requires-clause-entries g c = accesses_are (session c.in_ok-saved.sav
 
 pub ended-requires-clause-went : goal.ended-requires-clause-went
 ended-requires-clause-went g c =
-    went_so g.D.BusDevice.plug (c.in_ok-saved.saved.clock) (option_map session c.in_ok-begun.begun) c.args.ticks c.args.keep (names_seen c.args.names)
-    (host_seen g.D.BusDevice.plug c.in_ok-begun.host) c.in_ok-begun.para c.deref-2.result.now (c.in_ok-saved.saved.ticks).0 c.in_ok-there.there c.in_ok-there.ensures
+    went_so g.D.BusDevice.plug c.in_ok-saved.saved.clock (option_map session c.in_ok-begun.begun) _ _ (names_seen c.args.names) _ _ _ _ c.in_ok-there.there c.in_ok-there.ensures
 
 pub returns : goal.returns
 returns g c =
-    session_gives (map g.D.BusDevice.plug c.args.plugs.items) c.args.ticks c.args.keep (names_seen c.args.names) (seen_inputs c.args.inputs) (seen_inputs c.in_ok-parts.parts)
-    c.deref.result.now (session c.in_ok-saved.saved) (seen_setup g.D.BusDevice.plug c.setup_in-setup.result)
-    (host_seen g.D.BusDevice.plug c.in_ok-begun.host, c.in_ok-begun.para) (option_map session c.in_ok-begun.begun) c.deref-2.result.now _
+    session_gives _ _ _ _ _ _ _ (session c.in_ok-saved.saved) _ (host_seen g.D.BusDevice.plug c.in_ok-begun.host, c.in_ok-begun.para) _ _ _
     c.deref.ensures.value c.in_ok-saved.ensures.told c.setup_in-setup.ensures (c.in_ok-parts.ensures.inputs (session c.in_ok-saved.saved) refl)
     c.in_ok-begun.ensures.machines c.in_ok-begun.ensures.begun c.deref-2.ensures.value
-    (comes_so g.D.BusDevice.plug (c.in_ok-saved.saved.clock) (option_map session c.in_ok-begun.begun) c.args.ticks c.args.keep (names_seen c.args.names)
-    (host_seen g.D.BusDevice.plug c.in_ok-begun.host) c.in_ok-begun.para c.deref-2.result.now (c.in_ok-saved.saved.ticks).0 c.in_ok-there.there _
-    c.in_ok-there.ensures c.in_ok-ended.ensures)
+    (comes_so g.D.BusDevice.plug _ _ _ _ _ _ _ _ _ c.in_ok-there.there _ c.in_ok-there.ensures c.in_ok-ended.ensures)

@@ -1,45 +1,22 @@
-use Rattle.std.proofs.Common.{map, string_bytes}
-use Rattle.cmd_words.specs.Words.{command}
 use Rattle.cmd_words.specs.View.{seen_command}
-use Rattle.cmd_stages.specs.Promise.{world}
 use Rattle.cmd_top.proofs.HeadlineLemmas.{headline_of}
 use Rattle.cmd_top.proofs.GoneLemmas.{gone_of}
 use Rattle.cmd_top.proofs.HeardLemmas.{heard_of}
 use Rattle.cmd_top.proofs.calls.top.Goals as goal
 
 pub returns-then-is_paired-clause-headline : goal.returns-then-is_paired-clause-headline
-returns-then-is_paired-clause-headline g c =
-    headline_of _ (seen_command c.in-Some.command) (command (map string_bytes c.args.words.now))
-    (world (g.S.Shelf.shelf c.args.shelf.now) (g.O.Outlet.outlet c.args.out.now) (g.C.Crew.counts c.args.crew.now))
-    (world (g.S.Shelf.shelf c.paired.new.shelf) (g.O.Outlet.outlet c.paired.new.out) (g.C.Crew.counts c.paired.new.crew))
-    c.status_of.result c.paired.result c.in-Some.ensures.command c.status_of.ensures c.paired.ensures
+returns-then-is_paired-clause-headline g c = headline_of _ (seen_command c.in-Some.command) c.in-Some.ensures.command c.status_of.ensures c.paired.ensures
 
 pub returns-then-is_paired-clause-sound : goal.returns-then-is_paired-clause-sound
-returns-then-is_paired-clause-sound g c =
-    heard_of _ (seen_command c.in-Some.command) (command (map string_bytes c.args.words.now))
-    (world (g.S.Shelf.shelf c.args.shelf.now) (g.O.Outlet.outlet c.args.out.now) (g.C.Crew.counts c.args.crew.now))
-    (world (g.S.Shelf.shelf c.paired.new.shelf) (g.O.Outlet.outlet c.paired.new.out) (g.C.Crew.counts c.paired.new.crew))
-    c.status_of.result c.paired.result c.in-Some.ensures.command c.status_of.ensures c.paired.ensures
+returns-then-is_paired-clause-sound g c = heard_of _ (seen_command c.in-Some.command) c.in-Some.ensures.command c.status_of.ensures c.paired.ensures
 
 pub returns-then-is_paired-clause-gone : goal.returns-then-is_paired-clause-gone
-returns-then-is_paired-clause-gone g c =
-    gone_of _ (seen_command c.in-Some.command) (command (map string_bytes c.args.words.now))
-    (world (g.S.Shelf.shelf c.args.shelf.now) (g.O.Outlet.outlet c.args.out.now) (g.C.Crew.counts c.args.crew.now))
-    (world (g.S.Shelf.shelf c.paired.new.shelf) (g.O.Outlet.outlet c.paired.new.out) (g.C.Crew.counts c.paired.new.crew))
-    c.status_of.result c.paired.result c.in-Some.ensures.command c.status_of.ensures c.paired.ensures
+returns-then-is_paired-clause-gone g c = gone_of _ (seen_command c.in-Some.command) c.in-Some.ensures.command c.status_of.ensures c.paired.ensures
 
 pub returns-else-is_paired-clause-sound : goal.returns-else-is_paired-clause-sound
 returns-else-is_paired-clause-sound g c =
-    heard_of _ (seen_command c.in-Some.command) (command (map string_bytes c.args.words.now))
-    (world (g.S.Shelf.shelf c.args.shelf.now) (g.O.Outlet.outlet c.args.out.now) (g.C.Crew.counts c.args.crew.now))
-    (world (g.S.Shelf.shelf c.single.new.shelf) (g.O.Outlet.outlet c.single.new.out) (g.C.Crew.counts c.args.crew.now))
-    c.status_of-else-is_paired.result c.single.result c.in-Some.ensures.command c.status_of-else-is_paired.ensures
-    (c.single.ensures (g.C.Crew.counts c.args.crew.now))
+    heard_of _ (seen_command c.in-Some.command) c.in-Some.ensures.command c.status_of-else-is_paired.ensures (c.single.ensures (g.C.Crew.counts c.args.crew.now))
 
 pub returns-else-is_paired-clause-gone : goal.returns-else-is_paired-clause-gone
 returns-else-is_paired-clause-gone g c =
-    gone_of _ (seen_command c.in-Some.command) (command (map string_bytes c.args.words.now))
-    (world (g.S.Shelf.shelf c.args.shelf.now) (g.O.Outlet.outlet c.args.out.now) (g.C.Crew.counts c.args.crew.now))
-    (world (g.S.Shelf.shelf c.single.new.shelf) (g.O.Outlet.outlet c.single.new.out) (g.C.Crew.counts c.args.crew.now))
-    c.status_of-else-is_paired.result c.single.result c.in-Some.ensures.command c.status_of-else-is_paired.ensures
-    (c.single.ensures (g.C.Crew.counts c.args.crew.now))
+    gone_of _ (seen_command c.in-Some.command) c.in-Some.ensures.command c.status_of-else-is_paired.ensures (c.single.ensures (g.C.Crew.counts c.args.crew.now))
