@@ -39,27 +39,27 @@ hosts = record { replay_host = true; replay_para = false; solo = true; run = tru
 
 -- the commands that have such a second processor
 abbrev pub paras : Takers
-paras = record hosts { replay_host = false; replay_para = true; follow_host = false; follow_para = true }
+paras = record { replay_host = false; replay_para = true; solo = true; run = true; resume = false; follow_host = false; follow_para = true }
 
 -- the commands that have one of both
 abbrev pub machines : Takers
-machines = record hosts { replay_para = true; follow_para = true }
-
--- the commands that leave a host
-abbrev pub heard : Takers
-heard = record hosts { resume = true; follow_host = false }
+machines = record { replay_host = true; replay_para = true; solo = true; run = true; resume = false; follow_host = true; follow_para = true }
 
 -- the commands that run both machines, of what the words give or of a session file
 abbrev pub runs : Takers
-runs = record heard { replay_host = false }
+runs = record { replay_host = false; replay_para = false; solo = true; run = true; resume = true; follow_host = false; follow_para = false }
+
+-- the commands that leave a host
+abbrev pub heard : Takers
+heard = record { replay_host = true; replay_para = false; solo = true; run = true; resume = true; follow_host = false; follow_para = false }
 
 -- the commands that list instructions
 abbrev pub lists : Takers
-lists = record machines { replay_host = false; replay_para = false; solo = false; run = false }
+lists = record { replay_host = false; replay_para = false; solo = false; run = false; resume = false; follow_host = true; follow_para = true }
 
 -- the commands that run a host alone
 abbrev pub host_alone : Takers
-host_alone = record hosts { solo = false; run = false }
+host_alone = record { replay_host = true; replay_para = false; solo = false; run = false; resume = false; follow_host = true; follow_para = false }
 
 -- The keys. Those of files stand in the order in which the files are read.
 unfoldable pub keys : List Key
@@ -99,7 +99,7 @@ keys =
 
 -- no command
 abbrev pub no_takers : Takers
-no_takers = record lists { follow_host = false; follow_para = false }
+no_takers = record { replay_host = false; replay_para = false; solo = false; run = false; resume = false; follow_host = false; follow_para = false }
 
 -- what stands past the last key
 abbrev pub no_key : Key
