@@ -1,6 +1,7 @@
 //! Sums, differences, comparisons and shifts.
 ghost use Rattle.std.specs.Prelude.{◌≡◌, ◌<◌, pos, negsuc, ◌≤ℤ◌, ◌<ℤ◌};
-ghost use Rattle.cpu_alu.specs.Arithmetic.{bit_7, carry, low_byte, low_bits, low_sum, difference, low_difference, nmos_low_digit, nmos_difference, cmos_difference, of_value, adc_binary, adc_decimal, sbc_decimal, adc, sbc, compare, shift_left, shift_right, asl, lsr, rol, ror};
+ghost use Rattle.cpu_alu.specs.Arithmetic.{bit_7, carry, low_byte, low_bits, low_sum, difference, low_difference, nmos_low_digit, nmos_difference, cmos_difference, of_value};
+ghost use Rattle.cpu_alu.specs.Arithmetic.{adc_binary, adc_decimal, sbc_decimal, adc, sbc, compare, shift_left, shift_right, asl, lsr, rol, ror};
 
 use crate::Sum;
 use op_table::Part;

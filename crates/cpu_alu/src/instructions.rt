@@ -1,6 +1,7 @@
 //! What each instruction makes of the registers, and what it writes.
 ghost use Rattle.std.specs.Prelude.{◌≡◌};
-ghost use Rattle.cpu_alu.specs.Instructions.{stored_value, pushed_value, takes_branch, is_decimal, with_a, with_x, with_y, with_sum, after_compare, with_masked_z, bit_flags, read_result, modified_value, modify_flags, modify_result, implied_result, pull_result};
+ghost use Rattle.cpu_alu.specs.Instructions.{stored_value, pushed_value, takes_branch, is_decimal, with_a, with_x, with_y, with_sum};
+ghost use Rattle.cpu_alu.specs.Instructions.{after_compare, with_masked_z, bit_flags, read_result, modified_value, modify_flags, modify_result, implied_result, pull_result};
 
 use crate::arithmetic::{adc, asl, bit_7, compare, lsr, rol, ror, sbc};
 use crate::flags::{

@@ -1,15 +1,18 @@
 -- What is left of a sequence in each phase.
-use Rattle.std.specs.Prelude.{ℕ, ◌+◌, ◌/◌, ◌%◌, List, [], ◌∷◌, ◌++◌, Bool, true, false, cond, eqb, ◌||◌, Option, Some, None, bit_or, bit_and}
+use Rattle.std.specs.Prelude.{ℕ, ◌+◌, ◌/◌, ◌%◌, List, [], ◌∷◌, ◌++◌, Bool, true, false, cond, eqb, ◌||◌, Option, Some, None, nat_lt, drop, bit_or, bit_and}
+use denote.Enum.Declared.{tag_of}
 use Rattle.op_table.specs.declared.Part.{Part}
 use Rattle.op_table.specs.declared.Row.{Row}
-use Rattle.op_table.specs.declared.Mode.TheVariants.{Acc}
+use Rattle.op_table.specs.declared.Mode.TheVariants.{Acc, Abs, Ind, IndAbsX}
 use Rattle.cpu_alu.specs.declared.Regs.{Regs}
 use Rattle.cpu_alu.specs.declared.Cycle.{Cycle}
 use Rattle.cpu_alu.specs.declared.Cycle.TheVariants.{Read, Write}
-use Rattle.cpu_alu.specs.declared.flags.TheConstants.{PUSHED_BY_INTERRUPT, PUSHED_BY_PROGRAM, PULLED}
+use Rattle.cpu_alu.specs.declared.flags.TheConstants.{PUSHED_BY_INTERRUPT, PULLED}
+use Rattle.cpu_alu.specs.declared.uses.BusUse.TheVariants.{Pushes, Pulls, Calls, Returns, Resumes, Breaks}
 use Rattle.cpu_alu.specs.Addresses.{word, wrap, place, stack, with_stack_moved, with_pc_past, crosses_page, target}
-use Rattle.cpu_alu.specs.Instructions.{stored_value, modified_value, pushed_value, takes_branch, read_result, modify_result, implied_result, pull_result}
+use Rattle.cpu_alu.specs.Instructions.{stored_value, modified_value, takes_branch, read_result, modify_result, implied_result, pull_result}
 use Rattle.cpu_core.specs.declared.Sequence.TheVariants.{Instruction}
+use Rattle.cpu_core.specs.contracts.progress.Phase.{the_type}
 use Rattle.cpu_core.specs.declared.progress.Access.{Access}
 use Rattle.cpu_core.specs.declared.progress.Access.TheVariants.{Load, Store, Change}
 use Rattle.cpu_core.specs.declared.progress.Progress.{Progress}
@@ -25,9 +28,9 @@ use Rattle.cpu_core.specs.declared.progress.Phase.TheVariants.{ResetFirst, Reset
 use Rattle.cpu_core.specs.declared.progress.Phase.TheVariants.{ReturnLow, ReturnHigh, ReturnTarget, SpareSecond, SpareLast, Push, PushByte, Pull}
 use Rattle.cpu_core.specs.declared.progress.Phase.TheVariants.{PullStack, PullByte, CallLow, CallStack, CallPushHigh, CallPushLow, CallHigh, Resume}
 use Rattle.cpu_core.specs.declared.progress.Phase.TheVariants.{ResumeStack, ResumeFlags, ResumeLow, ResumeHigh, Halted, Over}
-use Rattle.cpu_core.specs.Accesses.{byte, by_part, idle, with_low, second, cycle_between, lasts_longer, carry_cycles, last_place, branch_form, through, again}
+use Rattle.cpu_core.specs.Accesses.{byte, by_part, idle, with_low, second, cycle_between, lasts_longer, carry_cycles, last_place, branch_form, through, jump_form, again, form}
 use Rattle.cpu_core.specs.Results.{to_vector}
-use Rattle.cpu_core.specs.Sequences.{accesses, result_of}
+use Rattle.cpu_core.specs.Sequences.{reset, accesses, result_of}
 
 -- the cycles from that at the operand on, with a its address and m its byte
 abbrev pub at_operand : Part → Access → Row → ℕ → Regs → ℕ → List Cycle
@@ -54,6 +57,10 @@ pick always low x late early = cond (always || crosses_page low x) late early
 abbrev pub pushes : ℕ → ℕ → ℕ → Regs → List Cycle
 pushes pc p v r =
     Write (stack r 0) (pc / 256) ∷ Write (stack r 255) (pc % 256) ∷ Write (stack r 254) p ∷ Read v ∷ Read (wrap (v + 1)) ∷ []
+
+-- the pushes that are latched
+abbrev pub pushing : Progress → List Cycle
+pushing m = Write (stack m.work 0) m.value ∷ Write (stack m.work 255) m.index ∷ Write (stack m.work 254) m.low ∷ Read m.to ∷ Read (wrap (m.to + 1)) ∷ []
 
 abbrev pub goes_to : Regs → ℕ → Regs
 goes_to r to = record r { pc = to }
@@ -124,77 +131,51 @@ cycles_left_in part Branch m f = branch_form part (takes_branch m.row.mnemonic m
 cycles_left_in part BranchTaken m f =
     Read m.at
     ∷ cond (eqb (m.to / 256) (place m.work 2 / 256)) [] (Read (idle part (with_low (place m.work 2) m.to) (place m.work 1)) ∷ [])
-cycles_left_in part JumpLow m f = Read (place m.work 1) ∷ Read (place m.work 2) ∷ []
+cycles_left_in part JumpLow m f = jump_form part Abs m.work f
 cycles_left_in part JumpHigh m f = Read m.at ∷ []
-cycles_left_in part IndirectLow m f =
-    Read (place m.work 1) ∷ Read (place m.work 2) ∷ through part (word (byte f 0) (byte f 1)) (place m.work 2)
+cycles_left_in part IndirectLow m f = jump_form part Ind m.work (None ∷ f)
 cycles_left_in part IndirectHigh m f = Read (place m.work 2) ∷ through part (word m.low (byte f 0)) (place m.work 2)
-cycles_left_in part IndirectIndexedLow m f =
-    Read (place m.work 1) ∷ Read (place m.work 2)
-    ∷ through part (wrap (word (byte f 0) (byte f 1) + m.work.x)) (place m.work 2)
+cycles_left_in part IndirectIndexedLow m f = jump_form part IndAbsX m.work (None ∷ f)
 cycles_left_in part IndirectIndexedHigh m f =
     Read (place m.work 2) ∷ through part (wrap (word m.low (byte f 0) + m.work.x)) (place m.work 2)
 cycles_left_in part IndirectAgain m f = Read m.at ∷ Read m.to ∷ Read (second part m.to) ∷ []
 cycles_left_in part IndirectTargetLow m f = Read m.to ∷ Read (second part m.to) ∷ []
-cycles_left_in part Break m f =
-    Read (place m.work 1) ∷ Write (stack m.work 0) (place m.work 2 / 256)
-    ∷ Write (stack m.work 255) (place m.work 2 % 256) ∷ Write (stack m.work 254) (bit_or m.work.p PUSHED_BY_PROGRAM)
-    ∷ Read 0xFFFE ∷ Read 0xFFFF ∷ []
-cycles_left_in part InterruptPushHigh m f =
-    Write (stack m.work 0) m.value ∷ Write (stack m.work 255) m.index ∷ Write (stack m.work 254) m.low ∷ Read m.to
-    ∷ Read (wrap (m.to + 1)) ∷ []
-cycles_left_in part InterruptPushLow m f =
-    Write (stack m.work 255) m.index ∷ Write (stack m.work 254) m.low ∷ Read m.to ∷ Read (wrap (m.to + 1)) ∷ []
-cycles_left_in part InterruptPushFlags m f = Write (stack m.work 254) m.low ∷ Read m.to ∷ Read (wrap (m.to + 1)) ∷ []
-cycles_left_in part VectorLow m f = Read m.to ∷ Read (wrap (m.to + 1)) ∷ []
+cycles_left_in part Break m f = form part Breaks m.row m.work f
+cycles_left_in part InterruptPushHigh m f = pushing m
+cycles_left_in part InterruptPushLow m f = drop 1 (pushing m)
+cycles_left_in part InterruptPushFlags m f = drop 2 (pushing m)
+cycles_left_in part VectorLow m f = drop 3 (pushing m)
 cycles_left_in part VectorHigh m f = Read m.at ∷ []
 cycles_left_in part InterruptFirst m f =
     Read m.work.pc ∷ Read m.work.pc ∷ pushes m.work.pc (bit_or m.work.p PUSHED_BY_INTERRUPT) m.to m.work
 cycles_left_in part InterruptSecond m f = Read m.work.pc ∷ pushes m.work.pc (bit_or m.work.p PUSHED_BY_INTERRUPT) m.to m.work
-cycles_left_in part ResetFirst m f =
-    Read m.work.pc ∷ Read m.work.pc ∷ Read (stack m.work 0) ∷ Read (stack m.work 255) ∷ Read (stack m.work 254)
-    ∷ Read 0xFFFC ∷ Read 0xFFFD ∷ []
-cycles_left_in part ResetSecond m f =
-    Read m.work.pc ∷ Read (stack m.work 0) ∷ Read (stack m.work 255) ∷ Read (stack m.work 254) ∷ Read 0xFFFC
-    ∷ Read 0xFFFD ∷ []
-cycles_left_in part ResetThird m f =
-    Read (stack m.work 0) ∷ Read (stack m.work 255) ∷ Read (stack m.work 254) ∷ Read 0xFFFC ∷ Read 0xFFFD ∷ []
-cycles_left_in part ResetFourth m f = Read (stack m.work 255) ∷ Read (stack m.work 254) ∷ Read 0xFFFC ∷ Read 0xFFFD ∷ []
-cycles_left_in part ResetFifth m f = Read (stack m.work 254) ∷ Read 0xFFFC ∷ Read 0xFFFD ∷ []
-cycles_left_in part Return m f =
-    Read (place m.work 1) ∷ Read (stack m.work 0) ∷ Read (stack m.work 1) ∷ Read (stack m.work 2)
-    ∷ Read (word (byte f 2) (byte f 3)) ∷ []
-cycles_left_in part ReturnStack m f =
-    Read (stack m.work 0) ∷ Read (stack m.work 1) ∷ Read (stack m.work 2) ∷ Read (word (byte f 1) (byte f 2)) ∷ []
-cycles_left_in part ReturnLow m f = Read (stack m.work 1) ∷ Read (stack m.work 2) ∷ Read (word (byte f 0) (byte f 1)) ∷ []
+cycles_left_in part ResetFirst m f = reset m.work
+cycles_left_in part ResetSecond m f = drop 1 (reset m.work)
+cycles_left_in part ResetThird m f = drop 2 (reset m.work)
+cycles_left_in part ResetFourth m f = drop 3 (reset m.work)
+cycles_left_in part ResetFifth m f = drop 4 (reset m.work)
+cycles_left_in part Return m f = form part Returns m.row m.work (None ∷ f)
+cycles_left_in part ReturnStack m f = drop 1 (form part Returns m.row m.work (None ∷ None ∷ f))
+cycles_left_in part ReturnLow m f = drop 2 (form part Returns m.row m.work (None ∷ None ∷ None ∷ f))
 cycles_left_in part ReturnHigh m f = Read (stack m.work 2) ∷ Read (word m.low (byte f 0)) ∷ []
 cycles_left_in part ReturnTarget m f = Read m.at ∷ []
 cycles_left_in part SpareSecond m f = Read (place m.work 1) ∷ Read (place m.work 2) ∷ again m.low (place m.work 2)
 cycles_left_in part SpareLast m f = Read m.at ∷ again m.low m.at
-cycles_left_in part Push m f = Read (place m.work 1) ∷ Write (stack m.work 0) (pushed_value m.row.mnemonic m.work) ∷ []
+cycles_left_in part Push m f = form part Pushes m.row m.work f
 cycles_left_in part PushByte m f = Write m.at m.value ∷ []
-cycles_left_in part Pull m f = Read (place m.work 1) ∷ Read (stack m.work 0) ∷ Read (stack m.work 1) ∷ []
-cycles_left_in part PullStack m f = Read (stack m.work 0) ∷ Read (stack m.work 1) ∷ []
-cycles_left_in part PullByte m f = Read (stack m.work 1) ∷ []
-cycles_left_in part CallLow m f =
-    Read (place m.work 1) ∷ Read (stack m.work 0) ∷ Write (stack m.work 0) (place m.work 2 / 256)
-    ∷ Write (stack m.work 255) (place m.work 2 % 256) ∷ Read (place m.work 2) ∷ []
-cycles_left_in part CallStack m f =
-    Read (stack m.work 0) ∷ Write (stack m.work 0) (place m.work 2 / 256)
-    ∷ Write (stack m.work 255) (place m.work 2 % 256) ∷ Read (place m.work 2) ∷ []
-cycles_left_in part CallPushHigh m f =
-    Write (stack m.work 0) (place m.work 2 / 256) ∷ Write (stack m.work 255) (place m.work 2 % 256)
-    ∷ Read (place m.work 2) ∷ []
-cycles_left_in part CallPushLow m f = Write (stack m.work 255) (place m.work 2 % 256) ∷ Read (place m.work 2) ∷ []
-cycles_left_in part CallHigh m f = Read (place m.work 2) ∷ []
-cycles_left_in part Resume m f =
-    Read (place m.work 1) ∷ Read (stack m.work 0) ∷ Read (stack m.work 1) ∷ Read (stack m.work 2)
-    ∷ Read (stack m.work 3) ∷ []
-cycles_left_in part ResumeStack m f =
-    Read (stack m.work 0) ∷ Read (stack m.work 1) ∷ Read (stack m.work 2) ∷ Read (stack m.work 3) ∷ []
-cycles_left_in part ResumeFlags m f = Read (stack m.work 1) ∷ Read (stack m.work 2) ∷ Read (stack m.work 3) ∷ []
-cycles_left_in part ResumeLow m f = Read (stack m.work 2) ∷ Read (stack m.work 3) ∷ []
-cycles_left_in part ResumeHigh m f = Read (stack m.work 3) ∷ []
+cycles_left_in part Pull m f = form part Pulls m.row m.work f
+cycles_left_in part PullStack m f = drop 1 (form part Pulls m.row m.work f)
+cycles_left_in part PullByte m f = drop 2 (form part Pulls m.row m.work f)
+cycles_left_in part CallLow m f = form part Calls m.row m.work f
+cycles_left_in part CallStack m f = drop 1 (form part Calls m.row m.work f)
+cycles_left_in part CallPushHigh m f = drop 2 (form part Calls m.row m.work f)
+cycles_left_in part CallPushLow m f = drop 3 (form part Calls m.row m.work f)
+cycles_left_in part CallHigh m f = drop 4 (form part Calls m.row m.work f)
+cycles_left_in part Resume m f = form part Resumes m.row m.work f
+cycles_left_in part ResumeStack m f = drop 1 (form part Resumes m.row m.work f)
+cycles_left_in part ResumeFlags m f = drop 2 (form part Resumes m.row m.work f)
+cycles_left_in part ResumeLow m f = drop 3 (form part Resumes m.row m.work f)
+cycles_left_in part ResumeHigh m f = drop 4 (form part Resumes m.row m.work f)
 cycles_left_in part Halted m f = Read m.at ∷ []
 cycles_left_in part Over m f = []
 
@@ -328,56 +309,9 @@ abbrev pub is_stuck : Phase → Bool
 is_stuck Halted = true
 is_stuck _ = false
 
--- whether a phase is not one of the most frequent
+-- whether a phase is not one of the most frequent, nor one of the next frequent
 abbrev pub is_later : Phase → Bool
-is_later Opcode = false
-is_later Operand = false
-is_later ZeroPage = false
-is_later AbsoluteLow = false
-is_later AddressHigh = false
-is_later Implied = false
-is_later Branch = false
-is_later BranchTaken = false
-is_later IndexedLow = false
-is_later IndexedHigh = false
-is_later IndexAdded = false
-is_later _ = true
+is_later k = nat_lt (tag_of the_type IndexAdded) (tag_of the_type k)
 
--- nor one of the next frequent
 abbrev pub is_rare : Phase → Bool
-is_rare Opcode = false
-is_rare Operand = false
-is_rare ZeroPage = false
-is_rare AbsoluteLow = false
-is_rare AddressHigh = false
-is_rare Implied = false
-is_rare Branch = false
-is_rare BranchTaken = false
-is_rare IndexedLow = false
-is_rare IndexedHigh = false
-is_rare IndexAdded = false
-is_rare Push = false
-is_rare PushByte = false
-is_rare Pull = false
-is_rare PullStack = false
-is_rare PullByte = false
-is_rare Accumulator = false
-is_rare CallLow = false
-is_rare CallStack = false
-is_rare CallPushHigh = false
-is_rare CallPushLow = false
-is_rare CallHigh = false
-is_rare Return = false
-is_rare ReturnStack = false
-is_rare ReturnLow = false
-is_rare ReturnHigh = false
-is_rare ReturnTarget = false
-is_rare JumpLow = false
-is_rare JumpHigh = false
-is_rare IndexedPointer = false
-is_rare IndexedPointerLow = false
-is_rare IndexedPointerHigh = false
-is_rare ModifyAgain = false
-is_rare ModifyWrite = false
-is_rare ZeroPageBase = false
-is_rare _ = true
+is_rare k = nat_lt (tag_of the_type ZeroPageBase) (tag_of the_type k)

@@ -1,4 +1,3 @@
-pub mod Walks
 pub mod Noting
 pub mod Watching
 pub mod Listed

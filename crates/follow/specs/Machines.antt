@@ -1,11 +1,12 @@
 -- What is seen of both machines.
-use Rattle.std.specs.Prelude.{ℕ, ◌≡◌, ◌+◌, List, [], ◌∷◌, ◌++◌, Bool, true, false, cond, Option, None, Some, if◌then◌else◌, refl}
+use Rattle.std.specs.Prelude.{ℕ, ◌≡◌, ◌+◌, List, [], ◌∷◌, ◌++◌, Bool, true, false, Option, None, Some, if◌then◌else◌, refl}
+use Rattle.std.proofs.Common.{arith}
 use Rattle.op_table.specs.declared.names.Part.{Part}
 use Rattle.op_table.specs.declared.names.Part.TheVariants.{Nmos, Cmos}
 use Rattle.cpu_alu.specs.declared.Cycle.{Cycle}
 use Rattle.cpu_core.specs.State as cpu
 use Rattle.cpu_core.specs.declared.Sequence.{Sequence}
-use Rattle.cpu_core.specs.Sequences.{next_cycle, starting, is_start, halted, halts, after_byte}
+use Rattle.cpu_core.specs.Sequences.{next_cycle, starting, is_start, after_byte}
 use Rattle.tube_chip.specs.declared.Answer.{Answer}
 use Rattle.tube_chip.specs.Act.{look}
 use Rattle.tube_party.specs.Moves.{Moves}
@@ -33,20 +34,8 @@ seen_more : (seen : List (Option ℕ)) (x : Option ℕ) (q : Sequence) → is_st
 seen_more [] x q = refl
 seen_more (y ∷ seen) x q = refl
 
-halted_late : (seen : List (Option ℕ)) (part : Part) (q : Sequence) → halts seen part q ≡ true → is_start seen q ≡ false
-halted_late [] part q is = cc
-halted_late (y ∷ seen) part q is = refl
-
-halted_on : (part : Part) (c : cpu.State) → halted part c ≡ true → starting c ≡ false
-halted_on Nmos c is = halted_late c.seen Nmos c.sequence is
-halted_on Cmos c is = cc
-
-after_by : (stays : Bool) (c on : cpu.State) → (stays ≡ true → starting c ≡ false) → starting on ≡ false → starting (cond stays c on) ≡ false
-after_by true c on here there = here refl
-after_by false c on here there = there
-
 begun : (part : Part) (c : cpu.State) (byte : ℕ) → starting (after_byte part c byte) ≡ false
-begun part c byte = after_by (halted part c) c _ (λ is. halted_on part c is) (seen_more c.seen _ c.sequence)
+begun part c byte = grind (arith, seen_more)
 
 module _ (part : Part) {B : Type 0} (w : Wiring B) where
   behind_by : (breaks : Bool) (c : Option Cycle) (b : B) (s : At B) (a : Option Answer) → starting (if breaks then after_break part w s else after_step part w c s a).cpu ≡ true →

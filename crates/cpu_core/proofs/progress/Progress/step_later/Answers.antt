@@ -3,7 +3,7 @@ use Rattle.cpu_core.proofs.Going.{steps-below}
 use Rattle.cpu_core.proofs.progress.Progress.step_later.Goals as goal
 
 pub returns-in_default-phase : goal.returns-in_default-phase
-returns-in_default-phase c = steps-below c.args.part c.args.self.now c.after_accumulator.new.self c.args.byte _ c.if-self.true (omega arith) c.after_accumulator.ensures
+returns-in_default-phase c = steps-below c.after_accumulator.ensures (omega (arith, c.if-self.true))
 
 pub returns-in_default-phase-6 : goal.returns-in_default-phase-6
-returns-in_default-phase-6 c = steps-below c.args.part c.args.self.now c.after_indexed_pointer_high.new.self c.args.byte _ c.if-self-6.true (omega arith) c.after_indexed_pointer_high.ensures
+returns-in_default-phase-6 c = steps-below c.after_indexed_pointer_high.ensures (omega (arith, c.if-self-6.true))
