@@ -122,14 +122,16 @@ impl Bench {
 
 #[test]
 fn commands_do_what_the_profile_says(rt: HostRuntime) -> Result<(), Fail> {
-    for program in &PROGRAMS {
+    for program in PROGRAMS.lines() {
         for single in [false, true] {
-            let mut bench = Bench {
-                fdc: fdc(rt.alloc(), *program)?,
-                single,
-            };
-            for word in program.split(' ') {
-                bench.act(&rt, word.as_bytes(), *program);
+            if !program.starts_with('#') {
+                let mut bench = Bench {
+                    fdc: fdc(rt.alloc(), program)?,
+                    single,
+                };
+                for word in program.split(' ') {
+                    bench.act(&rt, word.as_bytes(), program);
+                }
             }
         }
     }

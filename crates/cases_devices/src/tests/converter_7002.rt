@@ -7,26 +7,26 @@ use adc7002::{
 
 /// Words: `R=VV` writes a register, `R?VV` reads one, `C<LLLL` puts a level on a channel, `+N` does N steps (decimal), and `high` and `low` are
 /// the line to CB1.
-const PROGRAMS: [&str; 12] = [
-    "0?40 1?00 2?00 3?FE high +0 +20000 0?40 high",
-    "1<8000 0=01 0?81 +3999 0?81 high +1 0?61 1?80 2?00 low",
-    // To 12 bits, on channel 2.
-    "2<ABCD 0=0A 0?8A +9999 0?8A high +1 0?6A 1?AB 2?C0 low",
-    // Four bits are kept.
-    "2<FFFF 0=56 0?86 +4000 0?76 1?FF 2?00 3?FE low",
-    // Other writes begin nothing, and give nothing up.
-    "1<8000 1=FF 2=FF 3=FF 0?40 high +20000 0?40 high 1?00",
-    "0<FFFF 0=00 +2000 1=0F 2=0F 3=0F +1999 0?80 +1 0?70 1?FF low",
-    // Given up one step before its end, by one of either kind.
-    "0<FFFF 0=00 +3999 0=00 0?80 +3999 0?80 high 1?00 +1 0?70 1?FF low",
-    "3<4000 0=03 +3999 0=0B +6001 0?8B high 1?00 +3998 0?8B +1 0?5B 1?40 2?00 low",
-    // The level is that of the end, of one channel alone.
-    "0<1230 0=08 +9998 0<5670 +1 0<9AB0 0?88 1?00 +1 0?68 1?9A 2?B0 0<FFFF +50 1?9A 2?B0 low",
-    "0<FFFF 1<1000 2<FFFF 3<FFFF 0=01 +4000 0?41 1?10",
-    "0<1230 0=08 +12000 0?48 1?12 2?30 low",
-    // The earlier result stands until then.
-    "0<C0D0 0=08 +10000 0?78 1?C0 2?D0 low 0<0000 0=00 0?B0 1?C0 2?D0 high +3999 0?B0 2?D0 high +1 0?40 1?00 2?00 low",
-];
+const PROGRAMS: &str = "\
+0?40 1?00 2?00 3?FE high +0 +20000 0?40 high
+1<8000 0=01 0?81 +3999 0?81 high +1 0?61 1?80 2?00 low
+# To 12 bits, on channel 2.
+2<ABCD 0=0A 0?8A +9999 0?8A high +1 0?6A 1?AB 2?C0 low
+# Four bits are kept.
+2<FFFF 0=56 0?86 +4000 0?76 1?FF 2?00 3?FE low
+# Other writes begin nothing, and give nothing up.
+1<8000 1=FF 2=FF 3=FF 0?40 high +20000 0?40 high 1?00
+0<FFFF 0=00 +2000 1=0F 2=0F 3=0F +1999 0?80 +1 0?70 1?FF low
+# Given up one step before its end, by one of either kind.
+0<FFFF 0=00 +3999 0=00 0?80 +3999 0?80 high 1?00 +1 0?70 1?FF low
+3<4000 0=03 +3999 0=0B +6001 0?8B high 1?00 +3998 0?8B +1 0?5B 1?40 2?00 low
+# The level is that of the end, of one channel alone.
+0<1230 0=08 +9998 0<5670 +1 0<9AB0 0?88 1?00 +1 0?68 1?9A 2?B0 0<FFFF +50 1?9A 2?B0 low
+0<FFFF 1<1000 2<FFFF 3<FFFF 0=01 +4000 0?41 1?10
+0<1230 0=08 +12000 0?48 1?12 2?30 low
+# The earlier result stands until then.
+0<C0D0 0=08 +10000 0?78 1?C0 2?D0 low 0<0000 0=00 0?B0 1?C0 2?D0 high +3999 0?B0 2?D0 high +1 0?40 1?00 2?00 low
+";
 
 /// A converter, with the levels of its channels.
 #[derive(Drop)]
@@ -88,7 +88,9 @@ fn conversions_do_what_the_data_sheet_says(rt: HostRuntime) {
     a_conversion_ends_in_time();
     a_conversion_goes_on_until_its_end();
     a_conversion_given_up_leaves_nothing();
-    for program in &PROGRAMS {
-        assert!(rt; does(*program, false) & does(*program, true), "{program}");
+    for program in PROGRAMS.lines() {
+        if !program.starts_with('#') {
+            assert!(rt; does(program, false) & does(program, true), "{program}");
+        }
     }
 }

@@ -12,41 +12,41 @@ use std::process::Abort;
 use std::test::Fail;
 
 /// Words: `VV` writes a byte, `+N` does N clocks, and `=N` is the level (both decimal).
-const PROGRAMS: [&str; 24] = [
-    "=0 +5000 =0",
-    // Tone 1 with a period of 1, of 2, of 1,023 and of 0, which is 1,024.
-    "81 00 90 =0 +1 =8191 +1 =0 +1 =8191 +1 =0",
-    "82 00 90 =0 +1 =8191 +1 =8191 +1 =0 +1 =0 +1 =8191",
-    "8F 3F 90 =0 +1 =8191 +1022 =8191 +1 =0 +1022 =0 +1 =8191",
-    "80 00 90 =0 +1 =8191 +1023 =8191 +1 =0 +1023 =0 +1 =8191",
-    // Tones 2 and 3, and all three.
-    "A0 01 B1 +1 =6506 +15 =6506 +1 =0",
-    "C1 00 DE +1 =326 +1 =0 +1 =326",
-    "81 00 90 A1 00 B1 C1 00 D2 +1 =19865 +1 =0",
-    // Bit 6 of a byte that is latched for is nothing; at power-on it is for tone 1's period; a volume takes one too.
-    "80 41 90 +16 =8191 +1 =0",
-    "01 90 +16 =8191 +1 =0",
-    "81 00 9F +1 =0 05 =2590 75 =2590 3F =0",
-    // Four bits of a period, and a counter that goes on from the earlier one.
-    "8F 3F 80 90 +1008 =8191 +1 =0",
-    "80 01 90 +1 =8191 81 00 +15 =8191 +1 =0 +1 =8191",
-    // Noise with one tap: its bit comes out after 14 shifts, and after each 15 more.
-    "E0 F0 +447 =0 +1 =8191 +31 =8191 +1 =0 +447 =0 +1 =8191 +32 =0",
-    "E1 F0 +895 =0 +1 =8191 +63 =8191 +1 =0",
-    "E2 F0 +1791 =0 +1 =8191 +127 =8191 +1 =0",
-    // Shifts where tone 3 rises, at clocks 1, 5, 9 and so on.
-    "C2 00 E3 F0 +52 =0 +1 =8191 +3 =8191 +1 =0",
-    // The count of clocks goes on over a write, and at that rate.
-    "E0 F0 +16 E0 +431 =0 +1 =8191 +32 =0",
-    "E3 F0 +16 E0 +431 =0 +1 =8191 +32 =0",
-    // White noise: after 14, 28 and 29 shifts.
-    "E4 F0 +447 =0 +1 =8191 +32 =0 +415 =0 +1 =8191 +32 =8191 +31 =8191 +1 =0",
-    // A write to the control begins it anew.
-    "E4 F0 +448 =8191 E4 =0 +447 =0 +1 =8191",
-    "F0 E0 +448 =8191 04 =0 +447 =0 +1 =8191 +32 =0 +415 =0 +1 =8191",
-    "E0 F7 +448 =1634 0F =0 FE =326",
-    "80 00 90 A0 00 B0 C0 00 D0 E0 F0 +448 =32764",
-];
+const PROGRAMS: &str = "\
+=0 +5000 =0
+# Tone 1 with a period of 1, of 2, of 1,023 and of 0, which is 1,024.
+81 00 90 =0 +1 =8191 +1 =0 +1 =8191 +1 =0
+82 00 90 =0 +1 =8191 +1 =8191 +1 =0 +1 =0 +1 =8191
+8F 3F 90 =0 +1 =8191 +1022 =8191 +1 =0 +1022 =0 +1 =8191
+80 00 90 =0 +1 =8191 +1023 =8191 +1 =0 +1023 =0 +1 =8191
+# Tones 2 and 3, and all three.
+A0 01 B1 +1 =6506 +15 =6506 +1 =0
+C1 00 DE +1 =326 +1 =0 +1 =326
+81 00 90 A1 00 B1 C1 00 D2 +1 =19865 +1 =0
+# Bit 6 of a byte that is latched for is nothing; at power-on it is for tone 1's period; a volume takes one too.
+80 41 90 +16 =8191 +1 =0
+01 90 +16 =8191 +1 =0
+81 00 9F +1 =0 05 =2590 75 =2590 3F =0
+# Four bits of a period, and a counter that goes on from the earlier one.
+8F 3F 80 90 +1008 =8191 +1 =0
+80 01 90 +1 =8191 81 00 +15 =8191 +1 =0 +1 =8191
+# Noise with one tap: its bit comes out after 14 shifts, and after each 15 more.
+E0 F0 +447 =0 +1 =8191 +31 =8191 +1 =0 +447 =0 +1 =8191 +32 =0
+E1 F0 +895 =0 +1 =8191 +63 =8191 +1 =0
+E2 F0 +1791 =0 +1 =8191 +127 =8191 +1 =0
+# Shifts where tone 3 rises, at clocks 1, 5, 9 and so on.
+C2 00 E3 F0 +52 =0 +1 =8191 +3 =8191 +1 =0
+# The count of clocks goes on over a write, and at that rate.
+E0 F0 +16 E0 +431 =0 +1 =8191 +32 =0
+E3 F0 +16 E0 +431 =0 +1 =8191 +32 =0
+# White noise: after 14, 28 and 29 shifts.
+E4 F0 +447 =0 +1 =8191 +32 =0 +415 =0 +1 =8191 +32 =8191 +31 =8191 +1 =0
+# A write to the control begins it anew.
+E4 F0 +448 =8191 E4 =0 +447 =0 +1 =8191
+F0 E0 +448 =8191 04 =0 +447 =0 +1 =8191 +32 =0 +415 =0 +1 =8191
+E0 F7 +448 =1634 0F =0 FE =326
+80 00 90 A0 00 B0 C0 00 D0 E0 F0 +448 =32764
+";
 
 /// A chip that does its clocks one by one, or else at once.
 #[derive(Drop)]
@@ -96,9 +96,11 @@ fn voices_do_what_the_data_sheet_says(rt: HostRuntime) {
     noise_repeats();
     noise_shifts_in_time();
     volume_15_is_silence();
-    for program in &PROGRAMS {
-        run(&rt, *program, false);
-        run(&rt, *program, true);
+    for program in PROGRAMS.lines() {
+        if !program.starts_with('#') {
+            run(&rt, program, false);
+            run(&rt, program, true);
+        }
     }
 }
 

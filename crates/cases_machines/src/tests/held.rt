@@ -1,6 +1,11 @@
 //! Machines and buses while they are asked. What holds them is generic, since a proof that sees the fields of one follows each of them over each
 //! way out.
+ghost use Rattle.std.specs.Prelude.{All, IfOk};
+ghost use Rattle.tube_trace.specs.Entries.{IsEntry};
+
+use std::alloc::Global;
 use std::test::Fail;
+use tube_trace::{Entry, read};
 
 // What a new one answers.
 pub(super) fn with_new<T: Drop, R, F: FnOnce(&mut T) -> R + Drop>(
@@ -22,4 +27,13 @@ pub(super) fn pair<T: Drop, U, F: FnOnce() -> Result<U, Fail> + Drop>(
 {
     let made = made?;
     Ok((made, make_other()?))
+}
+
+// The entries of a trace, in which `;` ends a line and `~` stands for eight zeros.
+pub(super) fn entries_of(alloc: Global, text: &str) -> Result<Vec<Entry>, Fail>
+    ensures { IfOk result (λ entries. All IsEntry entries.items) }
+{
+    let text = text.replace(alloc, "~", "00000000")?;
+    let text = text.replace(alloc, ";", "\n")?;
+    Ok(read(alloc, text.as_bytes())?.entries)
 }

@@ -1,5 +1,5 @@
 //! The second processor at both clocks, against traces and ahead of them.
-use super::held::{pair, with_new};
+use super::held::{entries_of, pair, with_new};
 use beeb_bits::{Clock, Side, Tick};
 use para_mach::{ParaError, ParaMachine};
 use std::alloc::Global;
@@ -7,7 +7,6 @@ use std::test::Fail;
 use std::vec::Vec;
 use tube_chip::{Chip, Lines, Op};
 use tube_party::{Ask, Closed, Desk, Doing, Party, Rewinds, replay};
-use tube_trace::read;
 
 fn put(bytes: &mut Vec<u8>, start: usize, part: &[u8]) {
     for (i, byte) in part.iter().enumerate() {
@@ -130,7 +129,7 @@ fn shown(alloc: Global, machine: &ParaMachine) -> Result<String, Fail> {
 }
 
 // A line is a run from power-on: 3 or 4 MHz, the code, the ticks, and the number of an entry that it does not make or `-`; behind `@` what is
-// shown then, or its beginning; and behind another the trace, in which `;` ends a line.
+// shown then, or its beginning; and behind another the trace, in which `;` ends a line and `~` stands for eight zeros.
 const RUNS: &str = "\
 # No ticks: the power-on state.
 3 loop 0 -@0000 00 00 00 00 00 runs within@
@@ -144,73 +143,62 @@ const RUNS: &str = "\
 4 loop 201 -@F800 00 00 00 FD 04 runs starts@
 # An access is at the first tick of its cycle: a letter is written, and then the RAM is run as code: BRK.
 3 letter 24 -@F802 48 00 00 FD 04 runs within@
-3 letter 40 -@0000 48 00 00 FA 04 runs starts@0000000018 P W 1 48;
+3 letter 40 -@0000 48 00 00 FA 04 runs starts@~18 P W 1 48;
 4 letter 36 -@F802 48 00 00 FD 04 runs within@
-4 letter 39 -@F805 48 00 00 FD 04 runs starts@0000000024 P W 1 48;
-4 letter 40 -@F805 48 00 00 FD 04 runs within@0000000024 P W 1 48;
-4 letter 60 -@0000 48 00 00 FA 04 runs starts@0000000024 P W 1 48;
+4 letter 39 -@F805 48 00 00 FD 04 runs starts@~24 P W 1 48;
+4 letter 40 -@F805 48 00 00 FD 04 runs within@~24 P W 1 48;
+4 letter 60 -@0000 48 00 00 FA 04 runs starts@~24 P W 1 48;
 # P set and cleared between two looks: one reset.
-3 loop 200 -@F800 00 00 00 FA 04 runs within@0000000062 H W 0 A0;0000000065 H W 0 20;
-4 loop 122 -@F800 00 00 00 FD 04 runs within@000000005D H W 0 A0;0000000064 H W 0 20;
-4 loop 123 -@F800 00 00 00 FA 04 runs starts@000000005D H W 0 A0;0000000064 H W 0 20;
+3 loop 200 -@F800 00 00 00 FA 04 runs within@~62 H W 0 A0;~65 H W 0 20;
+4 loop 122 -@F800 00 00 00 FD 04 runs within@~5D H W 0 A0;~64 H W 0 20;
+4 loop 123 -@F800 00 00 00 FA 04 runs starts@~5D H W 0 A0;~64 H W 0 20;
 # P stands: the look at tick 103 holds, and each look two ticks later, until the one at tick 129 sees P clear.
-3 loop 103 -@F800 00 00 00 FD 04 runs within@0000000062 H W 0 A0;0000000080 H W 0 20;
-3 loop 104 -@F800 00 00 00 FD 04 held within@0000000062 H W 0 A0;0000000080 H W 0 20;
-3 loop 129 -@F800 00 00 00 FD 04 held within@0000000062 H W 0 A0;0000000080 H W 0 20;
-3 loop 130 -@F800 00 00 00 FD 04 runs within@0000000062 H W 0 A0;0000000080 H W 0 20;
-3 loop 144 -@F800 00 00 00 FA 04 runs starts@0000000062 H W 0 A0;0000000080 H W 0 20;
+3 loop 103 -@F800 00 00 00 FD 04 runs within@~62 H W 0 A0;~80 H W 0 20;
+3 loop 104 -@F800 00 00 00 FD 04 held within@~62 H W 0 A0;~80 H W 0 20;
+3 loop 129 -@F800 00 00 00 FD 04 held within@~62 H W 0 A0;~80 H W 0 20;
+3 loop 130 -@F800 00 00 00 FD 04 runs within@~62 H W 0 A0;~80 H W 0 20;
+3 loop 144 -@F800 00 00 00 FA 04 runs starts@~62 H W 0 A0;~80 H W 0 20;
 # At 4 MHz the look at tick 101 holds, and each look three ticks later, until the one at tick 128 sees P clear.
-4 loop 101 -@F800 00 00 00 FD 04 runs within@0000000062 H W 0 A0;000000007E H W 0 20;
-4 loop 102 -@F800 00 00 00 FD 04 held within@0000000062 H W 0 A0;000000007E H W 0 20;
-4 loop 128 -@F800 00 00 00 FD 04 held within@0000000062 H W 0 A0;000000007E H W 0 20;
-4 loop 129 -@F800 00 00 00 FD 04 runs within@0000000062 H W 0 A0;000000007E H W 0 20;
-4 loop 150 -@F800 00 00 00 FA 04 runs starts@0000000062 H W 0 A0;000000007E H W 0 20;
+4 loop 101 -@F800 00 00 00 FD 04 runs within@~62 H W 0 A0;~7E H W 0 20;
+4 loop 102 -@F800 00 00 00 FD 04 held within@~62 H W 0 A0;~7E H W 0 20;
+4 loop 128 -@F800 00 00 00 FD 04 held within@~62 H W 0 A0;~7E H W 0 20;
+4 loop 129 -@F800 00 00 00 FD 04 runs within@~62 H W 0 A0;~7E H W 0 20;
+4 loop 150 -@F800 00 00 00 FA 04 runs starts@~62 H W 0 A0;~7E H W 0 20;
 # An interrupt by its line, where I is clear and where it is set.
-3 open 200 -@F840 00 00 00 FA 04 runs starts@0000000028 H W 0 82;000000002B H W 1 00;
-3 loop 200 -@F800 00 00 00 FD 04 runs starts@0000000028 H W 0 82;000000002B H W 1 00;
-4 open 65 -@F801 00 00 00 FD 00 runs within@0000000028 H W 0 82;000000002B H W 1 00;
-4 open 66 -@F840 00 00 00 FA 04 runs starts@0000000028 H W 0 82;000000002B H W 1 00;
-4 loop 201 -@F800 00 00 00 FD 04 runs starts@0000000028 H W 0 82;000000002B H W 1 00;
+3 open 200 -@F840 00 00 00 FA 04 runs starts@~28 H W 0 82;~2B H W 1 00;
+3 loop 200 -@F800 00 00 00 FD 04 runs starts@~28 H W 0 82;~2B H W 1 00;
+4 open 65 -@F801 00 00 00 FD 00 runs within@~28 H W 0 82;~2B H W 1 00;
+4 open 66 -@F840 00 00 00 FA 04 runs starts@~28 H W 0 82;~2B H W 1 00;
+4 loop 201 -@F800 00 00 00 FD 04 runs starts@~28 H W 0 82;~2B H W 1 00;
 # The Tube's status run as code: RTI.
-3 status 32 -@0000 00 00 00 00 00 runs starts@0000000014 P R 0 40;0000000016 P R 1 00;
-4 status 48 -@0000 00 00 00 00 00 runs starts@000000001E P R 0 40;0000000021 P R 1 00;
+3 status 32 -@0000 00 00 00 00 00 runs starts@~14 P R 0 40;~16 P R 1 00;
+4 status 48 -@0000 00 00 00 00 00 runs starts@~1E P R 0 40;~21 P R 1 00;
 # A copy into the RAM below the boot ROM runs on after the first access to the Tube.
 3 letters 2000 -@F815 49 FF 00 FD 04 runs within@000000039A P W 1 48;00000003A6 P W 1 49;
 4 letters 3000 -@F815 49 FF 00 FD 04 runs within@0000000567 P W 1 48;0000000579 P W 1 49;
 # A reset while PC is in the Tube: its first two cycles read the Tube and switch the boot ROM out again, and the vector is that of the RAM.
-3 vector 58 -@1234 12 00 00 FA 04 runs starts@0000000029 H W 0 A0;000000002A H W 0 20;000000002C P R 0 40;000000002E P R 0 40;
-4 vector 87 -@1234 12 00 00 FA 04 runs starts@000000003F H W 0 A0;0000000040 H W 0 20;0000000042 P R 0 40;0000000045 P R 0 40;
+3 vector 58 -@1234 12 00 00 FA 04 runs starts@~29 H W 0 A0;~2A H W 0 20;~2C P R 0 40;~2E P R 0 40;
+4 vector 87 -@1234 12 00 00 FA 04 runs starts@~3F H W 0 A0;~40 H W 0 20;~42 P R 0 40;~45 P R 0 40;
 ";
 
 // The looks see the chip after all entries before them.
 const LOOKS: &str = "\
 # The condition rises once: one NMI, though it stands on.
-3 open 200 -@F820 00 00 00 FA 04 runs @0000000028 H W 0 88;000000002B H W 5 11;
-4 open 200 -@F820 00 00 00 FA 04 runs @0000000028 H W 0 88;000000002B H W 5 11;
+3 open 200 -@F820 00 00 00 FA 04 runs @~28 H W 0 88;~2B H W 5 11;
+4 open 200 -@F820 00 00 00 FA 04 runs @~28 H W 0 88;~2B H W 5 11;
 # An NMI and an IRQ at one look: the NMI is taken, and the IRQ waits for I.
-3 open 200 -@F820 00 00 00 FA 04 runs @0000000028 H W 0 8A;000000002A H W 1 00;000000002B H W 5 11;
-4 open 200 -@F820 00 00 00 FA 04 runs @0000000028 H W 0 8A;000000002A H W 1 00;000000002B H W 5 11;
+3 open 200 -@F820 00 00 00 FA 04 runs @~28 H W 0 8A;~2A H W 1 00;~2B H W 5 11;
+4 open 200 -@F820 00 00 00 FA 04 runs @~28 H W 0 8A;~2A H W 1 00;~2B H W 5 11;
 # An NMI and a reset at one look: the reset is taken, and the NMI is not taken after it.
-3 open 200 -@F801 00 00 00 FA 00 runs @0000000028 H W 0 88;000000002A H W 5 11;000000002B H W 0 A0;000000002C H W 0 20;
-4 open 200 -@F801 00 00 00 FA 00 runs @0000000028 H W 0 88;000000002A H W 5 11;000000002B H W 0 A0;000000002C H W 0 20;
+3 open 200 -@F801 00 00 00 FA 00 runs @~28 H W 0 88;~2A H W 5 11;~2B H W 0 A0;~2C H W 0 20;
+4 open 200 -@F801 00 00 00 FA 00 runs @~28 H W 0 88;~2A H W 5 11;~2B H W 0 A0;~2C H W 0 20;
 # M clear: none.
-3 open 200 -@F801 00 00 00 FD 00 runs @000000002B H W 5 11;
-4 open 200 -@F801 00 00 00 FD 00 runs @000000002B H W 5 11;
+3 open 200 -@F801 00 00 00 FD 00 runs @~2B H W 5 11;
+4 open 200 -@F801 00 00 00 FD 00 runs @~2B H W 5 11;
 # The read of an interrupt's byte that the trace has clears the line, though the machine does not make it.
-3 open 200 3@F801 00 00 00 FD 00 runs @0000000028 H W 0 82;000000002B H W 1 00;000000002C P R 1 00;
-4 open 200 3@F801 00 00 00 FD 00 runs @0000000028 H W 0 82;000000002D H W 1 00;000000002E P R 1 00;
+3 open 200 3@F801 00 00 00 FD 00 runs @~28 H W 0 82;~2B H W 1 00;~2C P R 1 00;
+4 open 200 3@F801 00 00 00 FD 00 runs @~28 H W 0 82;~2D H W 1 00;~2E P R 1 00;
 ";
-
-// The text, in which `;` ends a line.
-fn lines_of(alloc: Global, text: &str) -> Result<Vec<u8>, Fail> {
-    let mut bytes = text.as_bytes().to_vec(alloc)?;
-    for byte in bytes.iter_mut() {
-        if *byte == b';' {
-            *byte = b'\n';
-        }
-    }
-    Ok(bytes)
-}
 
 // A machine, and the first entry that its run does not make, and what it does in its place.
 type Ended = (ParaMachine, Option<(u64, Option<Doing>)>);
@@ -223,7 +211,7 @@ fn replayed(
     ticks: u16,
     trace: &str,
 ) -> Result<Ended, Fail> {
-    let entries = read(alloc, &lines_of(alloc, trace)?)?.entries;
+    let entries = entries_of(alloc, trace)?;
     let start = fresh(alloc, clock, code)?;
     Ok(replay(start, Side::Para, &entries, Tick(u64::from(ticks))))
 }

@@ -123,154 +123,72 @@ fn held_and_separated_graphics_of_double_height(rt: HostRuntime) -> Result<(), F
     Ok(())
 }
 
+// A line is the scan line, whether the row is a bottom row, the number of fields, the codes, and the colours of their cells.
+const CELLS: &str = "\
+# Letters in a colour, after the code.
+0 top 16 41 01 41 02 41 03 41 04 70102030
+0 top 16 04 41 05 41 06 41 07 41 04050607
+# Graphics in a colour, after the code. The codes from 40 to 5F are letters still.
+0 top 16 7F 11 7F 12 7F 13 41 14 00102030
+0 top 16 14 23 15 3F 16 63 17 7F 04050607
+# Hold at once and release after; the code of a colour shows what is held, and letters make it blank.
+0 top 16 11 1E 7F 12 1F 1F 7F 1E 00112022
+0 top 16 11 7F 1E 02 00 11 1E 7F 01110001
+# A letter is not held: what was held before it is.
+12 top 16 11 23 41 1E 2C 1E 20 1E 00101100
+# Flash after and steady at once, by the number of fields.
+0 top 15 17 1E 7F 08 7F 09 7F 41 00770777
+0 top 16 17 1E 7F 08 7F 09 7F 41 00777777
+0 top 79 08 41 01 41 11 7F 09 7F 00000001
+0 top 63 08 41 01 41 11 7F 09 7F 07010101
+# Conceal at once, up to the cell after a colour; steady does not end it.
+0 top 16 17 1E 7F 18 7F 09 13 7F 00700003
+0 top 16 41 18 41 02 41 18 1D 41 70002022
+# Separated and contiguous; what is held keeps its own gaps.
+0 top 16 11 1E 7F 1A 7F 19 7F 1A 00119911
+# New background and black background, at once.
+0 top 16 01 1D 20 04 41 1C 20 41 01114004
+# Double height after and normal height at once: the upper half, and the lower half in a bottom row.
+12 top 16 42 0D 42 0C 42 0D 43 41 00700007
+0 top 16 42 43 0D 42 43 0C 42 43 70070070
+0 bottom 16 42 43 0D 42 43 0C 42 43 00007000
+# A change of the height makes what is held blank: after double height, at normal height.
+0 top 16 11 1E 7F 0D 1E 7F 0C 0C 00110100
+0 top 16 11 1E 7F 0C 0D 7F 0D 1E 00111111
+# Other codes do nothing.
+0 top 16 11 1E 7F 00 0A 0B 0E 7F 00111111
+0 top 16 11 1E 7F 0F 10 1B 7F 41 00111111
+";
+
+// Whether cells have the colours of their line.
+fn are_coloured(font: &Letters, line: &str) -> Option<bool> {
+    let mut words = line.split(' ');
+    let line = Line {
+        ra: words.next()?.parse().ok()?,
+        bottom: words.next()? == "bottom",
+        fields: words.next()?.parse().ok()?,
+    };
+    let mut codes = [0; 8];
+    for code in codes.iter_mut() {
+        *code = number(words.next()?);
+    }
+    let want = words.next()?.as_bytes();
+    let found = colours(font, codes, line);
+    Some(
+        found
+            .iter()
+            .map(|colour| colour.wrapping_add(b'0'))
+            .eq(want.iter().copied()),
+    )
+}
+
 #[test]
 fn each_control_code_has_its_effect(rt: HostRuntime) -> Result<(), Fail> {
     let font = font(rt.alloc())?;
-    let first = Line {
-        ra: 0,
-        bottom: false,
-        fields: 16,
-    };
-    let off = Line {
-        fields: 15,
-        ..first
-    };
-    let bottom = Line {
-        bottom: true,
-        ..first
-    };
-    let middle = Line { ra: 12, ..first };
-    let rows = [
-        // Letters in a colour, after the code.
-        (
-            first,
-            [0x41, 0x01, 0x41, 0x02, 0x41, 0x03, 0x41, 0x04],
-            [7, 0, 1, 0, 2, 0, 3, 0],
-        ),
-        (
-            first,
-            [0x04, 0x41, 0x05, 0x41, 0x06, 0x41, 0x07, 0x41],
-            [0, 4, 0, 5, 0, 6, 0, 7],
-        ),
-        // Graphics in a colour, after the code. The codes from 40 to 5F are letters still.
-        (
-            first,
-            [0x7f, 0x11, 0x7f, 0x12, 0x7f, 0x13, 0x41, 0x14],
-            [0, 0, 1, 0, 2, 0, 3, 0],
-        ),
-        (
-            first,
-            [0x14, 0x23, 0x15, 0x3f, 0x16, 0x63, 0x17, 0x7f],
-            [0, 4, 0, 5, 0, 6, 0, 7],
-        ),
-        // Hold at once and release after; the code of a colour shows what is held, and letters make it blank.
-        (
-            first,
-            [0x11, 0x1e, 0x7f, 0x12, 0x1f, 0x1f, 0x7f, 0x1e],
-            [0, 0, 1, 1, 2, 0, 2, 2],
-        ),
-        (
-            first,
-            [0x11, 0x7f, 0x1e, 0x02, 0x00, 0x11, 0x1e, 0x7f],
-            [0, 1, 1, 1, 0, 0, 0, 1],
-        ),
-        // A letter is not held: what was held before it is.
-        (
-            middle,
-            [0x11, 0x23, 0x41, 0x1e, 0x2c, 0x1e, 0x20, 0x1e],
-            [0, 0, 1, 0, 1, 1, 0, 0],
-        ),
-        // Flash after and steady at once, by the number of fields.
-        (
-            off,
-            [0x17, 0x1e, 0x7f, 0x08, 0x7f, 0x09, 0x7f, 0x41],
-            [0, 0, 7, 7, 0, 7, 7, 7],
-        ),
-        (
-            first,
-            [0x17, 0x1e, 0x7f, 0x08, 0x7f, 0x09, 0x7f, 0x41],
-            [0, 0, 7, 7, 7, 7, 7, 7],
-        ),
-        (
-            Line {
-                fields: 79,
-                ..first
-            },
-            [0x08, 0x41, 0x01, 0x41, 0x11, 0x7f, 0x09, 0x7f],
-            [0, 0, 0, 0, 0, 0, 0, 1],
-        ),
-        (
-            Line {
-                fields: 63,
-                ..first
-            },
-            [0x08, 0x41, 0x01, 0x41, 0x11, 0x7f, 0x09, 0x7f],
-            [0, 7, 0, 1, 0, 1, 0, 1],
-        ),
-        // Conceal at once, up to the cell after a colour; steady does not end it.
-        (
-            first,
-            [0x17, 0x1e, 0x7f, 0x18, 0x7f, 0x09, 0x13, 0x7f],
-            [0, 0, 7, 0, 0, 0, 0, 3],
-        ),
-        (
-            first,
-            [0x41, 0x18, 0x41, 0x02, 0x41, 0x18, 0x1d, 0x41],
-            [7, 0, 0, 0, 2, 0, 2, 2],
-        ),
-        // Separated and contiguous; what is held keeps its own gaps.
-        (
-            first,
-            [0x11, 0x1e, 0x7f, 0x1a, 0x7f, 0x19, 0x7f, 0x1a],
-            [0, 0, 1, 1, 9, 9, 1, 1],
-        ),
-        // New background and black background, at once.
-        (
-            first,
-            [0x01, 0x1d, 0x20, 0x04, 0x41, 0x1c, 0x20, 0x41],
-            [0, 1, 1, 1, 4, 0, 0, 4],
-        ),
-        // Double height after and normal height at once: the upper half, and the lower half in a bottom row.
-        (
-            middle,
-            [0x42, 0x0d, 0x42, 0x0c, 0x42, 0x0d, 0x43, 0x41],
-            [0, 0, 7, 0, 0, 0, 0, 7],
-        ),
-        (
-            first,
-            [0x42, 0x43, 0x0d, 0x42, 0x43, 0x0c, 0x42, 0x43],
-            [7, 0, 0, 7, 0, 0, 7, 0],
-        ),
-        (
-            bottom,
-            [0x42, 0x43, 0x0d, 0x42, 0x43, 0x0c, 0x42, 0x43],
-            [0, 0, 0, 0, 7, 0, 0, 0],
-        ),
-        // A change of the height makes what is held blank: after double height, at normal height.
-        (
-            first,
-            [0x11, 0x1e, 0x7f, 0x0d, 0x1e, 0x7f, 0x0c, 0x0c],
-            [0, 0, 1, 1, 0, 1, 0, 0],
-        ),
-        (
-            first,
-            [0x11, 0x1e, 0x7f, 0x0c, 0x0d, 0x7f, 0x0d, 0x1e],
-            [0, 0, 1, 1, 1, 1, 1, 1],
-        ),
-        // Other codes do nothing.
-        (
-            first,
-            [0x11, 0x1e, 0x7f, 0x00, 0x0a, 0x0b, 0x0e, 0x7f],
-            [0, 0, 1, 1, 1, 1, 1, 1],
-        ),
-        (
-            first,
-            [0x11, 0x1e, 0x7f, 0x0f, 0x10, 0x1b, 0x7f, 0x41],
-            [0, 0, 1, 1, 1, 1, 1, 1],
-        ),
-    ];
-    for (line, codes, want) in rows {
-        assert_eq!(rt; colours(&font, codes, line), want, "{codes:?}");
+    for line in CELLS.lines() {
+        if !line.starts_with('#') {
+            assert!(rt; are_coloured(&font, line) == Some(true), "{line}");
+        }
     }
     Ok(())
 }

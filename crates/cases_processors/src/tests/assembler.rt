@@ -7,12 +7,12 @@ use std::alloc::{AllocError, Global};
 use std::test::Fail;
 
 // A line is a case: the part and what a source text comes to, and behind `@` the text, in which `|` ends a line. It comes to its origin
-// and its bytes, or to its first offending line.
+// and its bytes, or to its first offending line. Where nothing stands before `@`, it is what stands there above.
 const TEXTS: &str = "\
 6502 C000 A9 41 8D 70 00 D0 F9@org &C000|start: LDA #&41|STA &0070|BNE start
 65C02 0000 B2 12@LDA (&12)|
 6502 0000@
-6502 0000@||
+@||
 # Blanks, comments and cases.
 6502 0000 A9 01@ \t; org 5: #||\tlda\t# 1 ;x|
 6502 0000 0A 0A 2A@asl a|ASL A|rOl\tA ; A
@@ -50,54 +50,54 @@ const TEXTS: &str = "\
 # Outside the syntax, and no such form.
 6502 line 3: syntax@lda #1||foo bar|
 6502 line 1: syntax@A: byte 1
-6502 line 1: syntax@x:
-6502 line 1: syntax@Y:
-6502 line 1: syntax@1a: byte 1
-6502 line 1: syntax@a1: b1: byte 1
-6502 line 1: syntax@LDA #1\r|
-6502 line 1: syntax@LDA 123456
-6502 line 1: syntax@LDA &12345
-6502 line 1: syntax@LDA &
-6502 line 1: syntax@LDA #
-6502 line 1: syntax@LDA x
-6502 line 1: syntax@LDA #1 2
-6502 line 1: syntax@LDA (1),X
-6502 line 1: syntax@LDA (1,Y)
-6502 line 1: syntax@LDA 1,Z
-6502 line 1: syntax@LDA 1 + 1
-6502 line 1: syntax@LDA <
-6502 line 1: syntax@byte
-6502 line 1: syntax@byte 1,
-6502 line 1: syntax@org start
-6502 line 1: syntax@org 1,2
+@x:
+@Y:
+@1a: byte 1
+@a1: b1: byte 1
+@LDA #1\r|
+@LDA 123456
+@LDA &12345
+@LDA &
+@LDA #
+@LDA x
+@LDA #1 2
+@LDA (1),X
+@LDA (1,Y)
+@LDA 1,Z
+@LDA 1 + 1
+@LDA <
+@byte
+@byte 1,
+@org start
+@org 1,2
 6502 line 1: no such form of the instruction@LDA (&12)
-6502 line 1: no such form of the instruction@BRA 0
-6502 line 1: no such form of the instruction@INX 1
-6502 line 1: no such form of the instruction@ASL
-6502 line 1: no such form of the instruction@STA #1
-6502 line 1: no such form of the instruction@STX &1234,Y
-6502 line 1: no such form of the instruction@LDA (&1234),Y
-6502 line 1: no such form of the instruction@LDA (&1234,X)
-6502 line 1: no such form of the instruction@JMP (&1234,X)
+@BRA 0
+@INX 1
+@ASL
+@STA #1
+@STX &1234,Y
+@LDA (&1234),Y
+@LDA (&1234,X)
+@JMP (&1234,X)
 65C02 line 1: no such form of the instruction@LDA (x1)|x1:
 6502 line 3: the label stands at an earlier line@a1:|A1:|a1: inx
 6502 line 2: out of range@org 5|org 4
-6502 line 2: out of range@byte 1|org 0
+@byte 1|org 0
 6502 line 1: out of range@org 65536
-6502 line 1: out of range@LDA 99999
-6502 line 1: out of range@x1: byte <x1 + 65536
+@LDA 99999
+@x1: byte <x1 + 65536
 6502 line 2: past the end of memory@org 65535|word 1
-6502 line 2: past the end of memory@org 65534|LDA &1234
+@org 65534|LDA &1234
 6502 line 3: past the end of memory@org 65535|byte 1|byte 2
 6502 line 1: unknown label@byte q
-6502 line 1: unknown label@q: LDA Q + 1
+@q: LDA Q + 1
 6502 line 1: out of range@byte 256
-6502 line 1: out of range@LDA #256
+@LDA #256
 6502 line 2: out of range@org &1000|BNE &1082
-6502 line 2: out of range@org &1000|BNE &0F81
-6502 line 2: out of range@byte 0|x1: word x1 + 65535
-6502 line 2: out of range@org 65533|word end|byte 0|end:
-6502 line 2: out of range@org 65534|byte <end,0|end:
+@org &1000|BNE &0F81
+@byte 0|x1: word x1 + 65535
+@org 65533|word end|byte 0|end:
+@org 65534|byte <end,0|end:
 # Of several things on one line.
 6502 line 2: syntax@a1:|a1: foo
 6502 line 2: no such form of the instruction@a1:|a1: INX 1
@@ -168,11 +168,8 @@ fn comes_to(alloc: Global, part: Part, text: &[u8], want: &str) -> Result<bool, 
     }
 }
 
-// Whether a line holds. One that begins with `#` is none.
-fn holds(alloc: Global, line: &str) -> Result<bool, Fail> {
-    let Some((case, source)) = line.split_once('@') else {
-        return Ok(line.starts_with('#'));
-    };
+// Whether a text comes to what stands before it.
+fn holds(alloc: Global, case: &str, source: &str) -> Result<bool, Fail> {
     let (part, want) = case.split_once(' ').unwrap_or((case, ""));
     let part = if part == "65C02" { Cmos } else { Nmos };
     let mut text = Vec::new(alloc);
@@ -182,9 +179,17 @@ fn holds(alloc: Global, line: &str) -> Result<bool, Fail> {
 
 #[test]
 fn texts_come_to_their_bytes_or_to_their_first_offending_line(rt: HostRuntime) -> Result<(), Fail> {
+    let mut case = String::new(rt.alloc());
     for line in TEXTS.lines() {
-        let holds = holds(rt.alloc(), line)?;
-        assert!(rt; holds, "{line}");
+        if let Some((head, source)) = line.split_once('@') {
+            if !head.is_empty() {
+                case = String::from_str(rt.alloc(), head)?;
+            }
+            let holds = holds(rt.alloc(), case.as_str(), source)?;
+            assert!(rt; holds, "{case}@{source}");
+        } else {
+            assert!(rt; line.starts_with('#'), "{line}");
+        }
     }
     Ok(())
 }

@@ -1,7 +1,7 @@
 //! The 65C02, by its data sheet: each instruction, its accesses, and what comes between instructions.
 mod rows;
 
-use super::words::{are, byte};
+use super::words::{are, before, byte, leaves, registers};
 use cpu_alu::Cycle::{Read, Write};
 use cpu_alu::{Cycle, Regs};
 use cpu65c02::{Cpu, cycles_of_the_table, part};
@@ -114,15 +114,17 @@ impl Sequence {
     }
 
     /// Whether it took so many cycles, left these registers and made these writes.
-    fn came_to(&self, want: &[u8]) -> bool {
+    fn came_to(&self, before: Regs, want: &[u8]) -> bool {
         let [cycles, b' ', rest @ ..] = want else {
             return false;
         };
-        let after = rest.get(..19).unwrap_or(&[]);
-        let writes = rest.get(19..).unwrap_or(&[]);
-        (usize::from(cycles.wrapping_sub(b'0')) == self.cycles)
-            & are(after, self.after)
-            & self.wrote(writes)
+        let mut is_so = false;
+        for len in [10, 19] {
+            let after = rest.get(..len).unwrap_or(&[]);
+            let writes = rest.get(len..).unwrap_or(&[]);
+            is_so |= leaves(before, after, self.after) & self.wrote(writes);
+        }
+        is_so & (usize::from(cycles.wrapping_sub(b'0')) == self.cycles)
     }
 }
 
@@ -159,24 +161,6 @@ fn done(cpu: &Cpu, memory: &Memory) -> Option<Sequence> {
     }
 }
 
-/// The registers before an instruction. LOW: no indexed address crosses a page, and all flags are clear. HIGH: indexed addresses cross pages, the
-/// stack wraps at a push, and all flags but D are set. TOP: addresses wrap, and the stack wraps at a pull. DECIMAL: D and C are set.
-fn before(name: &[u8]) -> Option<Regs> {
-    match name {
-        b"LOW" => Some(registers(0x5A, 0x23, 0x14, 0xFD, 0x00)),
-        b"HIGH" => Some(registers(0xC3, 0x23, 0xE4, 0x00, 0xC7)),
-        b"TOP" => Some(registers(0x80, 0xFF, 0xFF, 0xFF, 0x04)),
-        b"DECIMAL" => Some(registers(0x58, 0x23, 0x14, 0xFD, 0x09)),
-        _ => None,
-    }
-}
-
-/// The registers at 040D.
-fn registers(a: u8, x: u8, y: u8, s: u8, p: u8) -> Regs {
-    let pc = 0x040D;
-    Regs { pc, a, x, y, s, p }
-}
-
 /// Starts at 0400, and comes to 040D with these registers.
 fn set_up(memory: &mut Memory, before: Regs) -> Cpu {
     let Regs { a, x, y, s, p, .. } = before;
@@ -202,15 +186,17 @@ fn run(code: &[u8], before: Regs) -> Option<Sequence> {
     if is_before { done(&cpu, &memory) } else { None }
 }
 
-/// Does the instruction of a line's beginning: its three bytes, and the registers before it.
-fn done_of(head: &str) -> Option<Sequence> {
-    match head.as_bytes() {
-        [a, b, b' ', c, d, b' ', e, f, b' ', name @ ..] => {
-            let code = [byte(*a, *b), byte(*c, *d), byte(*e, *f)];
-            run(&code, before(name)?)
-        }
-        _ => None,
-    }
+/// Does the instruction of a line's beginning: its bytes, and the registers before it, which it gives too.
+fn done_of(head: &str) -> Option<(Regs, Sequence)> {
+    let (code, name) = head.rsplit_once(' ')?;
+    let code = match code.as_bytes() {
+        [a, b] => [byte(*a, *b), 0, 0],
+        [a, b, b' ', c, d] => [byte(*a, *b), byte(*c, *d), 0],
+        [a, b, b' ', c, d, b' ', e, f] => [byte(*a, *b), byte(*c, *d), byte(*e, *f)],
+        _ => return None,
+    };
+    let before = before(name)?;
+    Some((before, run(&code, before)?))
 }
 
 /// Whether an instruction ends as its line says, with these cycles, registers and writes or, where so asked, with these accesses.
@@ -219,8 +205,8 @@ fn ends_so(line: &str, by_access: bool) -> bool {
         return false;
     };
     match done_of(head) {
-        Some(done) if by_access => done.made(want),
-        Some(done) => done.came_to(want.as_bytes()),
+        Some((_, done)) if by_access => done.made(want),
+        Some((before, done)) => done.came_to(before, want.as_bytes()),
         None => false,
     }
 }
@@ -232,45 +218,45 @@ fn documented_instructions_do_what_the_data_sheet_says(rt: HostRuntime) {
     }
 }
 
-/// A line is an instruction, its bytes and the registers before it, and behind `@` its accesses, a write with its byte.
+/// A line is an instruction, its bytes but 00 at the end and the registers before it, and behind `@` its accesses, a write with its byte.
 const ACCESSES: &str = "\
 # LDA zp,X
-B5 42 00 LOW@040D 040E 040E 0065
+B5 42 LOW@040D 040E 040E 0065
 # LDA abs,X without a page crossed, and with one
 BD 10 32 LOW@040D 040E 040F 3233
 BD F0 32 LOW@040D 040E 040F 040F 3313
 # STA abs,X
 9D 10 32 LOW@040D 040E 040F 040F 3233=5A
 # INC zp and abs,X
-E6 42 00 LOW@040D 040E 0042 0042 0042=90
+E6 42 LOW@040D 040E 0042 0042 0042=90
 FE 10 32 LOW@040D 040E 040F 040F 3233 3233 3233=8B
 # ASL abs,X without a page crossed, and with one
 1E 10 32 LOW@040D 040E 040F 3233 3233 3233=14
 1E F0 32 LOW@040D 040E 040F 040F 3313 3313 3313=EA
 # LDA (zp), (zp,X) and (zp),Y
-B2 52 00 LOW@040D 040E 0052 0053 04DF
-A1 31 00 LOW@040D 040E 040E 0054 0055 4E29
-B1 52 00 LOW@040D 040E 0052 0053 04F3
+B2 52 LOW@040D 040E 0052 0053 04DF
+A1 31 LOW@040D 040E 040E 0054 0055 4E29
+B1 52 LOW@040D 040E 0052 0053 04F3
 # STA (zp),Y
-91 52 00 LOW@040D 040E 0052 0053 040E 04F3=5A
+91 52 LOW@040D 040E 0052 0053 040E 04F3=5A
 # BRA, in its page and into another, and BEQ
-80 17 00 LOW@040D 040E 040E
-80 E0 00 LOW@040D 040E 040E 040E
-F0 17 00 LOW@040D 040E
+80 17 LOW@040D 040E 040E
+80 E0 LOW@040D 040E 040E 040E
+F0 17 LOW@040D 040E
 # JMP (abs,X)
 7C 10 32 LOW@040D 040E 040F 040F 3233 3234
 # JSR, RTS, RTI, PHA and PLA
 20 34 12 LOW@040D 040E 01FD 01FD=04 01FC=0F 040F
-60 00 00 LOW@040D 040E 01FD 01FE 01FF EBC6
-40 00 00 LOW@040D 040E 01FD 01FE 01FF 0100
-48 00 00 LOW@040D 040E 01FD=5A
-68 00 00 LOW@040D 040E 01FD 01FE
+60 LOW@040D 040E 01FD 01FE 01FF EBC6
+40 LOW@040D 040E 01FD 01FE 01FF 0100
+48 LOW@040D 040E 01FD=5A
+68 LOW@040D 040E 01FD 01FE
 # ADC # and abs in decimal mode
-69 46 00 DECIMAL@040D 040E 040E
+69 46 DECIMAL@040D 040E 040E
 6D 10 32 DECIMAL@040D 040E 040F 3210 040F
 # an opcode that does nothing, of three bytes and of one
 5C 10 32 LOW@040D 040E 040F 040F 040F 040F 040F 040F
-03 00 00 LOW@040D
+03 LOW@040D
 ";
 
 #[test]
@@ -348,7 +334,7 @@ fn comes_to(cpu: &mut Cpu, memory: &mut Memory, want: &str) -> bool {
     let starts = cpu.starting();
     finish(cpu, memory);
     match done(cpu, memory) {
-        Some(done) => starts & done.came_to(want.as_bytes()),
+        Some(done) => starts & done.came_to(done.after, want.as_bytes()),
         None => false,
     }
 }

@@ -1,7 +1,7 @@
 //! The NMOS 6502, by its manuals: each instruction's accesses, and what comes between instructions.
 mod rows;
 
-use super::words::{are, byte};
+use super::words::{are, before, byte, leaves};
 use cpu_alu::Cycle::{Read, Write};
 use cpu_alu::Regs;
 use cpu6502::{Cpu, cycles_of_the_table, part};
@@ -21,20 +21,6 @@ fn feed(cpu: &mut Cpu, bytes: &[u8]) {
     }
 }
 
-/// The registers before an instruction. LOW: no indexed address crosses a page, and all flags are clear. HIGH: indexed addresses cross pages, the
-/// stack wraps at a push, and all flags but D are set. TOP: addresses wrap, and the stack wraps at a pull. DECIMAL: D and C are set.
-fn before(name: &str) -> Option<Regs> {
-    let (a, x, y, s, p) = match name {
-        "LOW" => (0x5A, 0x23, 0x14, 0xFD, 0x00),
-        "HIGH" => (0xC3, 0x23, 0xE4, 0x00, 0xC7),
-        "TOP" => (0x80, 0xFF, 0xFF, 0xFF, 0x04),
-        "DECIMAL" => (0x58, 0x23, 0x14, 0xFD, 0x09),
-        _ => return None,
-    };
-    let pc = 0x040D;
-    Some(Regs { pc, a, x, y, s, p })
-}
-
 /// A processor that has come to 040D with these registers, or none.
 fn set_up(before: Regs) -> Option<Cpu> {
     let Regs { a, x, y, s, p, .. } = before;
@@ -52,41 +38,43 @@ fn set_up(before: Regs) -> Option<Cpu> {
     }
 }
 
-/// Whether the next access is this one: a read, whose byte it gets, or a write.
-fn accesses(cpu: &mut Cpu, access: &[u8]) -> bool {
-    let [kind, a, b, c, d, b'=', high, low] = access else {
-        return false;
+/// Whether the next access is this one: a read, whose byte it gets, or a write. Without an address it is a read of this one.
+fn accesses(cpu: &mut Cpu, code: u16, access: &[u8]) -> bool {
+    let (kind, address, high, low) = match access {
+        [b'=', high, low] => (b'r', four_digits(code), *high, *low),
+        [kind, a, b, c, d, b'=', high, low] => (*kind, [*a, *b, *c, *d], *high, *low),
+        _ => return false,
     };
     if cpu.last() {
         return false;
     }
     let is_wanted = match cpu.want() {
-        Read(at) => (*kind == b'r') & ([*a, *b, *c, *d] == four_digits(at)),
+        Read(at) => (kind == b'r') & (address == four_digits(at)),
         Write(at, byte) => {
-            (*kind == b'w')
-                & ([*a, *b, *c, *d] == four_digits(at))
-                & ([*high, *low] == two_digits(byte))
+            (kind == b'w') & (address == four_digits(at)) & ([high, low] == two_digits(byte))
         }
     };
-    cpu.give(byte(*high, *low));
+    cpu.give(byte(high, low));
     is_wanted
 }
 
 /// Whether the next accesses are these.
 fn makes(cpu: &mut Cpu, list: &str) -> bool {
+    let mut code = 0x040Du16;
     for access in list.split(' ') {
-        if !accesses(cpu, access.as_bytes()) {
+        if !accesses(cpu, code, access.as_bytes()) {
             return false;
         }
+        code = code.wrapping_add(1);
     }
     true
 }
 
 /// Whether the sequence that began makes these accesses and no more, and leaves these registers.
-fn goes(cpu: &mut Cpu, after: &str, list: &str) -> bool {
+fn goes(cpu: &mut Cpu, before: Regs, after: &str, list: &str) -> bool {
     let is_made = makes(cpu, list);
     if cpu.last() {
-        is_made & !cpu.starting() & are(after.as_bytes(), cpu.at_end())
+        is_made & !cpu.starting() & leaves(before, after.as_bytes(), cpu.at_end())
     } else {
         false
     }
@@ -101,7 +89,7 @@ fn goes_from(before: Regs, after: &str, list: &str) -> bool {
         cpu.take_lines(false, false);
     }
     let starts = cpu.starting() & (cpu.at_start() == before);
-    goes(&mut cpu, after, list) & starts
+    goes(&mut cpu, before, after, list) & starts
 }
 
 /// Whether an instruction goes as its line says.
@@ -209,15 +197,17 @@ fn holds(cpu: &mut Cpu, line: &str) -> Option<bool> {
     let (head, rest) = line.split_once('@')?;
     let (after, list) = rest.split_once('@')?;
     begin(cpu, head);
-    Some(goes(cpu, after, list))
+    let before = cpu.at_start();
+    Some(goes(cpu, before, after, list))
 }
 
 #[test]
 fn nmi_comes_before_irq_and_a_reset_keeps_the_registers(rt: HostRuntime) {
     let mut cpu = Cpu::new();
-    assert!(rt; are(b"0000 00 00 00 00 00", cpu.at_start()) & !cpu.starting());
+    let start = cpu.at_start();
+    assert!(rt; are(b"0000 00 00 00 00 00", start) & !cpu.starting());
     let reset = "r0000=00 r0000=00 r0100=00 r01FF=00 r01FE=00 rFFFC=00 rFFFD=C0";
-    assert!(rt; goes(&mut cpu, "C000 00 00 00 FD 04", reset));
+    assert!(rt; goes(&mut cpu, start, "C000 00 00 00 FD 04", reset));
     for line in LOOKS.lines() {
         assert!(rt; holds(&mut cpu, line) == Some(true), "{line}");
     }

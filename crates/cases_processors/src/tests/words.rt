@@ -33,3 +33,37 @@ pub(super) fn are(text: &[u8], regs: Regs) -> bool {
     ]
     .as_slice()
 }
+
+/// Whether the registers are these, where X, Y and S are told, or stay as they were.
+pub(super) fn leaves(before: Regs, text: &[u8], after: Regs) -> bool {
+    let [x, m] = two_digits(before.x);
+    let [y, n] = two_digits(before.y);
+    let [s, t] = two_digits(before.s);
+    match text {
+        [i, j, k, l, b' ', a, b, b' ', p, q] => are(
+            &[
+                *i, *j, *k, *l, b' ', *a, *b, b' ', x, m, b' ', y, n, b' ', s, t, b' ', *p, *q,
+            ],
+            after,
+        ),
+        _ => are(text, after),
+    }
+}
+
+/// The registers at 040D.
+pub(super) fn registers(a: u8, x: u8, y: u8, s: u8, p: u8) -> Regs {
+    let pc = 0x040D;
+    Regs { pc, a, x, y, s, p }
+}
+
+/// The registers before an instruction. LOW: no indexed address crosses a page, and all flags are clear. HIGH: indexed addresses cross pages, the
+/// stack wraps at a push, and all flags but D are set. TOP: addresses wrap, and the stack wraps at a pull. DECIMAL: D and C are set.
+pub(super) fn before(name: &str) -> Option<Regs> {
+    match name {
+        "LOW" => Some(registers(0x5A, 0x23, 0x14, 0xFD, 0x00)),
+        "HIGH" => Some(registers(0xC3, 0x23, 0xE4, 0x00, 0xC7)),
+        "TOP" => Some(registers(0x80, 0xFF, 0xFF, 0xFF, 0x04)),
+        "DECIMAL" => Some(registers(0x58, 0x23, 0x14, 0xFD, 0x09)),
+        _ => None,
+    }
+}

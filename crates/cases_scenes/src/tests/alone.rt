@@ -4,19 +4,15 @@ use std::test::Fail;
 
 const SCENES: &str = "\
 # Reads give FE, writes do nothing, and each access takes its one cycle: the ticks of the starts are those of the data sheet's cycles.
-os
-| org &C000
+do os
 | LDA &FEE0
 | STA &70
 | STA &FEE5
 | INC &FEE3
 | LDX &FEFF
-| here: JMP here
-| org &FFFC
-| word &C000, 0
+do here
 t
-$ follow host t 100 o --os os --no-tube
-= 0: listed 7 of 7
+do follows 7 host t 100 o --os os --no-tube
 file o.list
 | 0000000015 C000 A=00 X=00 Y=00 S=FD P=24 LDA &FEE0
 | 0000000021 C003 A=FE X=00 Y=00 S=FD P=A4 STA &70
@@ -37,8 +33,7 @@ at o.host 0070 FE 00
 $ replay host t 100 o --os os
 = 8: differs 1 000000001E H R 0 --
 ## At 4 MHz each tick is half as long.
-$ follow host t 200 o --os os --speed 4 --no-tube --from 83
-= 0: listed 5 of 5
+do follows 5 host t 200 o --os os --speed 4 --no-tube --from 83
 file o.list
 | 0000000054 C005 A=FE X=00 Y=00 S=FD P=A4 STA &FEE5
 | 000000006C C008 A=FE X=00 Y=00 S=FD P=A4 INC &FEE3
@@ -46,8 +41,7 @@ file o.list
 | 00000000A8 C00E A=FE X=FE Y=00 S=FD P=A4 JMP &C00E
 | 00000000BA C00E A=FE X=FE Y=00 S=FD P=A4 JMP &C00E
 # An operating system that asks for the Tube finds none, and with one it does: its control byte is read back as a status.
-os
-| org &C000
+do os
 | LDA #&81
 | STA &FEE0
 | LDA &FEE0
@@ -55,45 +49,34 @@ os
 | BCC none
 | INC &70
 | none: INC &71
-| here: JMP here
-| org &FFFC
-| word &C000, 0
+do here
 t
 $ replay host t 200 o --os os --no-tube
 = 0
 at o.host 0070 00 01
-t
-| 0000000024 H W 0 81
-| 0000000030 H R 0 41
+ticks 24 H W 0 81, 30 H R 0 41
 $ replay host t 200 o --os os
 = 0
 at o.host 0070 01 01
 # A poll that never ends: LDA, CMP and BNE take 4, 2 and 3 cycles.
-os
-| org &C000
+do os
 | poll: LDA &FEE0
 | CMP #&FF
 | BNE poll
-| org &FFFC
-| word &C000, 0
+do start C000
 t
-$ follow host t 600021 o --os os --no-tube --at C000 --from 599967
-= 0: listed 2 of 2
+do follows 2 host t 600021 o --os os --no-tube --at C000 --from 599967
 file o.list
 | 00000927B4 C000 A=FE X=00 Y=00 S=FD P=A4 LDA &FEE0
 | 00000927CF C000 A=FE X=00 Y=00 S=FD P=A4 LDA &FEE0
 # Code at FEE0 is FE FE FE, INC &FEFE,X; the eleventh is FE FE and the operating system's 00. No byte of it stands in memory, so that it has no text.
-os
-| org &C000
+do os
 | JMP &FEE0
 | org &FF00
 | byte 0
-| here: JMP here
-| org &FFFC
-| word &C000, 0
+do here
 t
-$ follow host t 270 o --os os --no-tube
-= 0: listed 13 of 13
+do follows 13 host t 270 o --os os --no-tube
 file o.list
 | 0000000015 C000 A=00 X=00 Y=00 S=FD P=24 JMP &FEE0
 | 000000001E FEE0 A=00 X=00 Y=00 S=FD P=24 ?
@@ -116,22 +99,12 @@ os loop
 keys
 | at 60 break
 t
-$ follow host t 97 o --os os --keys keys --no-tube
-= 0: listed 7 of 7
-file o.list
-| 0000000015 C000 A=00 X=00 Y=00 S=FD P=24 JMP &C000
-| 000000001E C000 A=00 X=00 Y=00 S=FD P=24 JMP &C000
-| 0000000027 C000 A=00 X=00 Y=00 S=FD P=24 JMP &C000
-| 0000000030 C000 A=00 X=00 Y=00 S=FD P=24 JMP &C000
-| 0000000039 C000 A=00 X=00 Y=00 S=FD P=24 JMP &C000
-| 0000000057 C000 A=00 X=00 Y=00 S=FA P=24 JMP &C000
-| 0000000060 C000 A=00 X=00 Y=00 S=FA P=24 JMP &C000
-os
-| org &C000
+do follows 7 host t 97 o --os os --keys keys --no-tube
+do break-list
+do os
 | INC &70
 | byte &02
-| org &FFFC
-| word &C000, 0
+do start C000
 keys
 | at 62 break
 | at 130 break
@@ -147,8 +120,7 @@ at o.host 0070 03
 $ replay host t 200 o --os os --keys keys
 = 8: differs 1 000000003E H X 0 00
 # Interrupts and devices are as with a Tube: timer 1 of the user's 6522 interrupts a halted poll.
-os
-| org &C000
+do os
 | LDA #&C0
 | STA &FE6E
 | LDA #20
@@ -170,8 +142,7 @@ at o.host 0070 01
 # The trace has to be empty, whatever stands in it; the words are for a host by itself alone.
 os loop
 tube loop
-t
-| 0000000024 H R 0 40
+ticks 24 H R 0 40
 $ replay host t 100 o --os os --no-tube
 = 4 bad trace 1 kind 5
 $ follow host t 100 o --os os --no-tube
@@ -183,7 +154,7 @@ $ replay host t 100 o --os os --no-tube --speed 4
 t
 ! replay para t 100 o --tube tube --no-tube
 ! follow para t 100 o --tube tube --no-tube
-! solo 100 o --os os --tube tube --no-tube
+! solo 100 o % --no-tube
 ! replay host t 100 o --os os --no-tube --no-tube
 ! replay host t 100 o --no-tube
 ";

@@ -1,5 +1,6 @@
 //! Devices that are handed in: each is dropped once, whatever comes of the words, and an access is one call of one of them.
-use super::scene::{failing, words_of};
+use super::programs::program;
+use super::scene::{calls_of, words_of};
 use asm65::assemble;
 use beeb_bits::NoMemory;
 use beeb_files::{Crew, FailCrew, MemOutlet, MemShelf, ThreadCrew};
@@ -73,16 +74,9 @@ org &FFFC
 word &C000, 0
 ";
 
-const TUBE: &str = "\
-org &F800
-loop: JMP loop
-org &FFFC
-word loop, 0
-";
-
 fn shelf(alloc: Global, os: &str) -> Result<MemShelf, Fail> {
     let os = assemble(alloc, Part::Nmos, os.as_bytes())?.bytes;
-    let tube = assemble(alloc, Part::Cmos, TUBE.as_bytes())?.bytes;
+    let tube = assemble(alloc, Part::Cmos, program("tube", "loop").as_bytes())?.bytes;
     let wrong = b"0000000000 H R 0 00\n".to_vec(alloc)?;
     let mut files = Vec::new(alloc);
     files.push((String::from_str(alloc, "os")?, os))?;
@@ -123,14 +117,14 @@ const ROWS: &str = "\
 fn counted<C: Crew, R: Threads + Wait + Sync>(
     rt: &R,
     alloc: Global,
-    put_fails: Option<u32>,
+    put_fails: &str,
     words: &str,
     crew: &mut C,
 ) -> Result<(u8, u64), Fail> {
     let drops = Arc::new(alloc, AtomicU64::new(0))?;
     let plugs = two(alloc, &drops)?;
     let mut shelf = shelf(alloc, OS)?;
-    let mut out = MemOutlet::make(alloc, failing(alloc, put_fails)?);
+    let mut out = MemOutlet::make(alloc, calls_of(alloc, put_fails)?);
     let words = words_of(alloc, words)?;
     let status = top(rt, alloc, &words, &mut shelf, &mut out, crew, plugs);
     Ok((status.number(), drops.load(Ordering::SeqCst)))
@@ -155,11 +149,11 @@ fn each_device_is_dropped_once(rt: HostRuntime) -> Result<(), Fail> {
         let (fails, words) = rest.split_once(' ').unwrap_or((rest, ""));
         let wanted = (status.parse().unwrap_or(0), 2);
         let mut crew = ThreadCrew::make();
-        let got = counted(&rt, alloc, fails.parse().ok(), words, &mut crew)?;
+        let got = counted(&rt, alloc, fails, words, &mut crew)?;
         assert!(rt; got == wanted, "{row}");
     }
     let words = "run 100 o --os os --tube tube --plugs 2";
-    let got = counted(&rt, alloc, None, words, &mut FailCrew::make())?;
+    let got = counted(&rt, alloc, "-", words, &mut FailCrew::make())?;
     assert!(rt; got == (6, 2));
     assert!(rt; counted_alone(alloc, words)? == (1, 2));
     assert!(rt; counted_alone(alloc, "check none")? == (0, 2));

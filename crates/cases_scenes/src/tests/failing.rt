@@ -17,7 +17,7 @@ lang
 | byte 0
 tube letters
 t
-* 6400 x E5 E5 E5 E5 E5 E5 E5 E5 E5 E5 E5 E5 E5 E5 E5 E5
+* 102400 x E5
 keys
 | at 200000 down 64
 | at 400000 down 22
@@ -103,6 +103,18 @@ end
 ";
 
 const FILES: &str = "\
+part image
+= 3 bad image {}
+left 0
+end
+part script
+keys
+| at 5 shot
++ {}
+$ solo 100 o % --keys keys
+= 4 bad script 2 kind 1
+left 0
+end
 # Images one byte short and one byte long. The first of them is told, and nothing is written.
 os loop
 tube loop
@@ -110,47 +122,37 @@ each 16383, 16385
 t
 * {} x EA
 $ solo 7 o --os t --tube tube
-= 3 bad image os {}
-left 0
+do image os {}
 run 7 o --speed 4 --os t --tube tube
-= 3 bad image os {}
-left 0
+do image os {}
 $ replay host keys 7 o --os t
-= 3 bad image os {}
-left 0
+do image os {}
 end
 each 16383, 16385, 8191, 8193
 t
 * {} x EA
 $ solo 7 o % --rom0 t
-= 3 bad image rom0 {}
-left 0
+do image rom0 {}
 run 7 o % --rom15 t
-= 3 bad image rom15 {}
-left 0
+do image rom15 {}
 $ replay host keys 7 o --os os --rom9 t
-= 3 bad image rom9 {}
-left 0
+do image rom9 {}
 end
 each 2047, 2049
 t
 * {} x EA
 $ solo 7 o --os os --tube t --rom0 t
-= 3 bad image tube {}
-left 0
+do image tube {}
 run 7 o --os os --tube t --speed 4
-= 3 bad image tube {}
-left 0
+do image tube {}
 $ replay para keys 7 o --tube t
-= 3 bad image tube {}
-left 0
+do image tube {}
 end
 each 959, 961
 t
 * {} x 3F
 run 7 o % --font t --disc0 t
-= 3 bad image font {}
-left 0
+do image font {}
 end
 t
 * 204799 x 07
@@ -160,8 +162,7 @@ size o.d1 204799
 t
 * 204801 x 07
 run 7 o % --disc0 t.dsd --disc1 t
-= 3 bad image disc1 204801
-left 0
+do image disc1 204801
 t
 * 409599 x 07
 run 7 o % --disc0 t.dsd
@@ -170,8 +171,7 @@ size o.d0 409599
 t
 * 409601 x 07
 run 7 o % --disc0 t.dsd
-= 3 bad image disc0 409601
-left 0
+do image disc0 409601
 # A trace that is cut in its last line, at each place, and one that is cut in its first.
 os loop
 tube loop
@@ -179,8 +179,7 @@ cuts 000000001C P R 2 7F
 t
 | 0000000014 H R 0 40
 + {}
-$ check t
-= 4 bad trace 2 kind 1
+do bad 2 kind 1
 end
 $ replay host t 2000 o --os os
 = 4 bad trace 2 kind 1
@@ -195,8 +194,7 @@ t
 | T2
 | 0000000014 H R 0 40
 + 000000001C H X 0 0
-$ check t
-= 4 bad trace 2 kind 1
+do bad 2 kind 1
 $ replay para t 2000 o --speed 4 --tube tube
 = 4 bad trace 2 kind 1
 none o.report o.para
@@ -205,38 +203,21 @@ $ follow host t 2000 o --speed 4 --os os
 none o.list
 t
 + T
-$ check t
-= 4 bad trace 1 kind 1
+do bad 1 kind 1
 t
 + 0
-$ check t
-= 4 bad trace 1 kind 1
+do bad 1 kind 1
 # A script that is cut in its last line, at each place.
 os loop
 tube loop
 cuts at 6 down 41
-keys
-| at 5 shot
-+ {}
-$ solo 100 o % --keys keys
-= 4 bad script 2 kind 1
-left 0
+do script {}
 end
 cuts adc 3 FFF0
-keys
-| at 5 shot
-+ at 6 {}
-$ solo 100 o % --keys keys
-= 4 bad script 2 kind 1
-left 0
+do script at 6 {}
 end
 cuts break
-keys
-| at 5 shot
-+ at 6 {}
-$ solo 100 o % --keys keys
-= 4 bad script 2 kind 1
-left 0
+do script at 6 {}
 end
 each down 41, adc 3 FFF0, break
 keys

@@ -74,6 +74,7 @@ pub(crate) fn devices(alloc: Global, names: &str) -> Result<Vec<Box<dyn BusDevic
     let mut plugs: Vec<Box<dyn BusDevice + Send>> = Vec::new(alloc);
     for name in names.split(' ') {
         match name {
+            "none" => {}
             "card" => plugs.push(Box::new(alloc, RamCard::make(alloc)?)?)?,
             "latch" => plugs.push(Box::new(alloc, PrinterLatch::make(alloc)?)?)?,
             "mute" => {

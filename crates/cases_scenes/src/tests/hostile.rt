@@ -4,15 +4,25 @@ use super::scene::all_hold;
 use std::test::Fail;
 
 const MACHINES: &str = "\
-# A host that holds the second processor and halts, for a million ticks.
-os
-| org &C000
-| LDA #&A0
-| STA &FEE0
-| byte 2
-| org &FFFC
-| word &C000, 0
-tube loop
+part goes-on
+$ resume t {} o --wav w --save s
+= 0
+left 6
+end
+part taken-up
+$ resume t 1000 o --save s
+= 0
+same o.report o.host o.para o.trace o.plug0 o.plug1 s
+end
+part listed
+= 0
+| listed {} of {}
+file o.list
+end
+part jump
+| {} F800 A=00 X=00 Y=00 S=FD P=24 JMP &F800
+end
+part stopped
 $ solo 1000000 o % --wav w --save s
 = 0
 file o.report
@@ -22,6 +32,25 @@ file o.report
 | tube 1
 | kept 1
 | frames 0
+end
+part both-stopped
+$ replay host t 1000000 {} --os os --wav w
+= 0
+line o.report host PC=C005 A=A0 X=00 Y=00 S=FD P=A4 halted
+same o.host w
+$ replay para t 1000000 {} --tube tube
+= 0
+line o.report para PC=F800 A=00 X=00 Y=00 S=FD P=24 held
+same o.para
+end
+# A host that holds the second processor and halts, for a million ticks.
+do os
+| LDA #&A0
+| STA &FEE0
+| byte 2
+do start C000
+tube loop
+do stopped
 file o.trace
 | 0000000024 H W 0 A0
 size w 10462
@@ -32,52 +61,25 @@ run 1000000 o % --wav w --save s
 = 0
 left 6
 take s
-$ resume t 1000000 o --wav w --save s
-= 0
-left 6
+do goes-on 1000000
 run {} o % --save s
 = 0
 take s
-$ resume t 1000000 o --wav w --save s
-= 0
-left 6
+do goes-on 1000000
 end
-t
-| 0000000024 H W 0 A0
-$ replay host t 1000000 o --os os --wav w
-= 0
-line o.report host PC=C005 A=A0 X=00 Y=00 S=FD P=A4 halted
-same o.host w
-$ replay para t 1000000 o --tube tube
-= 0
-line o.report para PC=F800 A=00 X=00 Y=00 S=FD P=24 held
-same o.para
+ticks 24 H W 0 A0
+do both-stopped o
 $ follow host t 1000000 o --os os
-= 0
-| listed 3 of 3
-file o.list
+do listed 3
 | 0000000015 C000 A=00 X=00 Y=00 S=FD P=24 LDA #&A0
 | 000000001B C002 A=A0 X=00 Y=00 S=FD P=A4 STA &FEE0
 | 0000000027 C005 A=A0 X=00 Y=00 S=FD P=A4 byte &02
 $ follow para t 1000000 o --tube tube
-= 0
-| listed 4 of 4
-file o.list
-| 000000000E F800 A=00 X=00 Y=00 S=FD P=24 JMP &F800
-| 0000000014 F800 A=00 X=00 Y=00 S=FD P=24 JMP &F800
-| 000000001A F800 A=00 X=00 Y=00 S=FD P=24 JMP &F800
-| 0000000020 F800 A=00 X=00 Y=00 S=FD P=24 JMP &F800
+do listed 4
+do jump 000000000E, 0000000014, 000000001A, 0000000020
 ## The same at 4 MHz.
 with --speed 4 --os os --tube tube
-$ solo 1000000 o % --wav w --save s
-= 0
-file o.report
-| ticks 1000000
-| host PC=C005 A=A0 X=00 Y=00 S=FD P=A4 halted
-| para PC=F800 A=00 X=00 Y=00 S=FD P=24 held
-| tube 1
-| kept 1
-| frames 0
+do stopped
 file o.trace
 | T2
 | 0000000048 H W 0 A0
@@ -88,65 +90,38 @@ again 1000
 t
 | T2
 | 0000000048 H W 0 A0
-$ replay host t 1000000 o --speed 4 --os os --wav w
-= 0
-line o.report host PC=C005 A=A0 X=00 Y=00 S=FD P=A4 halted
-same o.host w
-$ replay para t 1000000 o --speed 4 --tube tube
-= 0
-line o.report para PC=F800 A=00 X=00 Y=00 S=FD P=24 held
-same o.para
+do both-stopped o --speed 4
 $ follow host t 1000000 o --speed 4 --os os
-= 0
-| listed 3 of 3
-file o.list
+do listed 3
 | 000000002A C000 A=00 X=00 Y=00 S=FD P=24 LDA #&A0
 | 0000000036 C002 A=A0 X=00 Y=00 S=FD P=A4 STA &FEE0
 | 000000004E C005 A=A0 X=00 Y=00 S=FD P=A4 byte &02
 $ follow para t 1000000 o --speed 4 --tube tube
-= 0
-| listed 6 of 6
-file o.list
-| 0000000015 F800 A=00 X=00 Y=00 S=FD P=24 JMP &F800
-| 000000001E F800 A=00 X=00 Y=00 S=FD P=24 JMP &F800
-| 0000000027 F800 A=00 X=00 Y=00 S=FD P=24 JMP &F800
-| 0000000030 F800 A=00 X=00 Y=00 S=FD P=24 JMP &F800
-| 0000000039 F800 A=00 X=00 Y=00 S=FD P=24 JMP &F800
-| 0000000042 F800 A=00 X=00 Y=00 S=FD P=24 JMP &F800
+do listed 6
+do jump 0000000015, 000000001E, 0000000027, 0000000030, 0000000039, 0000000042
 # Code from the Tube, which ends in breaks without end at 0000, for a million ticks.
 os loop
-tube
-| org &F800
-| start: JMP &FEF8
-| org &FFFC
-| word start, 0
+do status-code
 $ solo 1000000 o % --wav w --save s
 = 0
 line o.report para PC=0000 A=00 X=00 Y=00 S=FA P=24
 line o.report tube 2
 file o.trace
-| 0000000014 P R 0 40
-| 0000000016 P R 1 00
+do entries 014 P R 0 40, 016 P R 1 00
 keep
 again 22
-t
-| 0000000014 P R 0 40
-| 0000000016 P R 1 00
+ticks 14 P R 0 40, 16 P R 1 00
 $ replay para t 1000000 o --tube tube
 = 0
 line o.report para PC=0000 A=00 X=00 Y=00 S=FA P=24
 same o.para
 $ follow para t 33 o --tube tube
-= 0
-| listed 3 of 3
-file o.list
+do listed 3
 | 000000000E F800 A=00 X=00 Y=00 S=FD P=24 JMP &FEF8
 | 0000000014 FEF8 A=00 X=00 Y=00 S=FD P=24 ?
 | 0000000020 0000 A=00 X=00 Y=00 S=00 P=20 BRK
 $ follow para t 33 o --tube tube --at FEF8
-= 0
-| listed 1 of 1
-file o.list
+do listed 1
 | 0000000014 FEF8 A=00 X=00 Y=00 S=FD P=24 ?
 $ follow para t 1000000 o --tube tube --watch FEF8
 = 0
@@ -160,29 +135,23 @@ line o.report para PC=0000 A=00 X=00 Y=00 S=00 P=24
 line o.report tube 2
 file o.trace
 | T2
-| 000000001E P R 0 40
-| 0000000021 P R 1 00
+do entries 01E P R 0 40, 021 P R 1 00
 keep
 again 33
 t
 | T2
-| 000000001E P R 0 40
-| 0000000021 P R 1 00
+do entries 01E P R 0 40, 021 P R 1 00
 $ replay para t 1000000 o --speed 4 --tube tube
 = 0
 line o.report para PC=0000 A=00 X=00 Y=00 S=00 P=24
 same o.para
 $ follow para t 49 o --speed 4 --tube tube
-= 0
-| listed 3 of 3
-file o.list
+do listed 3
 | 0000000015 F800 A=00 X=00 Y=00 S=FD P=24 JMP &FEF8
 | 000000001E FEF8 A=00 X=00 Y=00 S=FD P=24 ?
 | 0000000030 0000 A=00 X=00 Y=00 S=00 P=20 BRK
 $ follow para t 49 o --speed 4 --tube tube --at FEF8
-= 0
-| listed 1 of 1
-file o.list
+do listed 1
 | 000000001E FEF8 A=00 X=00 Y=00 S=FD P=24 ?
 $ follow para t 1000000 o --speed 4 --tube tube --watch FEF8
 = 0
@@ -190,8 +159,7 @@ $ follow para t 1000000 o --speed 4 --tube tube --watch FEF8
 size o.list 0
 # A device that owns all of FRED and JIM, in front of a RAM card, which nothing reaches.
 plugs counter card
-os
-| org &C000
+do os
 | LDA #5
 | STA &FCFF
 | LDA #&77
@@ -200,9 +168,7 @@ os
 | LDA &FD00
 | STA &FEE1
 | STA &70
-| here: JMP here
-| org &FFFC
-| word &C000, 0
+do here
 tube loop
 $ solo 1000 o % --plugs 2 --save s
 = 0
@@ -212,7 +178,7 @@ file o.trace
 file o.plug0
 x 04
 file o.plug1
-* 4096 x 00 00 00 00 00 00 00 00 00 00 00 00 00 00 00 00
+* 65536 x 00
 keep
 run 1000 o % --plugs 8
 = 0
@@ -220,9 +186,7 @@ same o.report o.host o.para o.trace o.plug0 o.plug1
 $ solo 1000 o % --plugs 2 --save s
 = 0
 take s
-$ resume t 1000 o --save s
-= 0
-same o.report o.host o.para o.trace o.plug0 o.plug1 s
+do taken-up
 $ resume t 111 o --save s
 = 0
 line o.report tube 0
@@ -230,14 +194,11 @@ file o.plug0
 x 04
 size o.plug1 65536
 take s
-$ resume t 1000 o --save s
-= 0
-same o.report o.host o.para o.trace o.plug0 o.plug1 s
+do taken-up
 run 2000 o --speed 4 % --plugs 2
 = 0
 same o.host o.plug0 o.plug1
-t
-| 000000006F H W 1 03
+ticks 6F H W 1 03
 $ replay host t 1000 o --os os --plugs 2
 = 0
 same o.host o.plug0 o.plug1
@@ -246,9 +207,7 @@ $ follow host t 1000 o --os os --plugs 2 --at C00D --watch FD00
 | listed 0 of 0
 size o.list 0
 $ follow host t 112 o --os os --plugs 2 --at C00D
-= 0
-| listed 1 of 1
-file o.list
+do listed 1
 | 0000000054 C00D A=77 X=00 Y=00 S=FD P=24 LDA &FD00
 ## With the card in front, the host does something else.
 plugs card counter
@@ -272,12 +231,7 @@ tube letters
 $ solo 2000 o --keep 0 % --wav w --save s
 = 0
 file o.report
-| ticks 2000
-| host PC=C011 A=49 X=02 Y=00 S=FD P=27
-| para PC=F815 A=49 X=FF Y=00 S=FD P=24
-| tube 49
-| kept 0
-| frames 0
+do letters 0
 at o.host 0070 48 49 00
 size o.trace 0
 size w 66
@@ -305,8 +259,7 @@ file o.trace
 # A crew that starts no thread: every command but `run` goes on without one.
 os letters
 tube letters
-t
-| 0000000014 H R 0 40
+ticks 14 H R 0 40
 alone check t
 = 0: ok 1
 t
@@ -335,9 +288,7 @@ alone replay para t 2000 o --tube tube
 = 0
 same o.para
 alone follow host t 2000 o --os os --watch 0070
-= 0
-| listed 1 of 1
-file o.list
+do listed 1
 | 00000003CC C00C A=48 X=00 Y=00 S=FD P=24 INX
 alone solo 1000 o % --save s
 = 0

@@ -3,49 +3,53 @@ use super::scene::all_hold;
 use std::test::Fail;
 
 const SCENES: &str = "\
-# check: each call that fails is told.
-t
-| 0000000000 H R 0 40
-fails 0 -
+part checked
+ticks H R 0 {1}
+fails {2} {3}
 $ check t
-= 2 cannot read t
+= {4+}
 none out
-t
-| 0000000000 H R 0 40
+end
+part para-fails
+fails {1} {2}
+$ replay para t 100 o --tube tube
+= {3+}
+none o.report o.para
+end
+part roms
+$ replay host t 100 o --rom9 t --os os --rom7 t
+= {}
+none o.report o.host
+end
+part unread
+fails {1} -
+$ solo 7 o {3+}
+= 2 cannot read {2}
+none o.report o.host o.para o.trace
+end
+part short
+fails - -
+$ solo 7 o {2+}
+= 3 bad image {1} 1
+none o.report o.host o.para o.trace
+end
+part unwritten
+fails - {1}
+$ solo 7 o --tube tube --os os
+= 5 cannot write {2}
+end
+# check: each call that fails is told.
+do checked 40 0 - 2 cannot read t
+ticks H R 0 40
 fails - -
 $ check absent
 = 2 cannot read absent
 none out
-t
-| 0000000000 H R 0 40
+ticks H R 0 40
 fails 1,2 1,2
-$ check t
-= 0: ok 1
+do ok 1
 none out
-t
-| 0000000000 H R 0 40
-fails - 0
-$ check t
-= 5 cannot write -
-none out
-t
-| 0000000000 H R 0 00
-fails - 0
-$ check t
-= 5 cannot write -
-none out
-t
-| 0000000000 H R 0 00
-fails - -
-$ check t
-= 8: wrong 1 40
-none out
-t
-| 0000000000 H R 0 00
-fails 0 0
-$ check t
-= 2 cannot read t
-none out
+do checked 40 - 0 5 cannot write -, 00 - 0 5 cannot write -, 00 - - 8: wrong 1 40, 00 0 0 2 cannot read t
 # asm: nothing is written before the text is known to be good.
 t
 + NOP
@@ -95,8 +99,7 @@ file out
 | NOP
 # replay para: the first cause.
 tube loop
-t
-| 0000000014 H R 0 40
+ticks 14 H R 0 40
 fails - -
 $ replay para absent 100 o --tube absent
 = 2 cannot read absent
@@ -105,18 +108,7 @@ fails - -
 $ replay para t 100 o --tube absent
 = 2 cannot read absent
 none o.report o.para
-fails 0 -
-$ replay para t 100 o --tube tube
-= 2 cannot read t
-none o.report o.para
-fails 1 -
-$ replay para t 100 o --tube tube
-= 2 cannot read tube
-none o.report o.para
-fails - 0
-$ replay para t 100 o --tube tube
-= 5 cannot write o.report
-none o.report o.para
+do para-fails 0 - 2 cannot read t, 1 - 2 cannot read tube, - 0 5 cannot write o.report
 fails - 1
 $ replay para t 100 o --tube tube
 = 5 cannot write o.para
@@ -128,8 +120,7 @@ $ replay para t 100 o --tube tube
 line o.report ticks 100
 size o.para 65536
 # replay para: lengths before the trace's form, its form before its answers.
-tube
-| org &F800
+do tube
 | byte 0
 | org &FFFE
 | byte 0
@@ -147,60 +138,39 @@ $ replay para t 100 o --tube tube
 none o.report o.para
 # replay host: the first cause.
 os letters
-t
-| 0000000000 H R 0 40
+ticks H R 0 40
 fails 0 -
-$ replay host t 100 o --os os
-= 2 cannot read t
-none o.report o.host
+do unlike 2 cannot read t
 fails 1 -
-$ replay host t 100 o --os os
-= 2 cannot read os
-none o.report o.host
+do unlike 2 cannot read os
 # replay host: the operating system before the ROMs, these by their slots, and lengths before forms.
 os letters
-t
-| 0000000000 H R 0 40
+ticks H R 0 40
 fails 2 -
-$ replay host t 100 o --rom9 t --os os --rom7 t
-= 2 cannot read t
-none o.report o.host
+do roms 2 cannot read t
 fails 3 -
-$ replay host t 100 o --rom9 t --os os --rom7 t
-= 2 cannot read t
-none o.report o.host
+do roms 2 cannot read t
 fails - -
 t
 + x
-os
-| org &C000
+do os
 | byte 0
 | org &FFFE
 | byte 0
-$ replay host t 100 o --rom9 t --os os --rom7 t
-= 3 bad image os 16383
-none o.report o.host
+do roms 3 bad image os 16383
 os letters
-$ replay host t 100 o --rom9 t --os os --rom7 t
-= 3 bad image rom7 1
-none o.report o.host
+do roms 3 bad image rom7 1
 $ replay host t 100 o --os t --rom3 os
 = 3 bad image os 1
 none o.report o.host
-$ replay host t 100 o --os os
-= 4 bad trace 1 kind 1
-none o.report o.host
+do unlike 4 bad trace 1 kind 1
 # replay host: puts that fail.
-os
-| org &C000
+do os
 | byte 2
-| org &FFFC
-| word &C000, 0
+do start C000
 t
 fails - 0
-$ replay host t 100 o --os os
-= 5 cannot write o.report
-none o.report o.host
+do unlike 5 cannot write o.report
 fails - 1
 $ replay host t 100 o --os os
 = 5 cannot write o.host
@@ -215,59 +185,21 @@ os letters
 tube loop
 t
 + x
-fails - -
-$ solo 7 o --tube no --os none
-= 2 cannot read none
-none o.report o.host o.para o.trace
-fails - -
-$ solo 7 o --rom0 os --tube no --os os
-= 2 cannot read no
-none o.report o.host o.para o.trace
-fails 0 -
-$ solo 7 o --tube tube --os os
-= 2 cannot read os
-none o.report o.host o.para o.trace
-fails 1 -
-$ solo 7 o --tube tube --os os
-= 2 cannot read tube
-none o.report o.host o.para o.trace
-fails 2 -
-$ solo 7 o --rom0 os --tube tube --os os
-= 2 cannot read os
-none o.report o.host o.para o.trace
-fails - -
-$ solo 7 o --tube t --os t
-= 3 bad image os 1
-none o.report o.host o.para o.trace
-fails - -
-$ solo 7 o --rom3 t --tube t --os os
-= 3 bad image tube 1
-none o.report o.host o.para o.trace
-fails - -
-$ solo 7 o --rom3 t --tube tube --os os
-= 3 bad image rom3 1
-none o.report o.host o.para o.trace
+do unread - none --tube no --os none, - no --rom0 os --tube no --os os, 0 os --tube tube --os os, 1 tube --tube tube --os os, 2 os --rom0 os --tube tube --os os
+do short os --tube t --os t, tube --rom3 t --tube t --os os, rom3 --rom3 t --tube tube --os os
 # solo: the files before the one that fails are whole, and no other is written.
 os letters
 tube loop
-fails - 0
-$ solo 7 o --tube tube --os os
-= 5 cannot write o.report
+do unwritten 0 o.report
 none o.report o.host o.para o.trace
-fails - 1
-$ solo 7 o --tube tube --os os
-= 5 cannot write o.host
+do unwritten 1 o.host
 line o.report ticks 7
 none o.host o.para o.trace
-fails - 2
-$ solo 7 o --tube tube --os os
-= 5 cannot write o.para
+do unwritten 2 o.para
 line o.report ticks 7
 size o.host 32768
 none o.para o.trace
-fails - 3
-$ solo 7 o --tube tube --os os
-= 5 cannot write o.trace
+do unwritten 3 o.trace
 line o.report ticks 7
 size o.host 32768
 size o.para 65536

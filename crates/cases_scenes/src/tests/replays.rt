@@ -3,204 +3,99 @@ use super::scene::all_hold;
 use std::test::Fail;
 
 const SCENES: &str = "\
+part para-unlike
+$ replay --tube tube para t 2000 o
+= {}
+none o.report o.para
+end
 # Reset, held and let go.
 tube loop
-t
-| 0000000062 H W 0 A0
-| 0000000065 H W 0 20
-$ replay para t 200 o --tube tube
-= 0
-file o.report
-| ticks 200
-| para PC=F800 A=00 X=00 Y=00 S=FA P=24
-| tube 0
+ticks 62 H W 0 A0, 65 H W 0 20
+do para 200 0 PC=F800 A=00 X=00 Y=00 S=FA P=24
 size o.para 65536
 # Reset, held.
 tube loop
-t
-| 0000000062 H W 0 A0
-$ replay para t 200 o --tube tube
-= 0
-file o.report
-| ticks 200
-| para PC=F800 A=00 X=00 Y=00 S=FD P=24 held
-| tube 0
+ticks 62 H W 0 A0
+do para 200 0 PC=F800 A=00 X=00 Y=00 S=FD P=24 held
 size o.para 65536
 # The Tube's status as code.
-tube
-| org &F800
-| start: JMP &FEF8
-| org &FFFC
-| word start, 0
-t
-| 0000000014 P R 0 40
-| 0000000016 P R 1 00
-$ replay para t 32 o --tube tube
-= 0
-file o.report
-| ticks 32
-| para PC=0000 A=00 X=00 Y=00 S=00 P=20
-| tube 2
+do status-code
+ticks 14 P R 0 40, 16 P R 1 00
+do para 32 2 PC=0000 A=00 X=00 Y=00 S=00 P=20
 size o.para 65536
 # The whole trace is checked, and entries from the last tick on are not replayed.
 tube loop
-t
-| 0000000000 H R 0 40
-| 0000000014 P R 0 40
-$ replay para t 0 o --tube tube
-= 0
-file o.report
-| ticks 0
-| para PC=0000 A=00 X=00 Y=00 S=00 P=20
-| tube 0
+ticks 0 H R 0 40, 14 P R 0 40
+do para 0 0 PC=0000 A=00 X=00 Y=00 S=00 P=20
 size o.para 65536
 # Two letters to register 1.
 tube letters
-t
-| 000000039A P W 1 48
-| 00000003A6 P W 1 49
-$ replay para t 2000 o --tube tube
-= 0
-file o.report
-| ticks 2000
-| para PC=F815 A=49 X=FF Y=00 S=FD P=24
-| tube 2
+ticks 39A P W 1 48, 3A6 P W 1 49
+do para 2000 2 PC=F815 A=49 X=FF Y=00 S=FD P=24
 size o.para 65536
 # No entry where the second processor writes or reads.
 tube letters
 t
-$ replay --tube tube para t 2000 o
-= 8: differs 1 000000039A P W 1 48
-none o.report o.para
-tube
-| org &F800
-| start: JMP &FEF8
-| org &FFFC
-| word start, 0
+do para-unlike 8: differs 1 000000039A P W 1 48
+do status-code
 t
-$ replay --tube tube para t 2000 o
-= 8: differs 1 0000000014 P R 0 --
-none o.report o.para
-tube
-| org &F800
-| start: JMP &FEF8
-| org &FFFC
-| word start, 0
-t
-| 0000000001 H R 0 40
-| 0000000014 P R 0 40
-$ replay --tube tube para t 2000 o
-= 8: differs 3 0000000016 P R 1 --
-none o.report o.para
+do para-unlike 8: differs 1 0000000014 P R 0 --
+do status-code
+ticks 1 H R 0 40, 14 P R 0 40
+do para-unlike 8: differs 3 0000000016 P R 1 --
 # Another register and another tick.
-tube
-| org &F800
-| start: JMP &FEF8
-| org &FFFC
-| word start, 0
-t
-| 0000000014 P R 2 7F
-$ replay --tube tube para t 2000 o
-= 8: differs 1 0000000014 P R 0 --
-none o.report o.para
-tube
-| org &F800
-| start: JMP &FEF8
-| org &FFFC
-| word start, 0
-t
-| 0000000013 P R 0 40
-$ replay --tube tube para t 2000 o
-= 8: differs 1 0000000014 P R 0 --
-none o.report o.para
+do status-code
+ticks 14 P R 2 7F
+do para-unlike 8: differs 1 0000000014 P R 0 --
+do status-code
+ticks 13 P R 0 40
+do para-unlike 8: differs 1 0000000014 P R 0 --
 # An entry where it does nothing more.
 tube loop
-t
-| 0000000001 H R 0 40
-| 0000000014 P R 0 40
-$ replay --tube tube para t 2000 o
-= 8: differs 2 -
-none o.report o.para
+ticks 1 H R 0 40, 14 P R 0 40
+do para-unlike 8: differs 2 -
 # A trace that the chip would not give is told before it is replayed.
 tube loop
-t
-| 0000000014 P R 0 41
-$ replay --tube tube para t 2000 o
-= 8: wrong 1 40
-none o.report o.para
+ticks 14 P R 0 41
+do para-unlike 8: wrong 1 40
 # An opcode without an instruction.
-os
-| org &C000
+do os
 | byte 2
-| org &FFFC
-| word &C000, 0
+do start C000
 t
-$ replay host t 100 o --os os
-= 0
-file o.report
-| ticks 100
-| host PC=C000 A=00 X=00 Y=00 S=FD P=24 halted
-| tube 0
-| frames 0
+do host 100 0 PC=C000 A=00 X=00 Y=00 S=FD P=24 halted
 at o.host 0070 00
 size o.host 32768
 # A return address on the stack.
-os
-| org &C000
+do os
 | JSR &C100
-| org &FFFC
-| word &C000, 0
+do start C000
 t
-$ replay host t 31 o --os os
-= 0
-file o.report
-| ticks 31
-| host PC=C000 A=00 X=00 Y=00 S=FD P=24
-| tube 0
-| frames 0
+do host 31 0 PC=C000 A=00 X=00 Y=00 S=FD P=24
 at o.host 01FD C0
 size o.host 32768
 # A byte of the Tube, read, written back and written.
-os
-| org &C000
+do os
 | INC &FEE1
-| org &FFFC
-| word &C000, 0
-t
-| 000000001E H R 1 00
-| 0000000021 H W 1 00
-| 0000000024 H W 1 01
-$ replay host t 40 o --os os
-= 0
-file o.report
-| ticks 40
-| host PC=C003 A=00 X=00 Y=00 S=FD P=24
-| tube 3
-| frames 0
+do start C000
+ticks 1E H R 1 00, 21 H W 1 00, 24 H W 1 01
+do host 40 3 PC=C003 A=00 X=00 Y=00 S=FD P=24
 at o.host 01FD 00
 size o.host 32768
 # Nothing is done in no ticks.
 os letters
 t
-$ replay host t 0 o --os os
-= 0
-file o.report
-| ticks 0
-| host PC=0000 A=00 X=00 Y=00 S=00 P=20
-| tube 0
-| frames 0
+do host 0 0 PC=0000 A=00 X=00 Y=00 S=00 P=20
 at o.host 0070 00
 size o.host 32768
 # A paged ROM is in the slot of its option: the first byte of that of slot 15, to 0070.
-os
-| org &C000
+do os
 | LDA #15
 | STA &FE30
 | LDA &8000
 | STA &70
 | stop: JMP stop
-| org &FFFC
-| word &C000, 0
+do start C000
 t
 $ replay --rom15 os host --os os t 200 o
 = 0
@@ -210,39 +105,24 @@ $ replay --rom14 os host --os os t 200 o
 at o.host 0070 FF
 # Where the host differs.
 os letters
-t
-| 0000000001 P R 0 00
-$ replay host t 100 o --os os
-= 8: wrong 1 40
-none o.report o.host
+ticks 1 P R 0 00
+do unlike 8: wrong 1 40
 os letters
 t
-$ replay host t 100 o --os os
-= 8: differs 1 0000000024 H R 0 --
-none o.report o.host
+do unlike 8: differs 1 0000000024 H R 0 --
 top replay host t 100 o --os os
 = 8: differs 1 0000000024 H R 0 --
 none o.report o.host
-os
-| org &C000
+do os
 | INC &FEE1
-| org &FFFC
-| word &C000, 0
-t
-| 0000000000 H R 0 40
-$ replay host t 100 o --os os
-= 8: differs 1 000000001E H R 1 --
-none o.report o.host
-os
-| org &C000
+do start C000
+ticks H R 0 40
+do unlike 8: differs 1 000000001E H R 1 --
+do os
 | byte 2
-| org &FFFC
-| word &C000, 0
-t
-| 0000000000 H R 0 40
-$ replay host t 100 o --os os
-= 8: differs 1 -
-none o.report o.host
+do start C000
+ticks H R 0 40
+do unlike 8: differs 1 -
 ";
 
 #[test]

@@ -3,7 +3,7 @@
 //! A line is a step. What it speaks of stands in the lines below it:
 //!
 //! - `| TEXT` is the text and a line feed, and `+ TEXT` the text alone,
-//! - `x 4C 00` are bytes, and `* N LINE` is one of these N times.
+//! - `x 4C 00..FF` are bytes, here 4C and all from 00 to FF, and `* N LINE` is one of these N times.
 //!
 //! Lines that are done for each of a list are written out first (`sheet.rt`).
 //!
@@ -12,11 +12,12 @@
 //! - `# TITLE` begins a scene: nothing lies on the shelf, and no call fails. `## MORE` goes on with its title.
 //! - `t`: the files `t`, `t.dsd` and `game.ssd` have these bytes, and with `keys` the file `keys`. `os`, `lang` and `dfs`, and `tube`: the files of
 //!   these names are the images of these source texts, for the 6502 and the 65C02; with a name, as `os letters`, of the program of that name
-//!   (`programs.rt`). `ticks A, B`: the file `t` is a trace of these accesses, one at each tick from 0.
-//! - `plugs NAME..`: these devices are handed in: `card` and `latch`, which are handed in where no others are named, a `counter`, or a `mute`.
+//!   (`programs.rt`). `ticks A, B`: the file `t` is a trace of these accesses, one at each tick from 0, or as `2A H R 0 40` each behind its tick.
+//! - `plugs NAME..`: these devices are handed in: `card` and `latch`, which are handed in where no others are named, a `counter`, a `mute`, or `none`.
 //! - `fails N,.. M,..`: these calls of the shelf and these of the outlet fail, where `-` is none.
-//! - `$ WORDS`: the words are carried out, where `''` is a word of no letters. `run ..`: these very words are carried out, in two threads, `top
-//!   WORDS`: so are these, by the call that has a crew, and `alone WORDS` by a crew that starts no thread. In words `%` is `--os os --tube tube`, or what a step `with WORDS` says in place of it.
+//! - `$ WORDS`: the words are carried out, where `''` is a word of no letters. `run ..`: these very words are carried out, in two threads. `top
+//!   WORDS`: so are these, in one, by the call that has a crew, `alone WORDS` by a crew that starts no thread, and `slow WORDS` by one that
+//!   begins its second job late. In words `%` is `--os os --tube tube`, or what a step `with WORDS` says in place of it.
 //! - `= STATUS`: they ended with this number and text, the kind of the offence where there is one, and what was said behind a
 //!   colon, or below. `! WORDS` carries out words that are outside the grammar.
 //! - `file NAME`: the file was written with these bytes. `none NAME..`: these were not written. `line NAME TEXT`: this is one of
@@ -30,6 +31,7 @@ ghost use Rattle.std.specs.Prelude.{◌≡◌, IfOk, string_bytes};
 
 use super::guests::devices;
 use super::programs::program;
+use super::runs::SlowCrew;
 use super::sheet::written_out;
 use asm65::assemble;
 use beeb_files::{Crew, FailCrew, MemOutlet, MemShelf, ThreadCrew};
@@ -130,14 +132,26 @@ fn add(alloc: Global, bytes: &mut Vec<u8>, line: &str) -> Result<(), Fail> {
 
 fn add_once(bytes: &mut Vec<u8>, mark: &str, rest: &str) -> Result<(), Fail> {
     if mark == "x" {
-        for byte in rest.split(' ') {
-            bytes.push((hex(byte) % 256) as u8)?;
+        for row in rest.split(' ') {
+            let (first, last) = row.split_once("..").unwrap_or((row, row));
+            add_row(bytes, hex(first), hex(last))?;
         }
     } else {
         bytes.extend_from_slice(rest.as_bytes())?;
         if mark == "|" {
             bytes.push(b'\n')?;
         }
+    }
+    Ok(())
+}
+
+// Adds the bytes from the first to the last, which may be the lower.
+fn add_row(bytes: &mut Vec<u8>, first: u32, last: u32) -> Result<(), AllocError> {
+    for more in 0..=last.saturating_sub(first) {
+        bytes.push((first.wrapping_add(more) % 256) as u8)?;
+    }
+    for less in 1..=first.saturating_sub(last) {
+        bytes.push((first.wrapping_sub(less) % 256) as u8)?;
     }
     Ok(())
 }
@@ -194,9 +208,26 @@ impl Scene {
                 self.lay_file(word, program(word, rest).as_bytes())
             }
             "t" | "keys" | "os" | "lang" | "dfs" | "tube" => self.lay_file(word, bytes),
-            "run" => self.share(rt, step, &mut ThreadCrew::make()),
-            "top" => self.share(rt, rest, &mut ThreadCrew::make()),
-            "alone" => self.share(rt, rest, &mut FailCrew::make()),
+            "run" => {
+                let mut crew = ThreadCrew::make();
+                self.share(rt, step, &mut crew)?;
+                Ok(crew.pairs() == 1 || self.told.as_slice() != b"0".as_slice())
+            }
+            "top" => {
+                let mut crew = ThreadCrew::make();
+                self.share(rt, rest, &mut crew)?;
+                Ok(crew.pairs() == 0)
+            }
+            "alone" => {
+                let mut crew = FailCrew::make();
+                self.share(rt, rest, &mut crew)?;
+                Ok((crew.faults() == 1) == rest.starts_with("run "))
+            }
+            "slow" => {
+                let mut crew = SlowCrew::make();
+                self.share(rt, rest, &mut crew)?;
+                Ok(crew.waited())
+            }
             "$" | "!" | "trace" | "keep" => self.act(word, rest),
             "none" | "same" => self.are_left(word, rest),
             "left" => self.first_are_left(number(rest)),
@@ -291,7 +322,7 @@ impl Scene {
         rt: &R,
         words: &str,
         crew: &mut C,
-    ) -> Result<bool, Fail> {
+    ) -> Result<(), Fail> {
         let alloc = self.alloc;
         let mut shelf = self.shelf()?;
         let mut out = MemOutlet::make(alloc, self.put_fails.to_vec(alloc)?);
@@ -300,7 +331,7 @@ impl Scene {
         let status = top(rt, alloc, &words, &mut shelf, &mut out, crew, plugs);
         self.told = told(alloc, &status, out.said())?;
         self.out = out;
-        Ok(true)
+        Ok(())
     }
 
     fn words(&self, row: &str) -> Result<Vec<String>, AllocError> {
@@ -443,18 +474,22 @@ fn has_bytes(file: &[u8], row: &str) -> bool {
     true
 }
 
-// The text of a trace: accesses parted by commas, one at each tick from 0.
+// The text of a trace: accesses parted by commas, each behind its tick, or one at each tick from 0.
 fn trace(alloc: Global, accesses: &str) -> Result<Vec<u8>, AllocError> {
     let mut text = Vec::new(alloc);
-    for (tick, access) in accesses.split(',').enumerate() {
-        let line = format!(in alloc; "{:010X} {}\n", tick, access.trim())?;
+    for (tick, access) in accesses.split(", ").enumerate() {
+        let (first, rest) = access.split_once(' ').unwrap_or((access, ""));
+        let line = match first {
+            "H" | "P" => format!(in alloc; "{:010X} {}\n", tick, access)?,
+            _ => format!(in alloc; "{:010X} {}\n", hex(first), rest)?,
+        };
         text.extend_from_slice(line.as_bytes())?;
     }
     Ok(text)
 }
 
-// The numbers of a list, with commas between them.
-fn calls_of(alloc: Global, list: &str) -> Result<Vec<u32>, AllocError> {
+/// The numbers of a list, with commas between them.
+pub(crate) fn calls_of(alloc: Global, list: &str) -> Result<Vec<u32>, AllocError> {
     let mut calls = Vec::new(alloc);
     for digits in list.split(',') {
         if let Ok(number) = digits.parse() {
@@ -462,15 +497,6 @@ fn calls_of(alloc: Global, list: &str) -> Result<Vec<u32>, AllocError> {
         }
     }
     Ok(calls)
-}
-
-/// The numbers of the calls that fail: this one, if any.
-pub(crate) fn failing(alloc: Global, call: Option<u32>) -> Result<Vec<u32>, AllocError> {
-    let mut fail = Vec::new(alloc);
-    if let Some(number) = call {
-        fail.push(number)?;
-    }
-    Ok(fail)
 }
 
 /// The words of a row.

@@ -1,21 +1,28 @@
 //! Lines of scenes that are done for each of a list, written out.
 //!
-//! - `each ITEM, ITEM, ..`: the lines from here to `end` are done for each of these, one after the other. In them `{}` is the item, and `{1}` and `{2}`
-//!   are its first word and its second.
+//! - `each ITEM, ITEM, ..`: the lines from here to `end` are done for each of these, one after the other. In them `{}` is the item, `{1}`, `{2}`, ..
+//!   are its words, and `{2+}` is all from the second on.
 //! - `cuts TEXT`: so too, for each beginning of the text, from its first letter alone to all of it.
+//! - `part NAME`: the lines from here to `end` are done wherever a line `do NAME ITEM, ITEM, ..` stands, for each of these; with no item once. Within
+//!   lines that are open still it adds to them.
 //! - `again ITEM, ITEM, ..`: the lines that stood up to the last `end`, for each of these.
 //!
-//! Where an `end` is wanting, a step that does not hold is written in place of the lines.
+//! Where an `end` or a part is wanting, a step that does not hold is written in place of the lines.
+use super::programs::PARTS;
 use std::alloc::{AllocError, Global};
+use std::mem;
 use std::test::Fail;
 
-/// What is written out so far, and the lines up to the last `end`, or those that are still open, with the items for which they are done.
+/// What is written out so far, the parts, and the lines that are open, with their name, of no letters where they are none, and the items for which
+/// they are done.
 #[derive(Drop)]
 struct Sheet {
     alloc: Global,
     text: String,
+    parts: Vec<(String, String)>,
+    name: String,
+    lines: String,
     items: Vec<String>,
-    lines: Vec<String>,
     is_open: bool,
 }
 
@@ -24,15 +31,19 @@ pub(crate) fn written_out(alloc: Global, scenes: &str) -> Result<String, AllocEr
     let mut sheet = Sheet {
         alloc,
         text: String::new(alloc),
+        parts: Vec::new(alloc),
+        name: String::new(alloc),
+        lines: String::new(alloc),
         items: Vec::new(alloc),
-        lines: Vec::new(alloc),
         is_open: false,
     };
-    for line in scenes.lines() {
-        sheet.add(line)?;
+    for text in [PARTS, scenes] {
+        for line in text.lines() {
+            sheet.add(line)?;
+        }
     }
     if sheet.is_open {
-        add_line(&mut sheet.text, "no end")?;
+        sheet.text.push_str("no end\n")?;
     }
     Ok(sheet.text)
 }
@@ -42,62 +53,96 @@ impl Sheet {
         let alloc = self.alloc;
         let (word, rest) = line.split_once(' ').unwrap_or((line, ""));
         match word {
-            "each" | "cuts" | "again" if self.is_open => add_line(&mut self.text, "no end")?,
-            "each" => self.open(items_of(alloc, rest)?),
-            "cuts" => self.open(beginnings_of(alloc, rest)?),
-            "again" => {
-                self.items = items_of(alloc, rest)?;
-                self.write_out()?;
+            "each" | "cuts" | "again" | "part" if self.is_open => self.text.push_str("no end\n"),
+            "each" => self.open("", items_of(alloc, rest)?),
+            "cuts" => self.open("", beginnings_of(alloc, rest)?),
+            "part" => self.open(rest, Vec::new(alloc)),
+            "again" => self.repeat("", &items_of(alloc, rest)?),
+            "do" => {
+                let (name, items) = rest.split_once(' ').unwrap_or((rest, ""));
+                self.repeat(name, &items_of(alloc, items)?)
             }
-            "end" => {
-                self.is_open = false;
-                self.write_out()?;
+            "end" => self.close(),
+            _ => {
+                self.write(line)?;
+                self.write("\n")
             }
-            _ if self.is_open => self.lines.push(String::from_str(alloc, line)?)?,
-            _ => add_line(&mut self.text, line)?,
         }
-        Ok(())
     }
 
-    fn open(&mut self, items: Vec<String>) {
+    // Adds to the open lines, or where there are none to what is written out.
+    fn write(&mut self, text: &str) -> Result<(), AllocError> {
+        if self.is_open {
+            self.lines.push_str(text)
+        } else {
+            self.text.push_str(text)
+        }
+    }
+
+    fn open(&mut self, name: &str, items: Vec<String>) -> Result<(), AllocError> {
+        self.name = String::from_str(self.alloc, name)?;
+        self.lines = String::new(self.alloc);
         self.items = items;
-        self.lines.clear();
         self.is_open = true;
+        Ok(())
     }
 
-    fn write_out(&mut self) -> Result<(), AllocError> {
-        for item in &self.items {
-            add_lines(self.alloc, &mut self.text, &self.lines, item.as_str())?;
+    fn close(&mut self) -> Result<(), AllocError> {
+        self.is_open = false;
+        let name = mem::replace(&mut self.name, String::new(self.alloc));
+        let lines = mem::replace(&mut self.lines, String::new(self.alloc));
+        let items = mem::replace(&mut self.items, Vec::new(self.alloc));
+        self.parts.push((name.clone()?, lines))?;
+        self.repeat(name.as_str(), &items)
+    }
+
+    // The last lines of the name, for each of the items.
+    fn repeat(&mut self, name: &str, items: &[String]) -> Result<(), AllocError> {
+        let mut lines = String::from_str(self.alloc, "no part\n")?;
+        for (it, text) in &self.parts {
+            if it.as_str() == name {
+                lines = text.clone()?;
+            }
+        }
+        for item in items {
+            let text = filled(self.alloc, lines.as_str(), item.as_str())?;
+            self.write(text.as_str())?;
         }
         Ok(())
     }
 }
 
-// Adds the lines with an item in their places.
-fn add_lines(
-    alloc: Global,
-    text: &mut String,
-    lines: &[String],
-    item: &str,
-) -> Result<(), AllocError> {
-    for line in lines {
-        let line = filled(alloc, line.as_str(), item)?;
-        add_line(text, line.as_str())?;
+// The lines with an item in its places.
+fn filled(alloc: Global, lines: &str, item: &str) -> Result<String, AllocError> {
+    let mut text = String::new(alloc);
+    for piece in lines.split('{') {
+        match piece.split_once('}') {
+            Some((place, rest)) => {
+                text.push_str(words_at(item, place))?;
+                text.push_str(rest)?;
+            }
+            None => text.push_str(piece)?,
+        }
     }
-    Ok(())
+    Ok(text)
 }
 
-fn add_line(text: &mut String, line: &str) -> Result<(), AllocError> {
-    text.push_str(line)?;
-    text.push('\n')
-}
-
-// The line with an item in its places.
-fn filled(alloc: Global, line: &str, item: &str) -> Result<String, AllocError> {
-    let (first, second) = item.split_once(' ').unwrap_or((item, ""));
-    let line = line.replace(alloc, "{}", item)?;
-    let line = line.replace(alloc, "{1}", first)?;
-    line.replace(alloc, "{2}", second)
+// What of an item stands in a place.
+fn words_at<'a>(item: &'a str, place: &str) -> &'a str {
+    let (digits, is_more) = match place.split_once('+') {
+        Some((digits, _)) => (digits, true),
+        None => (place, place.is_empty()),
+    };
+    let number = digits.parse().unwrap_or(1usize);
+    for (before, rest) in item.splitn(number, ' ').enumerate() {
+        if before.saturating_add(1) == number {
+            return match rest.split_once(' ') {
+                Some((word, _)) if !is_more => word,
+                _ => rest,
+            };
+        }
+    }
+    ""
 }
 
 fn items_of(alloc: Global, list: &str) -> Result<Vec<String>, AllocError> {
@@ -123,10 +168,18 @@ one
 each 1 x, 2 y
 {1}: {} {2}{2}
 end
+part p
+> {} {2+}|
+end
 cuts at6
 + {}
 end
 again z, 7 7
+each a, b
+do p {} 2 3, 4
+end
+do p
+do q
 two
 ";
 
@@ -139,6 +192,12 @@ one
 + at6
 + z
 + 7 7
+> a 2 3 2 3|
+> 4 |
+> b 2 3 2 3|
+> 4 |
+>  |
+no part
 two
 ";
 

@@ -3,276 +3,93 @@ use super::scene::all_hold;
 use std::test::Fail;
 
 const SCENES: &str = "\
+part polls
+| 0000000{} H R 0 40
+end
+part both
+$ solo {1} o %
+= 0
+file o.report
+| ticks {1}
+| host {3} {4} {5} {6} {7} {8}
+| para {9+}
+| tube {2}
+| kept {2}
+| frames 0
+end
 # Two letters: the host looks 43 times in vain before the first of them.
 os letters
 tube letters
-$ solo --keep 49 2000 --tube tube o --os os
+each 49, 4194304
+$ solo --keep {} 2000 --tube tube o --os os
 = 0
 file o.report
-| ticks 2000
-| host PC=C011 A=49 X=02 Y=00 S=FD P=27
-| para PC=F815 A=49 X=FF Y=00 S=FD P=24
-| tube 49
-| kept 49
-| frames 0
+do letters 49
 file o.trace
-| 0000000024 H R 0 40
-| 0000000039 H R 0 40
-| 000000004E H R 0 40
-| 0000000063 H R 0 40
-| 0000000078 H R 0 40
-| 000000008D H R 0 40
-| 00000000A2 H R 0 40
-| 00000000B7 H R 0 40
-| 00000000CC H R 0 40
-| 00000000E1 H R 0 40
-| 00000000F6 H R 0 40
-| 000000010B H R 0 40
-| 0000000120 H R 0 40
-| 0000000135 H R 0 40
-| 000000014A H R 0 40
-| 000000015F H R 0 40
-| 0000000174 H R 0 40
-| 0000000189 H R 0 40
-| 000000019E H R 0 40
-| 00000001B3 H R 0 40
-| 00000001C8 H R 0 40
-| 00000001DD H R 0 40
-| 00000001F2 H R 0 40
-| 0000000207 H R 0 40
-| 000000021C H R 0 40
-| 0000000231 H R 0 40
-| 0000000246 H R 0 40
-| 000000025B H R 0 40
-| 0000000270 H R 0 40
-| 0000000285 H R 0 40
-| 000000029A H R 0 40
-| 00000002AF H R 0 40
-| 00000002C4 H R 0 40
-| 00000002D9 H R 0 40
-| 00000002EE H R 0 40
-| 0000000303 H R 0 40
-| 0000000318 H R 0 40
-| 000000032D H R 0 40
-| 0000000342 H R 0 40
-| 0000000357 H R 0 40
-| 000000036C H R 0 40
-| 0000000381 H R 0 40
-| 0000000396 H R 0 40
-| 000000039A P W 1 48
-| 00000003A6 P W 1 49
-| 00000003AB H R 0 C0
-| 00000003BD H R 1 48
-| 00000003EA H R 0 C0
-| 00000003FC H R 1 49
+do polls 024, 039, 04E, 063, 078, 08D, 0A2, 0B7, 0CC, 0E1, 0F6, 10B, 120, 135, 14A, 15F, 174, 189, 19E, 1B3, 1C8, 1DD, 1F2, 207, 21C, 231, 246, 25B
+do polls 270, 285, 29A, 2AF, 2C4, 2D9, 2EE, 303, 318, 32D, 342, 357, 36C, 381, 396
+do entries 39A P W 1 48, 3A6 P W 1 49, 3AB H R 0 C0, 3BD H R 1 48, 3EA H R 0 C0, 3FC H R 1 49
 at o.host 0070 48 49 00
 size o.host 32768
 size o.para 65536
-$ solo --keep 4194304 2000 --tube tube o --os os
-= 0
-file o.report
-| ticks 2000
-| host PC=C011 A=49 X=02 Y=00 S=FD P=27
-| para PC=F815 A=49 X=FF Y=00 S=FD P=24
-| tube 49
-| kept 49
-| frames 0
-file o.trace
-| 0000000024 H R 0 40
-| 0000000039 H R 0 40
-| 000000004E H R 0 40
-| 0000000063 H R 0 40
-| 0000000078 H R 0 40
-| 000000008D H R 0 40
-| 00000000A2 H R 0 40
-| 00000000B7 H R 0 40
-| 00000000CC H R 0 40
-| 00000000E1 H R 0 40
-| 00000000F6 H R 0 40
-| 000000010B H R 0 40
-| 0000000120 H R 0 40
-| 0000000135 H R 0 40
-| 000000014A H R 0 40
-| 000000015F H R 0 40
-| 0000000174 H R 0 40
-| 0000000189 H R 0 40
-| 000000019E H R 0 40
-| 00000001B3 H R 0 40
-| 00000001C8 H R 0 40
-| 00000001DD H R 0 40
-| 00000001F2 H R 0 40
-| 0000000207 H R 0 40
-| 000000021C H R 0 40
-| 0000000231 H R 0 40
-| 0000000246 H R 0 40
-| 000000025B H R 0 40
-| 0000000270 H R 0 40
-| 0000000285 H R 0 40
-| 000000029A H R 0 40
-| 00000002AF H R 0 40
-| 00000002C4 H R 0 40
-| 00000002D9 H R 0 40
-| 00000002EE H R 0 40
-| 0000000303 H R 0 40
-| 0000000318 H R 0 40
-| 000000032D H R 0 40
-| 0000000342 H R 0 40
-| 0000000357 H R 0 40
-| 000000036C H R 0 40
-| 0000000381 H R 0 40
-| 0000000396 H R 0 40
-| 000000039A P W 1 48
-| 00000003A6 P W 1 49
-| 00000003AB H R 0 C0
-| 00000003BD H R 1 48
-| 00000003EA H R 0 C0
-| 00000003FC H R 1 49
-at o.host 0070 48 49 00
-size o.host 32768
-size o.para 65536
+end
 $ solo --keep 3 2000 --tube tube o --os os
 = 0
 file o.report
-| ticks 2000
-| host PC=C011 A=49 X=02 Y=00 S=FD P=27
-| para PC=F815 A=49 X=FF Y=00 S=FD P=24
-| tube 49
-| kept 3
-| frames 0
+do letters 3
 file o.trace
-| 0000000024 H R 0 40
-| 0000000039 H R 0 40
-| 000000004E H R 0 40
+do polls 024, 039, 04E
 at o.host 0070 48 49 00
-$ solo 2000 o --os os --tube tube
+$ solo 2000 o %
 = 0
 file o.report
-| ticks 2000
-| host PC=C011 A=49 X=02 Y=00 S=FD P=27
-| para PC=F815 A=49 X=FF Y=00 S=FD P=24
-| tube 49
-| kept 49
-| frames 0
+do letters 49
 trace
-$ replay host t 2000 o --os os
-= 0
-file o.report
-| ticks 2000
-| host PC=C011 A=49 X=02 Y=00 S=FD P=27
-| tube 47
-| frames 0
+do host 2000 47 PC=C011 A=49 X=02 Y=00 S=FD P=27
 same o.host
-$ replay para t 2000 o --tube tube
-= 0
-file o.report
-| ticks 2000
-| para PC=F815 A=49 X=FF Y=00 S=FD P=24
-| tube 2
+do para 2000 2 PC=F815 A=49 X=FF Y=00 S=FD P=24
 same o.para
 # Nothing is done in no ticks.
 os letters
 tube loop
-$ solo 0 o --os os --tube tube
-= 0
-file o.report
-| ticks 0
-| host PC=0000 A=00 X=00 Y=00 S=00 P=20
-| para PC=0000 A=00 X=00 Y=00 S=00 P=20
-| tube 0
-| kept 0
-| frames 0
+do both 0 0 PC=0000 A=00 X=00 Y=00 S=00 P=20 PC=0000 A=00 X=00 Y=00 S=00 P=20
 at o.host 0000 00
 at o.host 0070 00
 size o.host 32768
 size o.para 65536
 size o.trace 0
 trace
-$ replay host t 0 o --os os
-= 0
-file o.report
-| ticks 0
-| host PC=0000 A=00 X=00 Y=00 S=00 P=20
-| tube 0
-| frames 0
+do host 0 0 PC=0000 A=00 X=00 Y=00 S=00 P=20
 same o.host
-$ replay para t 0 o --tube tube
-= 0
-file o.report
-| ticks 0
-| para PC=0000 A=00 X=00 Y=00 S=00 P=20
-| tube 0
+do para 0 0 PC=0000 A=00 X=00 Y=00 S=00 P=20
 same o.para
 # A return address on the stack.
-os
-| org &C000
+do os
 | JSR &C100
-| org &FFFC
-| word &C000, 0
+do start C000
 tube loop
-$ solo 31 o --os os --tube tube
-= 0
-file o.report
-| ticks 31
-| host PC=C000 A=00 X=00 Y=00 S=FD P=24
-| para PC=F800 A=00 X=00 Y=00 S=FD P=24
-| tube 0
-| kept 0
-| frames 0
+do both 31 0 PC=C000 A=00 X=00 Y=00 S=FD P=24 PC=F800 A=00 X=00 Y=00 S=FD P=24
 at o.host 01FC 00 C0
 size o.trace 0
 trace
-$ replay host t 31 o --os os
-= 0
-file o.report
-| ticks 31
-| host PC=C000 A=00 X=00 Y=00 S=FD P=24
-| tube 0
-| frames 0
+do host 31 0 PC=C000 A=00 X=00 Y=00 S=FD P=24
 same o.host
-$ replay para t 31 o --tube tube
-= 0
-file o.report
-| ticks 31
-| para PC=F800 A=00 X=00 Y=00 S=FD P=24
-| tube 0
+do para 31 0 PC=F800 A=00 X=00 Y=00 S=FD P=24
 same o.para
 # A byte of the Tube, read, written back and written.
-os
-| org &C000
+do os
 | INC &FEE1
-| org &FFFC
-| word &C000, 0
+do start C000
 tube loop
-$ solo 40 o --os os --tube tube
-= 0
-file o.report
-| ticks 40
-| host PC=C003 A=00 X=00 Y=00 S=FD P=24
-| para PC=F800 A=00 X=00 Y=00 S=FD P=24
-| tube 3
-| kept 3
-| frames 0
+do both 40 3 PC=C003 A=00 X=00 Y=00 S=FD P=24 PC=F800 A=00 X=00 Y=00 S=FD P=24
 at o.host 0000 00
 at o.host 01FD 00
 file o.trace
-| 000000001E H R 1 00
-| 0000000021 H W 1 00
-| 0000000024 H W 1 01
+do entries 01E H R 1 00, 021 H W 1 00, 024 H W 1 01
 trace
-$ replay host t 40 o --os os
-= 0
-file o.report
-| ticks 40
-| host PC=C003 A=00 X=00 Y=00 S=FD P=24
-| tube 3
-| frames 0
+do host 40 3 PC=C003 A=00 X=00 Y=00 S=FD P=24
 same o.host
-$ replay para t 40 o --tube tube
-= 0
-file o.report
-| ticks 40
-| para PC=F800 A=00 X=00 Y=00 S=FD P=24
-| tube 0
+do para 40 0 PC=F800 A=00 X=00 Y=00 S=FD P=24
 same o.para
 ";
 

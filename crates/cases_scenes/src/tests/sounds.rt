@@ -3,9 +3,15 @@ use super::scene::all_hold;
 use std::test::Fail;
 
 const SCENES: &str = "\
+part written
+| LDA #&{}
+| STA &FE4F
+| LDA #8
+| STA &FE40
+| STX &FE40
+end
 # One write to the sound chip, at moment 21: a sample for each 32 microseconds, of a chip that is silent.
-os
-| org &C000
+do os
 | LDA #&FF
 | STA &FE42
 | STA &FE43
@@ -15,9 +21,7 @@ os
 | STA &FE40
 | LDA #0
 | STA &FE40
-| here: JMP here
-| org &FFFC
-| word &C000, 0
+do here
 t
 $ replay host t 192 o --os os --wav w
 = 0
@@ -36,40 +40,19 @@ $ replay host t 192 o --os os
 = 0
 none w
 # A tone of period 16, which turns over first in the chip's 1,025th clock, and white noise: as a model of the chip in another language has it.
-os
-| org &C000
+do os
 | LDA #&FF
 | STA &FE42
 | STA &FE43
 | LDX #0
-| LDA #&80
-| STA &FE4F
-| LDA #8
-| STA &FE40
-| STX &FE40
+do written 80
 | LDA #1
 | STA &FE4F
 | LDA #8
 | STA &FE40
 | STX &FE40
-| LDA #&92
-| STA &FE4F
-| LDA #8
-| STA &FE40
-| STX &FE40
-| LDA #&E4
-| STA &FE4F
-| LDA #8
-| STA &FE40
-| STX &FE40
-| LDA #&F6
-| STA &FE4F
-| LDA #8
-| STA &FE40
-| STX &FE40
-| here: JMP here
-| org &FFFC
-| word &C000, 0
+do written 92, E4, F6
+do here
 tube loop
 t
 $ replay host t 36000 o --os os --plugs 2 --wav w
@@ -80,7 +63,7 @@ at w 002C 00 00 00 00 30 14 30 14 30 14 30 14 30 14 30 14 30 14 30 14 30 14 30 1
 at w 012C 00 00 00 00 30 14 30 14 00 00 00 00 30 14 30 14 00 00 00 00 30 14 30 14
 at w 018C 09 08 09 08 39 1C 39 1C 00 00 00 00 30 14 30 14 00 00 00 00 30 14 30 14
 keep
-$ solo 36000 o --os os --tube tube --wav w
+$ solo 36000 o % --wav w
 = 0
 same w
 run 36000 o --tube tube --wav w --os os
@@ -115,7 +98,7 @@ same w
 ! replay host t 7 o --os os --wav -w
 ! replay host t 7 o --os os --wav w --wav w
 ! replay para t 7 o --tube tube --wav w
-! solo 7 o --os os --tube tube --wav -
+! solo 7 o % --wav -
 ";
 
 #[test]

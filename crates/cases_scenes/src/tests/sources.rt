@@ -3,6 +3,25 @@ use super::scene::all_hold;
 use std::test::Fail;
 
 const SCENES: &str = "\
+part bad-source
+$ asm 6502 t out
+= 4 bad source {}
+none out
+end
+part too-long
+t
+* {1} x EA
+$ dis 6502 t {2} out
+= 3 bad image image {1}
+none out
+end
+part fits
+t
+* {1} x EA
+$ dis 6502 t {2} out
+= 0
+line out org &{2}
+end
 # A small text is assembled and disassembled.
 t
 | org &C000
@@ -24,9 +43,7 @@ file out
 # A form of one part alone is refused for the other.
 t
 + LDA (&12)
-$ asm 6502 t out
-= 4 bad source 1 kind 2
-none out
+do bad-source 1 kind 2
 $ asm 65c02 t out
 = 0
 file out
@@ -35,83 +52,47 @@ x B2 12
 t
 | NOP
 | ?
-$ asm 6502 t out
-= 4 bad source 2 kind 1
-none out
+do bad-source 2 kind 1
 t
 | LDA (&1234),Y
-$ asm 6502 t out
-= 4 bad source 1 kind 2
-none out
+do bad-source 1 kind 2
 t
 | JMP there
-$ asm 6502 t out
-= 4 bad source 1 kind 3
-none out
+do bad-source 1 kind 3
 t
 | a1: NOP
 | NOP
 | a1: NOP
-$ asm 6502 t out
-= 4 bad source 3 kind 4
-none out
+do bad-source 3 kind 4
 t
 | org 2
 | NOP
 | org 1
-$ asm 6502 t out
-= 4 bad source 3 kind 5
-none out
+do bad-source 3 kind 5
 t
 | LDA #256
-$ asm 6502 t out
-= 4 bad source 1 kind 5
-none out
+do bad-source 1 kind 5
 t
 | org &FFFF
 | NOP
 | NOP
-$ asm 6502 t out
-= 4 bad source 3 kind 6
-none out
+do bad-source 3 kind 6
 # The first pass goes before the second.
 t
 | JMP there
 | NOP
 | ?
-$ asm 6502 t out
-= 4 bad source 3 kind 1
-none out
+do bad-source 3 kind 1
 # An image ends with the memory.
-t
-* 65536 x EA
-$ dis 6502 t 0000 out
-= 0
-line out org &0000
-t
-* 65537 x EA
-$ dis 6502 t 0000 out
-= 3 bad image image 65537
-none out
-t
-* 1 x EA
-$ dis 6502 t FFFF out
-= 0
-line out org &FFFF
-t
-* 2 x EA
-$ dis 6502 t FFFF out
-= 3 bad image image 2
-none out
+do fits 65536 0000
+do too-long 65537 0000
+do fits 1 FFFF
+do too-long 2 FFFF
 t
 $ dis 6502 t FFFF out
 = 0
 line out org &FFFF
-t
-* 16385 x EA
-$ dis 6502 t C000 out
-= 3 bad image image 16385
-none out
+do too-long 16385 C000
 # A source of 4,194,304 bytes and an image of 1,048,576 are read, and one byte more is too long.
 t
 * 4194304 |
@@ -133,32 +114,21 @@ t
 $ dis 6502 t 0000 out
 = 2 too long t
 none out
-# A source of 65,536 bytes of code for the 6502, each in a line of its own.
+each 6502, 65c02
+# A source of 65,536 bytes of code for the {}, each in a line of its own.
 t
 * 65536 | NOP
-$ asm 6502 t out
+$ asm {} t out
 = 0
 file out
 * 65536 x EA
 take out
-$ dis 6502 t 0000 out
+$ dis {} t 0000 out
 = 0
 file out
 | org &0000
 * 65536 | NOP
-# A source of 65,536 bytes of code for the 65c02, each in a line of its own.
-t
-* 65536 | NOP
-$ asm 65c02 t out
-= 0
-file out
-* 65536 x EA
-take out
-$ dis 65c02 t 0000 out
-= 0
-file out
-| org &0000
-* 65536 | NOP
+end
 ";
 
 #[test]

@@ -5,14 +5,12 @@ use std::test::Fail;
 const SCENES: &str = "\
 # One letter: the same cycle is another tick.
 os loop
-tube
-| org &F800
+do tube
 | LDA #&48
 | STA &FEF9
 | stop: JMP stop
-| org &FFFC
-| word &F800, 0
-$ solo 40 turbo --os os --tube tube --speed 4
+do start F800
+$ solo 40 turbo % --speed 4
 = 0
 file turbo.report
 | ticks 40
@@ -25,34 +23,31 @@ file turbo.trace
 | T2
 | 0000000024 P W 1 48
 keep
-run 40 turbo --speed 4 --os os --tube tube
+run 40 turbo --speed 4 %
 = 0
 same turbo.report turbo.host turbo.para turbo.trace
-$ solo 40 turbo --os os --tube tube --speed 3
+$ solo 40 turbo % --speed 3
 = 0
 file turbo.trace
 | 0000000018 P W 1 48
-$ solo 40 turbo --os os --tube tube
+$ solo 40 turbo %
 = 0
 file turbo.trace
 | 0000000018 P W 1 48
-$ solo 36 turbo --os os --tube tube --speed 4
+$ solo 36 turbo % --speed 4
 = 0
 file turbo.trace
 | T2
-! solo 40 turbo --os os --tube tube --speed 2
-! solo 40 turbo --os os --tube tube --speed 04
-! solo 40 turbo --os os --tube tube --speed
-! solo 40 turbo --os os --tube tube --speed 4 --speed 4
+! solo 40 turbo % --speed 2
+! solo 40 turbo % --speed 04
+! solo 40 turbo % --speed
+! solo 40 turbo % --speed 4 --speed 4
 ! check t --speed 4
 ! gen 1 --speed 4
 # A trace of each clock is checked, and replayed by a machine of its clock alone. A text outside its form is told as that.
 tube loop
-t
-| 0000000062 H W 0 A0
-| 0000000065 H W 0 20
-$ check t
-= 0: ok 2
+ticks 62 H W 0 A0, 65 H W 0 20
+do ok 2
 $ replay para t 200 o --tube tube --speed 4
 = 4 bad trace 1 kind 4
 none o.report
@@ -64,10 +59,8 @@ file o.report
 | tube 0
 t
 | T2
-| 0000000062 H W 0 A0
-| 0000000065 H W 0 20
-$ check t
-= 0: ok 2
+do entries 062 H W 0 A0, 065 H W 0 20
+do ok 2
 $ replay para t 200 o --speed 4 --tube tube
 = 0
 file o.report
@@ -79,35 +72,28 @@ $ replay para t 200 o --tube tube
 t
 | T2
 | 0000000000 H R 0 40
-$ check t
-= 0: ok 1
+do ok 1
 t
 | T2
 | 0000000024 H R 0 40
-$ check t
-= 0: ok 1
+do ok 1
 t
 | T2
 | 0000000009 P R 0 40
-$ check t
-= 0: ok 1
+do ok 1
 t
 + T2
-$ check t
-= 4 bad trace 1 kind 1
+do bad 1 kind 1
 $ replay para t 200 o --tube tube --speed 4
 = 4 bad trace 1 kind 1
 t
 | T2
 | T2
-$ check t
-= 4 bad trace 1 kind 1
+do bad 1 kind 1
 t
 | T2
-| 0000000009 P R 0 40
-| 0000000009 P R 0 40
-$ check t
-= 4 bad trace 2 kind 2
+do entries 009 P R 0 40, 009 P R 0 40
+do bad 2 kind 2
 t
 | T2
 | 0000000009 P R 0 40
@@ -129,7 +115,7 @@ $ replay host t 100 o --os t --keys keys
 # Two letters: with a second processor at 4 MHz the host looks 32 times in vain before the first of them, where it looked 43 times.
 os letters
 tube letters
-$ solo 4000 o --os os --tube tube --speed 4
+$ solo 4000 o % --speed 4
 = 0
 file o.report
 | ticks 4000
@@ -140,44 +126,9 @@ file o.report
 | frames 0
 file o.trace
 | T2
-| 0000000048 H R 0 40
-| 0000000072 H R 0 40
-| 000000009C H R 0 40
-| 00000000C6 H R 0 40
-| 00000000F0 H R 0 40
-| 000000011A H R 0 40
-| 0000000144 H R 0 40
-| 000000016E H R 0 40
-| 0000000198 H R 0 40
-| 00000001C2 H R 0 40
-| 00000001EC H R 0 40
-| 0000000216 H R 0 40
-| 0000000240 H R 0 40
-| 000000026A H R 0 40
-| 0000000294 H R 0 40
-| 00000002BE H R 0 40
-| 00000002E8 H R 0 40
-| 0000000312 H R 0 40
-| 000000033C H R 0 40
-| 0000000366 H R 0 40
-| 0000000390 H R 0 40
-| 00000003BA H R 0 40
-| 00000003E4 H R 0 40
-| 000000040E H R 0 40
-| 0000000438 H R 0 40
-| 0000000462 H R 0 40
-| 000000048C H R 0 40
-| 00000004B6 H R 0 40
-| 00000004E0 H R 0 40
-| 000000050A H R 0 40
-| 0000000534 H R 0 40
-| 000000055E H R 0 40
-| 0000000567 P W 1 48
-| 0000000579 P W 1 49
-| 0000000588 H R 0 C0
-| 00000005AC H R 1 48
-| 0000000606 H R 0 C0
-| 000000062A H R 1 49
+do entries 048 H R 0 40, 072 H R 0 40, 09C H R 0 40, 0C6 H R 0 40, 0F0 H R 0 40, 11A H R 0 40, 144 H R 0 40, 16E H R 0 40, 198 H R 0 40, 1C2 H R 0 40, 1EC H R 0 40, 216 H R 0 40, 240 H R 0 40
+do entries 26A H R 0 40, 294 H R 0 40, 2BE H R 0 40, 2E8 H R 0 40, 312 H R 0 40, 33C H R 0 40, 366 H R 0 40, 390 H R 0 40, 3BA H R 0 40, 3E4 H R 0 40, 40E H R 0 40, 438 H R 0 40, 462 H R 0 40
+do entries 48C H R 0 40, 4B6 H R 0 40, 4E0 H R 0 40, 50A H R 0 40, 534 H R 0 40, 55E H R 0 40, 567 P W 1 48, 579 P W 1 49, 588 H R 0 C0, 5AC H R 1 48, 606 H R 0 C0, 62A H R 1 49
 trace
 $ replay host t 4000 o --os os --speed 4
 = 0
@@ -185,7 +136,7 @@ same o.host
 $ replay para t 4000 o --tube tube --speed 4
 = 0
 same o.para
-run 4000 o --os os --tube tube --speed 4
+run 4000 o % --speed 4
 = 0
 same o.report o.host o.para o.trace
 ";

@@ -4,6 +4,28 @@ use cmd_words::{options_are_order_free, options_stand_anywhere};
 use std::test::Fail;
 
 const SCENES: &str = "\
+part asks
+$ {}
+= 2 cannot read n
+end
+part para-not
+! replay para n 7 o --tube rom {}
+end
+part host-not
+! replay host n 7 o --os rom {}
+end
+part solo-not
+! solo 7 o --os n --tube n {}
+end
+part resume-not
+! resume n 7 o {}
+end
+part follow-not
+! follow host n 7 o --os rom {}
+end
+part dis-not
+! dis 6502 in {}
+end
 # Words outside the grammar.
 t
 !
@@ -30,24 +52,11 @@ t
 ! asm 6502 '' out
 ! asm 6502 in -out
 ! dis
-! dis 6502 in C000
-! dis 6502 in out C000
-! dis 6502 in c000 out
-! dis 6502 in C00 out
-! dis 6502 in 0C000 out
-! dis 6502 in C00G out
-! dis 6502 in C00/ out
-! dis 6502 in C00: out
-! dis 6502 in C00@ out
+do dis-not C000, out C000, c000 out, C00 out, 0C000 out, C00G out, C00/ out, C00: out, C00@ out
 ! dis 6502 -in C000 out
-! dis 6502 in C000 ''
+do dis-not C000 ''
 # Words of a replay of the second processor: good ones ask for the file n, which is absent.
-$ replay para n 1073741824 o --tube rom
-= 2 cannot read n
-$ replay --tube rom para n 0 o
-= 2 cannot read n
-$ replay para n --tube rom 7 o
-= 2 cannot read n
+do asks replay para n 1073741824 o --tube rom, replay --tube rom para n 0 o, replay para n --tube rom 7 o
 ! replay para n 1073741825 o --tube rom
 ! replay para n 99999999999999999999 o --tube rom
 ! replay para n 07 o --tube rom
@@ -59,52 +68,23 @@ $ replay para n --tube rom 7 o
 ! replay para n 7 o --tube ''
 ! replay para n 7 o --tube -rom
 ! replay para n 7 o --tube=rom
-! replay para n 7 o --tube rom --tube rom
-! replay para n 7 o --tube rom --os os
-! replay para n 7 o --tube rom --keep 7
+do para-not --tube rom, --os os, --keep 7
 ! replay para n 7 --tube rom
 ! replay para n 7 o more --tube rom
 ! replay host n 7 o --tube rom
 ! replay para '' 7 o --tube rom
 ! replay para n 7 '' --tube rom
 # Words of a replay of the host.
-$ replay host n 7 o --os rom
-= 2 cannot read n
-$ replay host n 7 o --os rom --rom0 rom --rom15 rom
-= 2 cannot read n
-$ replay host n 7 o --os rom --rom10 n --rom1 n
-= 2 cannot read n
-! replay host n 7 o --os rom --os rom
-! replay host n 7 o --os rom --rom3 a --rom3 b
-! replay host n 7 o --os rom --rom16 rom
-! replay host n 7 o --os rom --rom01 rom
-! replay host n 7 o --os rom --rom rom
-! replay host n 7 o --os rom --rom0
-! replay host n 7 o --os rom --rom0 ''
-! replay host n 7 o --os rom --tube rom
-$ replay host n 7 o --os rom --disc1 rom --disc0 rom.dsd
-= 2 cannot read n
-$ replay host n 7 o --os rom --font rom --plugs 0
-= 2 cannot read n
-$ replay host n 7 o --plugs 8 --os rom
-= 2 cannot read n
-! replay host n 7 o --os rom --font rom --font rom
-! replay host n 7 o --os rom --font ''
-! replay host n 7 o --os rom --plugs 9
-! replay host n 7 o --os rom --plugs 00
-! replay host n 7 o --os rom --plugs
-! replay host n 7 o --os rom --plugs 1 --plugs 1
-! replay para n 7 o --tube rom --font rom
-! replay para n 7 o --tube rom --plugs 0
-! replay host n 7 o --os rom --disc rom
-! replay host n 7 o --os rom --disc2 rom
-! replay host n 7 o --os rom --disc0 rom --disc0 rom
-! replay para n 7 o --tube rom --disc0 rom
-! replay host n 7 o --os rom --keep 1
-! replay host n 7 o --os rom more
+do asks replay host n 7 o --os rom, replay host n 7 o --os rom --rom0 rom --rom15 rom, replay host n 7 o --os rom --rom10 n --rom1 n
+do host-not --os rom, --rom3 a --rom3 b, --rom16 rom, --rom01 rom, --rom rom, --rom0, --rom0 '', --tube rom
+do asks replay host n 7 o --os rom --disc1 rom --disc0 rom.dsd, replay host n 7 o --os rom --font rom --plugs 0, replay host n 7 o --plugs 8 --os rom
+do host-not --font rom --font rom, --font '', --plugs 9, --plugs 00, --plugs, --plugs 1 --plugs 1
+do para-not --font rom, --plugs 0
+do host-not --disc rom, --disc2 rom, --disc0 rom --disc0 rom
+do para-not --disc0 rom
+do host-not --keep 1, more
 # Words of a run of both machines.
-$ solo 1073741824 o --os n --tube tube
-= 2 cannot read n
+do asks solo 1073741824 o --os n --tube tube
 ! solo 1073741825 o --os n --tube tube
 ! solo 07 o --os n --tube tube
 ! solo 7 '' --os n --tube tube
@@ -112,73 +92,33 @@ $ solo 1073741824 o --os n --tube tube
 ! solo 7 o more --os n --tube tube
 ! solo 7 o --tube tube
 ! solo 7 o --os n
-$ solo 7 o --os n --tube n --keep 0
-= 2 cannot read n
-$ solo --keep 4194304 7 --tube n o --os n
-= 2 cannot read n
-! solo 7 o --os n --tube n --keep 4194305
-! solo 7 o --os n --tube n --keep 03
-! solo 7 o --os n --tube n --keep 3 --keep 3
-$ solo 7 o --os n --tube n --rom15 os
-= 2 cannot read n
-$ solo 7 o --os n --tube n --disc1 os
-= 2 cannot read n
-$ solo 7 o --os n --tube n --plugs 0 --font os
-= 2 cannot read n
-! solo 7 o --os n --tube n --plugs -1
+do asks solo 7 o --os n --tube n --keep 0, solo --keep 4194304 7 --tube n o --os n
+do solo-not --keep 4194305, --keep 03, --keep 3 --keep 3
+do asks solo 7 o --os n --tube n --rom15 os, solo 7 o --os n --tube n --disc1 os, solo 7 o --os n --tube n --plugs 0 --font os
+do solo-not --plugs -1
 # Words of a session that goes on.
-$ resume n 1073741824 o
-= 2 cannot read n
-$ resume n 0 --keep 0 o --wav w --save s
-= 2 cannot read n
-$ resume --save s n --keep 4194304 7 o
-= 2 cannot read n
+do asks resume n 1073741824 o, resume n 0 --keep 0 o --wav w --save s, resume --save s n --keep 4194304 7 o
 ! resume n 1073741825 o
 ! resume n 07 o
 ! resume '' 7 o
 ! resume -n 7 o
 ! resume n 7 ''
 ! resume n 7
-! resume n 7 o more
-! resume n 7 o --keep 4194305
-! resume n 7 o --save
-! resume n 7 o --save ''
-! resume n 7 o --save -s
-! resume n 7 o --save a --save b
-! resume n 7 o --os os
-! resume n 7 o --tube tube
-! resume n 7 o --plugs 1
-! resume n 7 o --speed 3
-! resume n 7 o --at C000
-$ solo 7 o --os n --tube n --save s
-= 2 cannot read n
-! solo 7 o --os n --tube n --save ''
-! solo 7 o --os n --tube n --save s --save s
+do resume-not more, --keep 4194305, --save, --save '', --save -s, --save a --save b, --os os, --tube tube, --plugs 1, --speed 3, --at C000
+do asks solo 7 o --os n --tube n --save s
+do solo-not --save '', --save s --save s
 ! replay host t 7 o --os n --save s
 ! gen 1 --save s
 # Words of a listing of instructions.
-$ follow host n 7 o --os rom --at C000 --watch 0070
-= 2 cannot read n
-$ follow para n 7 o --watch FFFF --tube rom --speed 4
-= 2 cannot read n
-$ follow host n 7 o --plugs 8 --os rom --font rom --disc0 d --keys k --rom15 r
-= 2 cannot read n
+do asks follow host n 7 o --os rom --at C000 --watch 0070, follow para n 7 o --watch FFFF --tube rom --speed 4, follow host n 7 o --plugs 8 --os rom --font rom --disc0 d --keys k --rom15 r
 ! follow host n 7 o
 ! follow para n 7 o --os rom
 ! follow both n 7 o --os rom
 ! follow host n 7 --os rom
 ! follow host n 7 o more --os rom
-! follow host n 7 o --os rom --wav w
-! follow host n 7 o --os rom --save s
-! follow host n 7 o --os rom --keep 7
-! follow host n 7 o --os rom --at c000
-! follow host n 7 o --os rom --at C00
-! follow host n 7 o --os rom --at 0C000
-! follow host n 7 o --os rom --at
-! follow host n 7 o --os rom --at C000 --at C000
-! follow host n 7 o --os rom --watch 70
-! replay host n 7 o --os rom --at C000
-! solo 7 o --os n --tube n --watch 0070
+do follow-not --wav w, --save s, --keep 7, --at c000, --at C00, --at 0C000, --at, --at C000 --at C000, --watch 70
+do host-not --at C000
+do solo-not --watch 0070
 # Words of the demonstration.
 ! gen
 ! gen ''
@@ -188,8 +128,8 @@ $ follow host n 7 o --plugs 8 --os rom --font rom --disc0 d --keys k --rom15 r
 ! gen 1 --plugs 0
 ! gen 18446744073709551616
 # Words of a run in two threads, which this call does not take.
-! run 2000 o --os os --tube tube
-! run 7 o --keep 3 --rom0 os --os os --tube tube
+! run 2000 o %
+! run 7 o --keep 3 --rom0 os %
 ";
 
 #[test]

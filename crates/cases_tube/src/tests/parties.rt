@@ -1,9 +1,11 @@
 //! A party of two kinds of step, against traces that fit it and traces that don't, and beside another at one chip.
 
-ghost use Rattle.std.specs.Prelude.{◌≡◌};
+ghost use Rattle.std.specs.Prelude.{◌≡◌, All, IfOk};
+ghost use Rattle.tube_chip.specs.Events.{Rises};
+ghost use Rattle.tube_trace.specs.Entries.{IsEntry, events_of};
 
 use beeb_bits::{Side, Tick};
-use std::alloc::{AllocError, Global};
+use std::alloc::Global;
 use std::test::Fail;
 use std::vec::Vec;
 use tube_chip::{Chip, Op};
@@ -12,7 +14,7 @@ use tube_party::{
     reference_is_followed, reference_is_replayed, reference_is_trace, replay, replay_is_following,
     solo,
 };
-use tube_trace::read;
+use tube_trace::{Entry, read};
 
 /// Looks at tick 5 and every 10 ticks, and reads register 0 five ticks after each look.
 #[derive(Drop)]
@@ -89,36 +91,35 @@ pub(crate) fn at_power_on() -> Probe
 }
 
 // A line is the ticks of a replay, the line of the place at which it differs, or `-`, and the tick of the read that the party does there, or `-`;
-// the tick of the step at which it stands; and behind `@` the trace, in which `;` ends a line.
+// the tick of the step at which it stands; and behind `@` the trace.
 const REPLAYS: &str = "\
 # Each read fits.
-30 - - 30@000000000A P R 0 01;0000000014 P R 0 02;
+30 - - 30@~0A P R 0 01;~14 P R 0 02;
 # Entries from the end of the replay on are not asked for, and neither are the other side's.
-20 - - 20@000000000A P R 0 01;0000000014 P R 0 02;
-20 - - 20@0000000003 H W 0 01;000000000A P R 0 01;
+20 - - 20@~0A P R 0 01;~14 P R 0 02;
+20 - - 20@~03 H W 0 01;~0A P R 0 01;
 10 - - 10@
 0 - - 5@
 # An entry of another register, of another kind, and at another tick.
-30 2 20 20@000000000A P R 0 01;0000000014 P R 1 00;
-30 2 20 20@000000000A P R 0 01;0000000014 P W 0 00;
-30 3 20 20@000000000A P R 0 01;000000000F H W 0 00;0000000015 P R 0 00;
-30 1 10 10@0000000009 P R 0 01;
+30 2 20 20@~0A P R 0 01;~14 P R 1 00;
+30 2 20 20@~0A P R 0 01;~14 P W 0 00;
+30 3 20 20@~0A P R 0 01;~0F H W 0 00;~15 P R 0 00;
+30 1 10 10@~09 P R 0 01;
 # No entry where the party reads.
-30 2 20 20@000000000A P R 0 01;
-30 2 10 10@0000000003 H W 0 01;
+30 2 20 20@~0A P R 0 01;
+30 2 10 10@~03 H W 0 01;
 # An entry where the party does nothing more.
-15 3 - 15@0000000003 H W 0 01;000000000A P R 0 01;000000000B P R 0 02;
+15 3 - 15@~03 H W 0 01;~0A P R 0 01;~0B P R 0 02;
 ";
 
-// The text of a trace, in which `;` ends a line.
-fn text_of(alloc: Global, trace: &str) -> Result<Vec<u8>, AllocError> {
-    let mut text = trace.as_bytes().to_vec(alloc)?;
-    for byte in text.iter_mut() {
-        if *byte == b';' {
-            *byte = b'\n';
-        }
-    }
-    Ok(text)
+/// The entries of a trace, in which `;` ends a line and `~` stands for eight zeros.
+pub(crate) fn entries_of(alloc: Global, trace: &str) -> Result<Vec<Entry>, Fail>
+    ensures entries { IfOk result (λ e. All IsEntry e.items) }
+    ensures rises { IfOk result (λ e. Rises (events_of e.items)) }
+{
+    let text = trace.replace(alloc, "~", "00000000")?;
+    let text = text.replace(alloc, ";", "\n")?;
+    Ok(read(alloc, text.as_bytes())?.entries)
 }
 
 fn read_at(digits: &str) -> Option<Doing> {
@@ -143,7 +144,7 @@ fn replay_of(head: &str) -> Option<(u16, Option<(u64, Option<Doing>)>, u64)> {
 fn the_first_place_that_differs_is_told(rt: HostRuntime) -> Result<(), Fail> {
     for line in REPLAYS.lines() {
         if let Some((head, trace)) = line.split_once('@') {
-            let entries = read(rt.alloc(), &text_of(rt.alloc(), trace)?)?.entries;
+            let entries = entries_of(rt.alloc(), trace)?;
             let (ticks, place, due) = replay_of(head).unwrap_or((0, None, 0));
             let n = Tick(u64::from(ticks));
             let (party, found) = replay(at_power_on(), Side::Para, &entries, n);
@@ -161,49 +162,31 @@ fn a_look_sees_the_entries_before_it(rt: HostRuntime) -> Result<(), Fail> {
         (Side::Para, "", None, 0, false),
         // P is set and cleared again: one reset. What the host does at the tick of the look comes before it, and what it does later
         // doesn't.
+        (Side::Para, "~04 H W 0 A0;~05 H W 0 20;", None, 1, false),
+        (Side::Para, "~05 H W 0 A0;", None, 1, false),
+        (Side::Para, "~06 H W 0 A0;", None, 0, false),
         (
             Side::Para,
-            "0000000004 H W 0 A0\n0000000005 H W 0 20\n",
-            None,
-            1,
-            false,
-        ),
-        (Side::Para, "0000000005 H W 0 A0\n", None, 1, false),
-        (Side::Para, "0000000006 H W 0 A0\n", None, 0, false),
-        (
-            Side::Para,
-            "0000000001 H W 0 A0\n0000000002 H W 0 20\n0000000003 H W 0 A0\n0000000004 H W 0 20\n",
+            "~01 H W 0 A0;~02 H W 0 20;~03 H W 0 A0;~04 H W 0 20;",
             None,
             2,
             false,
         ),
         // Entries of its own side that it has not made are seen too: those before the look, and no others.
+        (Side::Para, "~01 H W 0 81;~04 P W 7 41;", Some(2), 0, true),
+        (Side::Para, "~01 H W 0 81;~05 P W 7 41;", Some(2), 0, false),
         (
             Side::Para,
-            "0000000001 H W 0 81\n0000000004 P W 7 41\n",
-            Some(2),
-            0,
-            true,
-        ),
-        (
-            Side::Para,
-            "0000000001 H W 0 81\n0000000005 P W 7 41\n",
-            Some(2),
-            0,
-            false,
-        ),
-        (
-            Side::Para,
-            "0000000001 H W 0 81\n0000000004 P W 7 41\n0000000005 H W 0 A0\n",
+            "~01 H W 0 81;~04 P W 7 41;~05 H W 0 A0;",
             Some(2),
             1,
             true,
         ),
-        (Side::Host, "0000000004 H W 0 A0\n", Some(1), 1, false),
-        (Side::Host, "0000000005 H W 0 A0\n", Some(1), 0, false),
+        (Side::Host, "~04 H W 0 A0;", Some(1), 1, false),
+        (Side::Host, "~05 H W 0 A0;", Some(1), 0, false),
     ];
     for (side, text, line, resets, hirq) in rows {
-        let entries = read(rt.alloc(), text.as_bytes())?.entries;
+        let entries = entries_of(rt.alloc(), text)?;
         let (party, place) = replay(at_power_on(), side, &entries, Tick(10));
         assert_eq!(rt; place, line.map(|line| (line, None)));
         assert!(rt;
@@ -318,8 +301,8 @@ fn two_parties_share_one_chip(rt: HostRuntime) -> Result<(), Fail> {
             10,
             36,
             9,
-            "000000000A H W 1 01\n0000000014 H W 1 02\n000000001E H W 1 03\n",
-            "000000000A P R 0 C0\n0000000014 P R 0 C0\n000000001E P R 0 C0\n",
+            "~0A H W 1 01;~14 H W 1 02;~1E H W 1 03;",
+            "~0A P R 0 C0;~14 P R 0 C0;~1E P R 0 C0;",
             3,
             3,
         ),
@@ -327,22 +310,14 @@ fn two_parties_share_one_chip(rt: HostRuntime) -> Result<(), Fail> {
             11,
             30,
             9,
-            "000000000B H W 1 01\n0000000015 H W 1 02\n",
-            "000000000A P R 0 40\n0000000014 P R 0 C0\n",
+            "~0B H W 1 01;~15 H W 1 02;",
+            "~0A P R 0 40;~14 P R 0 C0;",
             2,
             2,
         ),
-        (9, 10, 9, "0000000009 H W 1 01\n", "", 1, 0),
+        (9, 10, 9, "~09 H W 1 01;", "", 1, 0),
         // Only the first accesses are kept.
-        (
-            10,
-            36,
-            1,
-            "000000000A H W 1 01\n",
-            "000000000A P R 0 C0\n",
-            3,
-            3,
-        ),
+        (10, 36, 1, "~0A H W 1 01;", "~0A P R 0 C0;", 3, 3),
         (10, 36, 0, "", "", 3, 3),
         (10, 0, 9, "", "", 0, 0),
     ];
@@ -359,14 +334,8 @@ fn two_parties_share_one_chip(rt: HostRuntime) -> Result<(), Fail> {
         let Ok(done) = solo(rt.alloc(), writer, probe, Tick(ticks as u64), keep) else {
             return Err(Fail::from("no memory"));
         };
-        assert_eq!(rt;
-            done.host_list,
-            read(rt.alloc(), host_text.as_bytes())?.entries
-        );
-        assert_eq!(rt;
-            done.para_list,
-            read(rt.alloc(), para_text.as_bytes())?.entries
-        );
+        assert_eq!(rt; done.host_list, entries_of(rt.alloc(), host_text)?);
+        assert_eq!(rt; done.para_list, entries_of(rt.alloc(), para_text)?);
         assert_eq!(rt; done.host_count, host_count as u64);
         assert_eq!(rt; done.para_count, para_count as u64);
         assert_eq!(rt; done.host.due - done.host.lag, ticks as u64);

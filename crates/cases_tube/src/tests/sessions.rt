@@ -4,7 +4,7 @@ ghost use Rattle.tube_chip.specs.Events.{Rises};
 ghost use Rattle.tube_trace.specs.Entries.{IsEntry, events_of};
 ghost use Rattle.tube_party.specs.Reference.{IsTraceBelow};
 
-use crate::tests::parties::{Probe, Writer, at_power_on};
+use crate::tests::parties::{Probe, Writer, at_power_on, entries_of};
 use beeb_bits::{Clock, Side, Tick};
 use save_state::{
     Blob, ResumeError, Saved, StateError, decode, encode, resume, saved_run_is_resumed,
@@ -16,7 +16,7 @@ use tube_party::{
     Doing, Done, Forward, Room, brought_back_is_reference, go_on_from, shorter_run_is_beginning,
     solo,
 };
-use tube_trace::{Entry, first_wrong, read};
+use tube_trace::{Entry, first_wrong};
 
 /// Where the fields begin behind both ROMs: the lengths of the sixteen slots, of the font, of a disc with its kind and its bytes, of the other,
 /// of the key script with its bytes, the number of the accesses, three of them, and the end.
@@ -29,21 +29,33 @@ const TAIL: [usize; 29] = [
 /// How many bytes the file has.
 const LENGTH: usize = 18564;
 
-/// A file by hand: speed 03, tick 1000, two devices, both ROMs, a DSD of three bytes, an SSD of one, a script of two, and three accesses.
-fn file(alloc: Global) -> Result<Vec<u8>, AllocError> {
+/// The beginning of a file of speed 03: its tick's low bytes and its devices, ROMs of these bytes, and so many parts that are not there.
+fn beginning(
+    alloc: Global,
+    [high, low, devices]: [u8; 3],
+    os: u8,
+    tube: u8,
+    missing: u8,
+) -> Result<Vec<u8>, AllocError> {
     let mut file = Vec::new(alloc);
-    file.extend_from_slice(&[b'B', b'T', b'U', b'B', 1, 3, 0, 0, 0x03, 0xe8, 2])?;
+    file.extend_from_slice(&[b'B', b'T', b'U', b'B', 1, 3, 0, 0, high, low, devices])?;
     file.extend_from_slice(&[0, 0, 0x40, 0])?;
     for _ in 0..16384 {
-        file.push(0xa5)?;
+        file.push(os)?;
     }
     file.extend_from_slice(&[0, 0, 8, 0])?;
     for _ in 0..2048 {
-        file.push(0x5a)?;
+        file.push(tube)?;
     }
-    for _ in 0..17 {
+    for _ in 0..missing {
         file.extend_from_slice(&[0xff, 0xff, 0xff, 0xff])?;
     }
+    Ok(file)
+}
+
+/// A file by hand: speed 03, tick 1000, two devices, both ROMs, a DSD of three bytes, an SSD of one, a script of two, and three accesses.
+fn file(alloc: Global) -> Result<Vec<u8>, AllocError> {
+    let mut file = beginning(alloc, [0x03, 0xe8, 2], 0xa5, 0x5a, 17)?;
     file.extend_from_slice(&[0, 0, 0, 3, 1, 7, 8, 9])?;
     file.extend_from_slice(&[0, 0, 0, 1, 0, 6])?;
     file.extend_from_slice(&[0, 0, 0, 2, b'h', b'i'])?;
@@ -204,19 +216,7 @@ fn a_file_that_ends_early_or_late(rt: HostRuntime) -> Result<(), Fail> {
 
 /// A file of both ROMs and 49 accesses, of which the last is the host's at 3FC.
 fn file_of_letters(alloc: Global) -> Result<Vec<u8>, AllocError> {
-    let mut file = Vec::new(alloc);
-    file.extend_from_slice(&[b'B', b'T', b'U', b'B', 1, 3, 0, 0, 0x07, 0xd0, 0])?;
-    file.extend_from_slice(&[0, 0, 0x40, 0])?;
-    for _ in 0..16384 {
-        file.push(0)?;
-    }
-    file.extend_from_slice(&[0, 0, 8, 0])?;
-    for _ in 0..2048 {
-        file.push(0)?;
-    }
-    for _ in 0..20 {
-        file.extend_from_slice(&[0xff, 0xff, 0xff, 0xff])?;
-    }
+    let mut file = beginning(alloc, [0x07, 0xd0, 0], 0, 0, 20)?;
     file.extend_from_slice(&[0, 0, 0, 49])?;
     for place in 0..49 {
         file.extend_from_slice(&[0, 0, 0, 3, 0xcc + place, 1, 0x49])?;
@@ -291,6 +291,15 @@ fn writer() -> Writer
     }
 }
 
+/// A probe that is never rolled back.
+fn forward() -> Forward<Probe>
+    ensures { (result.party.due ≡ 5) × (result.party.lag ≡ 5) }
+{
+    Forward {
+        party: at_power_on(),
+    }
+}
+
 /// Two runs ended alike.
 fn same_end(one: &Done<Writer, Forward<Probe>>, other: &Done<Writer, Forward<Probe>>) -> bool {
     let parties = one.host.due == other.host.due
@@ -317,97 +326,71 @@ fn a_session_goes_on_as_the_whole_run(rt: HostRuntime) -> Result<(), Fail> {
             0,
             26,
             9,
-            "000000000A H W 1 01\n0000000014 H W 1 02\n",
-            "000000000A P R 0 C0\n0000000014 P R 0 C0\n",
+            "~0A H W 1 01;~14 H W 1 02;",
+            "~0A P R 0 C0;~14 P R 0 C0;",
             2,
         ),
-        (
-            "",
-            10,
-            26,
-            1,
-            "000000000A H W 1 01\n",
-            "000000000A P R 0 C0\n",
-            2,
-        ),
+        ("", 10, 26, 1, "~0A H W 1 01;", "~0A P R 0 C0;", 2),
         ("", 0, 0, 9, "", "", 0),
         // The moment lies between the accesses.
         (
-            "000000000A H W 1 01\n000000000A P R 0 C0\n",
+            "~0A H W 1 01;~0A P R 0 C0;",
             11,
             26,
             9,
-            "000000000A H W 1 01\n0000000014 H W 1 02\n",
-            "000000000A P R 0 C0\n0000000014 P R 0 C0\n",
+            "~0A H W 1 01;~14 H W 1 02;",
+            "~0A P R 0 C0;~14 P R 0 C0;",
             2,
         ),
         (
-            "000000000A H W 1 01\n000000000A P R 0 C0\n",
+            "~0A H W 1 01;~0A P R 0 C0;",
             20,
             36,
             2,
-            "000000000A H W 1 01\n0000000014 H W 1 02\n",
-            "000000000A P R 0 C0\n0000000014 P R 0 C0\n",
+            "~0A H W 1 01;~14 H W 1 02;",
+            "~0A P R 0 C0;~14 P R 0 C0;",
             3,
         ),
         // As many or fewer are kept than the session has.
         (
-            "000000000A H W 1 01\n000000000A P R 0 C0\n0000000014 H W 1 02\n0000000014 P R 0 C0\n",
+            "~0A H W 1 01;~0A P R 0 C0;~14 H W 1 02;~14 P R 0 C0;",
             21,
             36,
             1,
-            "000000000A H W 1 01\n",
-            "000000000A P R 0 C0\n",
+            "~0A H W 1 01;",
+            "~0A P R 0 C0;",
             3,
         ),
-        (
-            "000000000A H W 1 01\n000000000A P R 0 C0\n",
-            15,
-            36,
-            0,
-            "",
-            "",
-            3,
-        ),
+        ("~0A H W 1 01;~0A P R 0 C0;", 15, 36, 0, "", "", 3),
         // The run ends at the moment.
         (
-            "000000000A H W 1 01\n000000000A P R 0 C0\n",
+            "~0A H W 1 01;~0A P R 0 C0;",
             20,
             20,
             9,
-            "000000000A H W 1 01\n",
-            "000000000A P R 0 C0\n",
+            "~0A H W 1 01;",
+            "~0A P R 0 C0;",
             1,
         ),
         ("", 10, 10, 9, "", "", 0),
     ];
     for (text, at, n, keep, host_text, para_text, count) in rows {
-        let entries = read(rt.alloc(), text.as_bytes())?.entries;
+        let entries = entries_of(rt.alloc(), text)?;
         let (at, n) = (Tick(at as u64), Tick(n as u64));
-        let probe = Forward {
-            party: at_power_on(),
-        };
+        let probe = forward();
         if n < at || !is_legal(&entries, at) {
             return Err(Fail::from("no session"));
         }
         let Ok(done) = resume(rt.alloc(), writer(), probe, &entries, at, n, keep) else {
             return Err(Fail::from("no memory, or a difference"));
         };
-        assert_eq!(rt;
-            done.host_list,
-            read(rt.alloc(), host_text.as_bytes())?.entries
-        );
-        assert_eq!(rt;
-            done.para_list,
-            read(rt.alloc(), para_text.as_bytes())?.entries
-        );
+        assert_eq!(rt; done.host_list, entries_of(rt.alloc(), host_text)?);
+        assert_eq!(rt; done.para_list, entries_of(rt.alloc(), para_text)?);
         assert_eq!(rt;
             (done.host_count, done.para_count),
             (count as u64, count as u64)
         );
-        let probe = Forward {
-            party: at_power_on(),
-        };
+        let probe = forward();
         let Ok(whole) = solo(rt.alloc(), writer(), probe, n, keep) else {
             return Err(Fail::from("no memory"));
         };
@@ -424,44 +407,36 @@ fn two_parties_go_on_behind_others(rt: HostRuntime) -> Result<(), Fail> {
     // Accesses of other parties, whose byte the parasite's machine finds at its first read, how many are kept, those of each side as a trace, and their
     // whole numbers.
     let rows: [(&str, u32, &str, &str, u8, u8); 3] = [
-        ("", 9, "", "000000000A P R 0 40\n", 0, 1),
+        ("", 9, "", "~0A P R 0 40;", 0, 1),
         (
-            "0000000001 H W 1 41\n0000000003 P R 0 C0\n",
+            "~01 H W 1 41;~03 P R 0 C0;",
             9,
-            "0000000001 H W 1 41\n",
-            "0000000003 P R 0 C0\n000000000A P R 0 C0\n",
+            "~01 H W 1 41;",
+            "~03 P R 0 C0;~0A P R 0 C0;",
             1,
             2,
         ),
         (
-            "0000000001 H W 1 41\n0000000003 P R 0 C0\n",
+            "~01 H W 1 41;~03 P R 0 C0;",
             1,
-            "0000000001 H W 1 41\n",
-            "0000000003 P R 0 C0\n",
+            "~01 H W 1 41;",
+            "~03 P R 0 C0;",
             1,
             2,
         ),
     ];
     for (text, keep, host_text, para_text, host_count, para_count) in rows {
-        let entries = read(rt.alloc(), text.as_bytes())?.entries;
+        let entries = entries_of(rt.alloc(), text)?;
         let late = Writer {
             due: 40,
             byte: 1,
             lag: 40,
         };
-        let probe = Forward {
-            party: at_power_on(),
-        };
+        let probe = forward();
         let room = Room::new(rt.alloc(), keep)?;
         let done = go_on_from(late, probe, &entries, Tick(20), room);
-        assert_eq!(rt;
-            done.host_list,
-            read(rt.alloc(), host_text.as_bytes())?.entries
-        );
-        assert_eq!(rt;
-            done.para_list,
-            read(rt.alloc(), para_text.as_bytes())?.entries
-        );
+        assert_eq!(rt; done.host_list, entries_of(rt.alloc(), host_text)?);
+        assert_eq!(rt; done.para_list, entries_of(rt.alloc(), para_text)?);
         assert_eq!(rt; done.host_count, host_count as u64);
         assert_eq!(rt; done.para_count, para_count as u64);
     }
@@ -482,46 +457,29 @@ fn the_first_difference_of_a_session_is_told(rt: HostRuntime) -> Result<(), Fail
     let rows: [(&str, u16, u64, Option<Doing>); 6] = [
         // The host's difference comes first, also where the parasite's stands before it.
         (
-            "0000000004 P R 0 40\n000000000A H W 1 02\n",
+            "~04 P R 0 40;~0A H W 1 02;",
             20,
             2,
             done_at(10, Side::Host, Op::Write(1, 1)),
         ),
         // The parasite's, where the host has none.
         (
-            "0000000004 P R 0 40\n000000000A H W 1 01\n",
+            "~04 P R 0 40;~0A H W 1 01;",
             20,
             1,
             done_at(10, Side::Para, Op::Read(0)),
         ),
         // No access of the side is left: one past the list.
-        (
-            "000000000A H W 1 01\n",
-            20,
-            2,
-            done_at(10, Side::Para, Op::Read(0)),
-        ),
+        ("~0A H W 1 01;", 20, 2, done_at(10, Side::Para, Op::Read(0))),
         ("", 11, 1, done_at(10, Side::Host, Op::Write(1, 1))),
         // One is left, where the party does nothing more.
-        (
-            "000000000A H W 1 01\n000000000A P R 0 C0\n000000000E H W 1 02\n",
-            15,
-            3,
-            None,
-        ),
-        (
-            "000000000A H W 1 01\n000000000A P R 0 C0\n000000000E P R 0 C0\n",
-            15,
-            3,
-            None,
-        ),
+        ("~0A H W 1 01;~0A P R 0 C0;~0E H W 1 02;", 15, 3, None),
+        ("~0A H W 1 01;~0A P R 0 C0;~0E P R 0 C0;", 15, 3, None),
     ];
     for (text, at, line, doing) in rows {
-        let entries = read(rt.alloc(), text.as_bytes())?.entries;
+        let entries = entries_of(rt.alloc(), text)?;
         let at = Tick(at as u64);
-        let probe = Forward {
-            party: at_power_on(),
-        };
+        let probe = forward();
         if !is_legal(&entries, at) {
             return Err(Fail::from("no session"));
         }
