@@ -1,5 +1,5 @@
 -- Memory that is plain all over, as whole instructions reach it.
-use Rattle.std.specs.Prelude.{◌≡◌, ℕ, zero, suc, List, [], ◌∷◌, Bool, true, slice_index, slice_set, refl}
+use Rattle.std.specs.Prelude.{◌≡◌, ℕ, zero, suc, List, [], ◌∷◌, true, slice_index, slice_set, refl}
 use Rattle.std.proofs.Common.{ap}
 use Rattle.cpu_whole.specs.Whole.{Reach, IsPlain}
 

@@ -1,12 +1,12 @@
 -- A party that leaves off earlier than it might.
-use Rattle.std.proofs.Common.{ℕ, ◌≡◌, ◌<◌, ◌≤◌, Some, refl, ap, subst, arith}
+use Rattle.std.proofs.Common.{ℕ, ◌≡◌, ◌≤◌, Some, refl}
 use Rattle.beeb_bits.specs.declared.Tick.{Tick}
 use Rattle.tube_chip.specs.declared.Answer.TheVariants.{Byte}
 use Rattle.tube_chip.specs.declared.Lines.{Lines}
 use Rattle.tube_chip.specs.declared.Op.{Op}
 use Rattle.tube_party.specs.declared.party.Ask.{Ask}
 use Rattle.tube_party.specs.declared.party.Ask.TheVariants.{Access}
-use Rattle.tube_party.specs.Moves.{Moves, IsLawful, Talks, IsAnswered, Sees, Hears, GoesHearing, shown_lines}
+use Rattle.tube_party.specs.Moves.{Moves, Talks, Sees, Hears, GoesHearing, shown_lines}
 use Rattle.tube_party.specs.Steps.{looks_wider, talks_on, talks_past_access}
 
 -- one that leaves off at no sure look

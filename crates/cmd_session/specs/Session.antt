@@ -1,7 +1,6 @@
 -- `resume STATE TICKS OUT` and options: a run goes on from a session file.
 use Rattle.std.specs.Prelude.{ℕ, min, List, Option, Result, Ok}
 use Rattle.bus_plug.specs.Plug.{Plug}
-use Rattle.tube_trace.specs.declared.Entry.{Entry}
 use Rattle.tube_trace.specs.FirstWrong.{wrong}
 use Rattle.tube_party.specs.declared.Doing.{Doing}
 use Rattle.tube_party.specs.Reference.{reference}

@@ -1,6 +1,5 @@
 pub mod SlotLemmas
 pub mod StageLemmas
-pub mod WorkLemmas
 pub mod HeadlineLemmas
 pub mod HeardLemmas
 pub mod GoneLemmas

@@ -4,9 +4,8 @@ use Rattle.std.proofs.Common.{Option, Some, None, string_bytes, true, false, ◌
 use Rattle.std.specs.Option.{is_none, is_some, option_copied}
 use Rattle.std.specs.Borrow.{Bor}
 use Rattle.cmd_words.specs.declared.keys.Slot.{Slot}
-use Rattle.cmd_words.specs.declared.keys.Taker.{Taker}
 use Rattle.cmd_words.specs.declared.keys.TheConstants.{COUNT}
-use Rattle.cmd_words.specs.Keys.{keys, key_at, fits}
+use Rattle.cmd_words.specs.Keys.{keys, key_at}
 use Rattle.cmd_words.specs.Reads.{file_of, files_of}
 use Rattle.cmd_words.proofs.KeyLemmas.{key_split, no_keys}
 use Rattle.std.proofs.lemmas.List.{drop_more, get_or-map, map-set}
@@ -14,7 +13,7 @@ use Rattle.std.proofs.lemmas.Option.{slice_get-map, slice_get-get_or}
 use Rattle.std.proofs.Math.ListN.{length-map}
 use Rattle.std.specs.declared.string.String.{String}
 use Rattle.std.specs.declared.alloc.Global.{Global}
-use Rattle.cmd_words.specs.Given.{Values, value_at, put_at}
+use Rattle.cmd_words.specs.Given.{Values, value_at}
 use Rattle.cmd_words.specs.View.{word_at, value_of}
 
 word_there : (words : List (String Global)) (at : ℕ) → at < length words → value_of words (Some at) ≡ Some (word_at words at)
@@ -24,12 +23,6 @@ word_there words at h = rw (← slice_get-map string_bytes words at) (slice_get-
 pub places_set : (words : List (String Global)) (places : List (Option ℕ)) (place at : ℕ) → at < length words →
     map (value_of words) (slice_set places place (Some at)) ≡ slice_set (map (value_of words) places) place (Some (word_at words at))
 places_set words places place at h = map-set (value_of words) places place (Some at) ∙ ap (λ v. slice_set (map (value_of words) places) place v) (word_there words at h)
-
--- a word is put in a place that is empty
-pub put_empty : (taker : Taker) (words : List (String Global)) (places : List (Option ℕ)) (place at : ℕ) → at < length words →
-    fits taker place (word_at words at) ≡ true → is_none (value_at (map (value_of words) places) place) ≡ true →
-    Some (map (value_of words) (slice_set places place (Some at))) ≡ put_at taker (word_at words at) (map (value_of words) places) place
-put_empty taker words places place at h fit empty = rw (fit, empty, places_set words places place at h)
 
 -- the files from a key on
 pub files_more : (ws more : List (Slot × List ℕ × ℕ)) (i : ℕ) (values : Values) → i < COUNT → length values ≡ COUNT → more ≡ ws ++ file_of (key_at i).value (value_at values i) →

@@ -3,7 +3,9 @@ ghost use Rattle.std.specs.Prelude.{◌≡◌, ◌<◌, ◌==◌, ◌||◌, fals
 ghost use Rattle.crtc6845.specs.State.{power_on};
 ghost use Rattle.crtc6845.specs.Registers.{select_leaves, set_leaves, answer_of};
 ghost use Rattle.crtc6845.specs.CodeSteps.{cursor_is_on, ends_row_line, is_quiet};
-ghost use Rattle.crtc6845.specs.Clock.{starts_line, begins_sync, begins_horizontal_sync, sync_counted, sync_begun, line_started, is_shown, blinks_on, has_cursor, address, ends_row, ends_frame, ends_line, is_row_done, are_rows_done, is_last_line, row_line_ended, adjust_line_ended, frame_begun, adjust_begun, line_ended, count_leaves, clock_leaves, beam_of, is_in_sync};
+ghost use Rattle.crtc6845.specs.Clock.{starts_line, begins_sync, begins_horizontal_sync, sync_counted, sync_begun, line_started, is_shown, blinks_on, has_cursor};
+ghost use Rattle.crtc6845.specs.Clock.{address, ends_row, ends_frame, ends_line, is_row_done, are_rows_done, is_last_line, row_line_ended, adjust_line_ended};
+ghost use Rattle.crtc6845.specs.Clock.{frame_begun, adjust_begun, line_ended, count_leaves, clock_leaves, beam_of, is_in_sync};
 
 use crate::Beam;
 use crate::registers::Registers;

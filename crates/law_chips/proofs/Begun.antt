@@ -226,12 +226,6 @@ is_seek v s low high = rw (le-ltb v 0x10 low, lt-ltb v 0x20 high)
 inward_by : ℕ → State → Bool
 inward_by v s = if nat_lt v 0x40 then s.last_inward else nat_lt v 0x60
 
-by_tests : (a b : Bool) (v : ℕ) (s : State) →
-    (if a then step_once v s.last_inward s else if b then step_once v true s else step_once v false s) ≡ step_once v (if a then s.last_inward else b) s
-by_tests true b v s = refl
-by_tests false true v s = refl
-by_tests false false v s = refl
-
 is_step : (v : ℕ) (s : State) → 0x20 ≤ v → motion_of v s ≡ step_once v (inward_by v s) s
 unfolding inward_by
 is_step v s low = grind arith

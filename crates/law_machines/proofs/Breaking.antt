@@ -473,7 +473,8 @@ module _ (keeps : HostKeepsCycles) (script : List Event) where
             (omega (arith, due, some_ticks s c)) (keeps.next s a inv.on)
       ]
 
-  plain_step : (o : Option Cycle) {us : List ℕ} {s : HostState} (a : Option Answer) → is_break s ≡ false → next_cycle s.cpu ≡ o → Inv script us s → Inv script (us ++ listed (chance s)) (next_state s a)
+  plain_step : (o : Option Cycle) {us : List ℕ} {s : HostState} (a : Option Answer) → is_break s ≡ false → next_cycle s.cpu ≡ o →
+      Inv script us s → Inv script (us ++ listed (chance s)) (next_state s a)
   plain_step None a free next inv = look_step a free next inv
   plain_step (Some c) {s} a free next inv =
       elim (cases_Bool (halted s.cpu)) [

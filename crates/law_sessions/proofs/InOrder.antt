@@ -1,5 +1,6 @@
 -- The status of a command is that of the first of its causes that holds.
-use Rattle.std.proofs.Common.{◌≡◌, ◌∙◌, sym, refl, ap, append-nil, ℕ, ◌+◌, nat_lt, Bool, true, false, List, [], ◌∷◌, ◌++◌, map, length, Option, Some, None, Result, Ok, Err, Contains, inl, inr, ◌⊎◌, if◌then◌else◌}
+use Rattle.std.proofs.Common.{◌≡◌, ◌∙◌, sym, refl, ap, append-nil, ℕ, ◌+◌, nat_lt, Bool, true, false, List, [], ◌∷◌, ◌++◌, map, length, Option, Some, None, Result, Ok}
+use Rattle.std.proofs.Common.{Err, Contains, inl, inr, ◌⊎◌, if◌then◌else◌}
 use Rattle.std.specs.Prelude.{unwrap_or, IsSomeAnd}
 use Rattle.beeb_bits.specs.declared.clock.Clock.{Clock}
 use Rattle.beeb_bits.specs.declared.Side.{Side}
@@ -75,7 +76,9 @@ use Rattle.cmd_tools.specs.Check as tools_check
 use Rattle.follow.specs.declared.Choice.{Choice}
 use Rattle.cmd_top.specs.Plans.{plan, after, choice_of}
 use Rattle.cmd_top.specs.Commands.{EndsWith}
-use Rattle.law_sessions.specs.Refusals.{first_of, unread_by, unread, misfit, bad_trace, other_clock, bad_script_by, bad_script, bad_state, bad_source, wrong_by, differs_at, held, entries_in, entries_at, events_by, events_in, host_at, trace_causes, entry_causes, replay_causes, pair_causes, session_causes, read_causes, causes, NoFault, ComesToWriting, RefusesInOrder, RefusalsInOrder}
+use Rattle.law_sessions.specs.Refusals.{first_of, unread_by, unread, misfit, bad_trace, other_clock, bad_script_by, bad_script, bad_state, bad_source, wrong_by}
+use Rattle.law_sessions.specs.Refusals.{differs_at, held, entries_in, entries_at, events_by, events_in, host_at, trace_causes, entry_causes, replay_causes, pair_causes}
+use Rattle.law_sessions.specs.Refusals.{session_causes, read_causes, causes, NoFault, ComesToWriting, RefusesInOrder, RefusalsInOrder}
 
 -- a command that comes to this tells the first of these causes
 abbrev Tells : Result (Verdict Ending) (Stop Cause) → List (Option Status) → Type 0
