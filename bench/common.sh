@@ -20,6 +20,7 @@ busy bench/busy-os bench/busy-tube
 demo examples/demo-os examples/demo-tube
 stream examples/demo-os bench/pairs/stream-tube
 slow examples/demo-os bench/pairs/slow-tube
+echo bench/pairs/echo-os bench/pairs/echo-tube
 fetch bench/pairs/fetch-os bench/pairs/fetch-tube
 host-polls examples/demo-os bench/busy-tube
 second-polls bench/busy-os bench/pairs/polls-tube

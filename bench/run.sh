@@ -47,8 +47,9 @@ echo "processors $a and $b of $(nproc); fastest, middle and slowest of five"
 for pair; do
     assemble_pair "$pair"
     rm -f times.*
-    # The machine's state may change between runs, so all are run in turn.
+    # The machine's state may change between runs, so all are run in turn. A file that stands is replaced, which costs more than a new one.
     for _ in 1 2 3 4 5; do
+        rm -f solo.* replayed* two.* one.*
         timed times.solo on_one solo "$ticks" solo $words --keep 4194304
         timed times.host on_one replay host solo.trace "$ticks" replayed --os "$pair-os" $more
         timed times.para on_one replay para solo.trace "$ticks" replayed --tube "$pair-tube"

@@ -1,4 +1,5 @@
-; Both send while the host draws: each byte of the second processor goes to a bit-mapped screen of 20 KB, and back. A timer interrupts each millisecond.
+; Both send while the host draws: each byte of the second processor goes back, and is drawn as sixteen bytes of a bit-mapped screen of 20 KB. A timer
+; interrupts each millisecond.
         org &C000
 start:  LDX #255
         TXS
@@ -27,12 +28,17 @@ mode:   STX &FE00
 next:   BIT &FEE2
         BPL next
         LDA &FEE3
-        STA (&70),Y
-        EOR &72
 room:   BIT &FEE2
         BVC room
         STA &FEE3
+        LDX #16
+line:   STA (&70),Y     ; each turned by a bit
         INY
+        ASL A
+        ADC #0
+        DEX
+        BNE line
+        TYA
         BNE next
         INC &71
         BPL next

@@ -18,10 +18,12 @@ use Rattle.tube_chip.specs.Events.{Event, IsBefore, Rises, RisesAfter, IsAnswere
 use Rattle.tube_chip.specs.Laws.{RisingListIsMerge}
 use Rattle.tube_trace.specs.declared.Entry.{Entry}
 use Rattle.tube_trace.specs.Entries.{IsEntry, entry_of, event_of, events_of, accesses}
-use Rattle.tube_trace.specs.Merge.{IsOfSide}
+use Rattle.tube_trace.specs.Merge.{IsOfSide, of_both}
 use Rattle.tube_trace.specs.Text.{HasLine, IsAnswer}
+use Rattle.tube_trace.proofs.MergeLemmas.{Rises-take, accesses_back}
 use Rattle.tube_party.specs.declared.one_thread.Done.{Done}
 use Rattle.tube_party.specs.Reference.{World, IsTraceBelow}
+use Rattle.tube_party.proofs.Listed.{before-then}
 use Rattle.host_mach.specs.State.{HostState}
 use Rattle.para_mach.specs.State.{ParaState}
 use Rattle.save_state.specs.Saved.{Session}
@@ -83,9 +85,6 @@ entries_sided s (e ∷ es) all = entry_sided s e.side e.tick e.query e.answer (a
 
 -- ---- their order
 
-before-then : (a b c : ℕ) (x y z : Side) → IsTrue (before a x b y) → IsTrue (before b y c z) → IsTrue (before a x c z)
-before-then a b c x y z one two = grind (arith, nat_tests)
-
 past : (x e : Event) (es : List Event) → IsBefore x e → RisesAfter e es → RisesAfter x es
 past x e [] first rises = tt
 past x e (f ∷ es) first rises = (before-then x.tick e.tick f.tick x.side e.side f.side first rises.0, rises.1)
@@ -98,7 +97,7 @@ own_rises_after s x [] rises = tt
 own_rises_after s x (e ∷ es) rises =
     after_one (is_side s e.side) x e (of_side s es) rises.0 (own_rises_after s e es rises.1) (own_rises_after s x es (past x e es rises.0 rises.1))
 
-rest_rises : (x : Event) (es : List Event) → RisesAfter x es → Rises es
+pub rest_rises : (x : Event) (es : List Event) → RisesAfter x es → Rises es
 rest_rises x [] rises = tt
 rest_rises x (e ∷ es) rises = rises.1
 
@@ -109,29 +108,12 @@ own_rises : (s : Side) (es : List Event) → Rises es → Rises (of_side s es)
 own_rises s [] rises = tt
 own_rises s (e ∷ es) rises = from_one (is_side s e.side) e (of_side s es) (own_rises_after s e es rises)
 
-few_rise_after : (k : ℕ) (x : Event) (es : List Event) → RisesAfter x es → RisesAfter x (take k es)
-few_rise_after (suc k) x (e ∷ es) rises = (rises.0, few_rise_after k e es rises.1)
-few_rise_after zero x es rises = tt
-few_rise_after k x [] rises = tt
-
-pub few_rise : (k : ℕ) (es : List Event) → Rises es → Rises (take k es)
-few_rise (suc k) (e ∷ es) rises = few_rise_after k e es rises
-few_rise zero es rises = tt
-few_rise k [] rises = tt
-
 -- ---- entries and their events
 
 pub events_take : (k : ℕ) (xs : List Entry) → events_of (take k xs) ≡ take k (events_of xs)
 events_take zero xs = refl
 events_take (suc k) [] = refl
 events_take (suc k) (x ∷ xs) = ap (λ (z : List Event). event_of x ∷ z) (events_take k xs)
-
-accesses_back : (xs : List Entry) → accesses (events_of xs) ≡ xs
-accesses_back [] = refl
-accesses_back (x ∷ xs) = ap (λ (z : List Entry). x ∷ z) (accesses_back xs)
-
-same_entries : (xs ys : List Entry) → events_of xs ≡ events_of ys → xs ≡ ys
-same_entries xs ys is = sym (accesses_back xs) ∙ ap accesses is ∙ accesses_back ys
 
 -- what is kept of a side, as events
 own_events : (s : Side) (list : List Event) (keep : ℕ) (own : List Entry) → own ≡ take keep (accesses (of_side s list)) →
@@ -140,20 +122,19 @@ own_events s list keep own is = ap events_of is ∙ events_take keep (accesses (
 
 pub of_one_side : (s : Side) (list : List Event) (keep : ℕ) (own : List Entry) → Rises (events_of (accesses list)) → own ≡ take keep (accesses (of_side s list)) → IsOfSide s own
 of_one_side s list keep own rises is = record {
-  rises = rw (own_events s list keep own is) (few_rise keep _ (own_rises s _ rises));
+  rises = rw (own_events s list keep own is) (Rises-take keep _ (own_rises s _ rises));
   each = rw is (All-take (IsFrom s) keep _ (entries_sided s (of_side s list) (sided s list)));
 }
 
 -- what is kept of both sides
-pub of_both_sides : (list : List Event) (keep : ℕ) (host para all : List Entry) → RisingListIsMerge → Rises (events_of (accesses list)) →
-    host ≡ take keep (accesses (of_side Host list)) → para ≡ take keep (accesses (of_side Para list)) →
-    events_of all ≡ take keep (merge (events_of host) (events_of para)) → all ≡ take keep (accesses list)
-of_both_sides list keep host para all law rises is_host is_para merged =
+pub of_both_sides : (n : ℕ) (list : List Event) (keep : ℕ) (host para : List Entry) → RisingListIsMerge → AreFirst n list keep host para → of_both keep host para ≡ take keep (accesses list)
+of_both_sides n list keep host para law first =
     let whole = events_of (accesses list) in
     let least : keep ≤ keep = omega arith in
     let few = merge_less keep keep keep (of_side Host whole) (of_side Para whole) least least in
-    same_entries all (take keep (accesses list))
-    (rw (own_events Host list keep host is_host, own_events Para list keep para is_para) at merged ∙ few ∙ ap (take keep) (law whole rises) ∙ sym (events_take keep (accesses list)))
+    let is : take keep (merge (events_of host) (events_of para)) ≡ events_of (take keep (accesses list)) =
+    rw (own_events Host list keep host first.host_is, own_events Para list keep para first.para_is) (few ∙ ap (take keep) (law whole first.trace.rises) ∙ sym (events_take keep (accesses list))) in
+    ap accesses is ∙ accesses_back (take keep (accesses list))
 
 -- ---- lines and counts
 
@@ -220,10 +201,10 @@ first_of n list keep d host para kept is_host is_para =
 -- ---- the verdict
 
 pub kept_is : (clock : Clock) (begun : Option Session) (ticks keep : ℕ) (names : Names) (w : World HostState ParaState) (host : HostState) (para : ParaState) (tube : ℕ)
-    (kept : Kept) (saved : Option (List ℕ)) → host ≡ w.host → para ≡ w.para → tube ≡ length (accesses w.list) → AreFiles clock begun ticks keep tube w.list kept saved →
+    (kept : Kept) (saved : Option (List ℕ)) → host ≡ w.host → para ≡ w.para → AreFiles clock begun ticks keep w.list tube kept saved →
     machine_verdict (both_left clock ticks tube names host para kept saved) ≡ kept_verdict clock begun ticks keep names w
 unfolding kept_verdict
-kept_is clock begun ticks keep names w host para tube kept saved is_host is_para many files = rw (is_host, is_para, files.kept_is, files.saved_is, many)
+kept_is clock begun ticks keep names w host para tube kept saved is_host is_para files = rw (is_host, is_para, files.kept_is, files.saved_is, files.tube_is)
 
 -- what is so of a view is so of each run
 pub for_each : {X E V : Type 0} (r : Result X E) (view : X → V) (v : V) (P : HostState → ParaState → Type 0) (w : HostState → ParaState → V) → IfOk r (λ x. view x ≡ v) →

@@ -12,25 +12,22 @@ use Rattle.tube_chip.specs.Events.{Rises, RisesAfter, IsAnsweredFrom}
 use Rattle.tube_trace.specs.declared.Entry.{Entry}
 use Rattle.tube_trace.specs.Entries.{IsEntry, event_of, events_of}
 use Rattle.tube_trace.specs.Text.{HasLine}
+use Rattle.tube_trace.proofs.MergeLemmas.{Rises-take}
 use Rattle.tube_party.specs.Reference.{IsTraceBelow}
 use Rattle.save_state.specs.Saved.{Session}
 use Rattle.save_state.specs.File.{IsSession}
 use Rattle.cmd_ended.specs.Save.{below, saved_tick, saved_of}
-use Rattle.cmd_ended.proofs.KeptLemmas.{Below, few_rise, events_take, all_lines}
+use Rattle.cmd_ended.proofs.KeptLemmas.{Below, rest_rises, events_take, all_lines}
 
 -- ---- of entries, each before the next, those below a tick are the first
 
 not_sooner : (a b : ℕ) (x y : Side) → IsTrue (before a x b y) → a ≤ b
 not_sooner a b x y h = grind (arith, nat_tests)
 
-rest_rises : (x : Entry) (xs : List Entry) → RisesAfter (event_of x) (events_of xs) → Rises (events_of xs)
-rest_rises x [] rises = tt
-rest_rises x (y ∷ xs) rises = rises.1
-
 drop_rises : (i : ℕ) (xs : List Entry) → Rises (events_of xs) → Rises (events_of (drop i xs))
 drop_rises zero xs rises = rises
 drop_rises (suc i) [] rises = tt
-drop_rises (suc i) (x ∷ xs) rises = drop_rises i xs (rest_rises x xs rises)
+drop_rises (suc i) (x ∷ xs) rises = drop_rises i xs (rest_rises (event_of x) (events_of xs) rises)
 
 none_after : (t : ℕ) (x : Entry) (xs : List Entry) → t ≤ (x.tick).0 → RisesAfter (event_of x) (events_of xs) → below t xs ≡ []
 none_after t x [] late rises = refl
@@ -59,9 +56,6 @@ answered_take (suc k) c (x ∷ xs) answered = (answered.0, answered_take k (act 
 answered_take zero c xs answered = tt
 answered_take k c [] answered = tt
 
-take_rises : (k : ℕ) (xs : List Entry) → Rises (events_of xs) → Rises (events_of (take k xs))
-take_rises k xs rises = rw events_take (few_rise k (events_of xs) rises)
-
 below_by : (t : ℕ) (b : Bool) (x : Entry) (ys : List Entry) → nat_lt (x.tick).0 t ≡ b → All (Below t) ys →
     All (Below t) (if b then x ∷ ys else ys)
 below_by t true x ys is all = All-cons (Below t) x ys (grind (arith, nat_tests)) all
@@ -75,7 +69,7 @@ pub first_of_trace : (t k n : ℕ) (xs ys : List Entry) → ys ≡ take k xs →
 first_of_trace t k n xs ys taken is trace =
     rw taken (record {
       entries = All-take IsEntry k xs trace.entries;
-      rises = take_rises k xs trace.rises;
+      rises = rw events_take (Rises-take k (events_of xs) trace.rises);
       below = rw is at (all_below t xs);
       answered = answered_take k power_on xs trace.answered;
     })
@@ -84,7 +78,7 @@ pub take_trace : (k n : ℕ) (xs ys : List Entry) → ys ≡ take k xs → IsTra
 take_trace k n xs ys taken trace =
     rw taken (record {
       entries = All-take IsEntry k xs trace.entries;
-      rises = take_rises k xs trace.rises;
+      rises = rw events_take (Rises-take k (events_of xs) trace.rises);
       below = All-take (Below n) k xs trace.below;
       answered = answered_take k power_on xs trace.answered;
     })

@@ -1,5 +1,5 @@
 -- What the code holds of a run, as the definitions see it.
-use Rattle.std.specs.Prelude.{◌≡◌, ℕ, ◌≤◌, nat_le, List, take, Option, option_map}
+use Rattle.std.specs.Prelude.{◌≡◌, ℕ, ◌≤◌, List, length, take, Option}
 use Rattle.beeb_bits.specs.declared.clock.Clock.{Clock}
 use Rattle.bus_plug.specs.Plug.{Plug}
 use Rattle.tube_party.specs.declared.one_thread.Done.{Done}
@@ -16,10 +16,8 @@ use Rattle.host_mach.specs.View.{host_seen}
 use Rattle.para_mach.specs.State.{ParaState}
 use Rattle.para_mach.specs.Step.{para_moves}
 use Rattle.save_state.specs.Saved.{Session}
-use Rattle.save_state.specs.File.{file_of}
 use Rattle.cmd_outcome.specs.Left.{Kept}
-use Rattle.cmd_ended.specs.Save.{saved_of}
-use Rattle.cmd_ended.specs.Kept.{kept_of}
+use Rattle.cmd_ended.specs.Kept.{kept_of, saved_file}
 
 -- both machines were run from these states as the reference run does, and of the accesses of each side the first `keep` were kept
 abbrev pub IsRun : {D : Type 0} → (D → Plug) → HostState → ParaState → ℕ → ℕ → Done (HostMachine D) ParaState → Type 0
@@ -40,8 +38,9 @@ pub record AreKept {H P : Type 0} (n : ℕ) (list : List Event) (keep : ℕ) (d 
   pub host_kept : IsKept sides.Host list keep d.host_list.items d.host_count
   pub para_kept : IsKept sides.Para list keep d.para_list.items d.para_count
 
--- Of a run of so many ticks with this list of events, these are what is kept of its accesses, which are so many in all, and its session file, if it
--- began so and is to be saved.
-pub record AreFiles (clock : Clock) (begun : Option Session) (n keep tube : ℕ) (list : List Event) (kept : Kept) (saved : Option (List ℕ)) : Type 0 where
+-- What a run of so many ticks with this list of events leaves, which began so, if it is to be saved: how many its accesses are, what is kept of them, and
+-- its session file.
+pub record AreFiles (clock : Clock) (begun : Option Session) (n keep : ℕ) (list : List Event) (tube : ℕ) (kept : Kept) (saved : Option (List ℕ)) : Type 0 where
+  pub tube_is : tube ≡ length (accesses list)
   pub kept_is : kept ≡ kept_of clock (take keep (accesses list))
-  pub saved_is : saved ≡ option_map (λ (b : Session). file_of (saved_of b n (nat_le tube keep) (take keep (accesses list)))) begun
+  pub saved_is : saved ≡ saved_file begun n keep list

@@ -1,16 +1,17 @@
 -- Two sides merged entry by entry.
-use Rattle.std.proofs.Common.{◌≡◌, refl, ℕ, zero, suc, ◌+◌, ◌-◌, ◌<◌, length, take, List, [], ◌∷◌, ◌++◌, true, false, IsTrue, nat_lt, cond, All, Some, arith, append_assoc, length-append, ◌⊎◌, inl}
+use Rattle.std.proofs.Common.{◌≡◌, refl, ap, ℕ, zero, suc, ◌+◌, ◌-◌, ◌<◌, ◌≤◌, length, take, List, [], ◌∷◌, ◌++◌, true, false, IsTrue, nat_lt, cond, All, Some, None, arith, append_assoc, length-append, take_all, ◌⊎◌, inl}
 use Rattle.std.proofs.Common.{inr}
 use Rattle.std.proofs.lemmas.List.{map-append}
 use Rattle.std.proofs.lemmas.List.Elements.{All-push, All-head, All-tail}
+use Rattle.std.proofs.lemmas.Grind.{common_steps}
 use Rattle.std.proofs.lemmas.Bool.Decides.{nat_tests}
 use Rattle.beeb_bits.specs.Order.{before}
 use Rattle.beeb_bits.specs.declared.Side.{Side}
 use Rattle.beeb_bits.specs.declared.Side.TheVariants.{Host, Para}
 use Rattle.tube_chip.specs.Events.{Event, Rises, RisesAfter, merge, put_in}
 use Rattle.tube_trace.specs.declared.Entry.{Entry}
-use Rattle.tube_trace.specs.Entries.{event_of, events_of}
-use Rattle.tube_trace.specs.Merge.{IsOfSide, next_of}
+use Rattle.tube_trace.specs.Entries.{accesses, event_of, events_of}
+use Rattle.tube_trace.specs.Merge.{IsOfSide, next_of, of_both}
 use Rattle.tube_trace.specs.Text.{HasLine}
 
 -- an entry is the next of two lists, and these are left
@@ -46,6 +47,28 @@ merged_more {keep} {entries} {host_left} {para_left} {x} so_far is low =
           let left = next_lines host_left para_left is parts.1 parts.2 in
           (All-push HasLine entries x parts.0 left.0, left.1, left.2);
     }
+
+-- ---- entries of both lists, and those of one alone
+
+pub accesses_back : (xs : List Entry) → accesses (events_of xs) ≡ xs
+accesses_back [] = refl
+accesses_back (x ∷ xs) = ap (λ (z : List Entry). x ∷ z) (accesses_back xs)
+
+pub more_of_both : (k : ℕ) (host para : List Entry) {x : Entry} {h p : List Entry} → next_of host para ≡ Some (x, h, p) → of_both (suc k) host para ≡ x ∷ of_both k h p
+more_of_both k host para is = ap (λ es. accesses (take (suc k) es)) (next_merged host para is)
+
+pub none_of_both : (k : ℕ) (host para : List Entry) → next_of host para ≡ None → of_both k host para ≡ []
+none_of_both k host para is = grind (arith, nat_tests)
+
+-- one list alone
+merge_one : (events : List Event) → merge events [] ≡ events
+merge_one [] = refl
+merge_one (e ∷ events) = ap (λ (z : List Event). e ∷ z) (merge_one events)
+
+pub of_one : (xs : List Entry) → of_both (length xs) xs [] ≡ xs
+of_one xs =
+    let few : length (events_of xs) ≤ length xs = grind (arith, common_steps) in
+    rw (merge_one (events_of xs), take_all (length xs) (events_of xs) few) (accesses_back xs)
 
 -- ---- what is merged of two sides rises
 
@@ -98,7 +121,7 @@ RisesAfter-take zero x events rises = tt
 RisesAfter-take (suc k) x [] rises = tt
 RisesAfter-take (suc k) x (e ∷ events) rises = (rises.0, RisesAfter-take k e events rises.1)
 
-Rises-take : (k : ℕ) (events : List Event) → Rises events → Rises (take k events)
+pub Rises-take : (k : ℕ) (events : List Event) → Rises events → Rises (take k events)
 Rises-take zero events rises = tt
 Rises-take (suc k) [] rises = tt
 Rises-take (suc k) (e ∷ events) rises = RisesAfter-take k e events rises

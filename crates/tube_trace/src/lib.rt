@@ -17,7 +17,7 @@ pub use merging::merge;
 pub use reading::read;
 use thiserror::Error;
 use tube_chip::Op;
-pub use writing::write;
+pub use writing::{write, write_both};
 pub use wrong::first_wrong;
 
 /// One access of a side to the Tube.

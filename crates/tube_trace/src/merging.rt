@@ -11,7 +11,8 @@ use beeb_bits::NoMemory;
 use std::alloc::{AllocError, Global};
 
 // The entry that comes first, and what is left of both lists.
-fn split_first<'a, 'b>(
+#[inline(always)]
+pub(crate) fn split_first<'a, 'b>(
     host: &'a [Entry],
     para: &'b [Entry],
 ) -> Option<(Entry, &'a [Entry], &'b [Entry])>

@@ -3,6 +3,7 @@ ghost use Rattle.std.specs.Prelude.{◌≡◌, Ok, All, IfOk};
 ghost use Rattle.tube_chip.specs.Events.{Rises};
 ghost use Rattle.tube_trace.specs.Entries.{events_of};
 ghost use Rattle.tube_trace.specs.Laws.{IsOfByte};
+ghost use Rattle.tube_trace.specs.Merge.{of_both};
 ghost use Rattle.tube_trace.specs.Text.{HasLine, text_of};
 ghost use Rattle.tube_trace.specs.Trace.{trace};
 
@@ -10,22 +11,32 @@ use crate::Entry;
 use crate::beginning::beginning;
 use crate::law::text_reads_back;
 use crate::line::{LENGTH, push_line};
+use crate::merging::split_first;
 use beeb_bits::{Clock, NoMemory};
 use std::alloc::{AllocError, Global};
 
-fn text_of(alloc: Global, clock: Clock, entries: &[Entry]) -> Result<Vec<u8>, AllocError>
-    ensures text { IfOk result (λ v. v.items ≡ text_of clock entries.now) }
-    ensures bytes { IfOk result (λ _. All IsOfByte entries.now) }
+fn text_of(
+    alloc: Global,
+    clock: Clock,
+    mut host: &[Entry],
+    mut para: &[Entry],
+    keep: usize,
+) -> Result<Vec<u8>, AllocError>
+    ensures text { IfOk result (λ v. v.items ≡ text_of clock (of_both keep host.entry.now para.entry.now)) }
+    ensures bytes { IfOk result (λ _. All IsOfByte (of_both keep host.entry.now para.entry.now)) }
 {
     let beginning = beginning(clock);
-    let room = entries
-        .len()
-        .saturating_mul(LENGTH)
-        .saturating_add(beginning.len());
+    let lines = host.len().saturating_add(para.len()).min(keep);
+    let room = lines.saturating_mul(LENGTH).saturating_add(beginning.len());
     let mut text = Vec::with_capacity(alloc, room)?;
     text.extend_from_slice(beginning)?;
-    for entry in entries {
-        push_line(&mut text, *entry)?;
+    for _ in 0..keep {
+        let Some((first, host_rest, para_rest)) = split_first(host, para) else {
+            break;
+        };
+        push_line(&mut text, first)?;
+        host = host_rest;
+        para = para_rest;
     }
     Ok(text)
 }
@@ -42,5 +53,26 @@ pub fn write(alloc: Global, clock: Clock, entries: &[Entry]) -> Result<Vec<u8>, 
     ensures back { IfOk result (λ v. trace v.items ≡ Ok (clock, entries.now)) }
 {
     text_reads_back();
-    Ok(text_of(alloc, clock, entries)?)
+    Ok(text_of(alloc, clock, entries, &[], entries.len())?)
+}
+
+/// The text of a trace of the first `keep` entries of both lists in one, by tick, and at equal ticks the host's first: what `write` makes of what
+/// `merge` makes of them, without that list.
+///
+/// # Errors
+/// Memory for the text can be wanting.
+pub fn write_both(
+    alloc: Global,
+    clock: Clock,
+    host: &[Entry],
+    para: &[Entry],
+    keep: u32,
+) -> Result<Vec<u8>, NoMemory>
+    ensures text { IfOk result (λ v. v.items ≡ text_of clock (of_both keep host.now para.now)) }
+    // In words: where these entries rise and have lines, `read` gives this clock and these entries.
+    ensures back { let entries = of_both keep host.now para.now in
+        IfOk result (λ v. Rises (events_of entries) → All HasLine entries → trace v.items ≡ Ok (clock, entries)) }
+{
+    text_reads_back();
+    Ok(text_of(alloc, clock, host, para, keep as usize)?)
 }

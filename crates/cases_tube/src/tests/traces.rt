@@ -3,7 +3,7 @@ use beeb_bits::{Clock, Side, Tick};
 use std::alloc::{AllocError, Global};
 use std::test::Fail;
 use tube_chip::Op;
-use tube_trace::{Entry, TraceError, first_wrong, merge, push_access, read, write};
+use tube_trace::{Entry, TraceError, first_wrong, merge, push_access, read, write, write_both};
 
 #[test]
 fn a_line_tells_of_one_access(rt: HostRuntime) -> Result<(), Fail> {
@@ -102,6 +102,8 @@ fn two_sides_are_merged_by_tick_and_the_host_first(rt: HostRuntime) -> Result<()
     for (keep, length) in [(0, 0), (1, 1), (3, 3), (9, 5)] {
         let entries = merge(rt.alloc(), &host, &para, keep)?;
         assert_eq!(rt; entries.as_slice(), &all[..length]);
+        let text = write_both(rt.alloc(), Clock::Four, &host, &para, keep)?;
+        assert_eq!(rt; text, write(rt.alloc(), Clock::Four, &all[..length])?);
     }
     Ok(())
 }

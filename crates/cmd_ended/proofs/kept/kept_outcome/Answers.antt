@@ -42,4 +42,4 @@ returns g c =
     ap machine_verdict (both_is c.args.clock c.args.ticks c.in_ok-parts.parts.tube (names_seen c.args.names) c.new.result.items
     (host_stepped g.D.BusDevice.plug c.settled.result) c.in_ok-parts.parts.para (kept_seen c.in_ok-parts.parts.kept) (option_map items c.in_ok-parts.parts.saved) c.new.ensures.items)
     ∙ kept_is c.args.clock (option_map session c.args.begun) c.args.ticks c.args.keep (names_seen c.args.names) w _ _ c.in_ok-parts.parts.tube _ _
-    (c.settled.ensures.stepped ∙ ap (host_seen g.D.BusDevice.plug) c.in_ok-parts.ensures.parties.0 ∙ run.host_is) (c.in_ok-parts.ensures.parties.1 ∙ run.para_is) files.0 files.1)
+    (c.settled.ensures.stepped ∙ ap (host_seen g.D.BusDevice.plug) c.in_ok-parts.ensures.parties.0 ∙ run.host_is) (c.in_ok-parts.ensures.parties.1 ∙ run.para_is) files)

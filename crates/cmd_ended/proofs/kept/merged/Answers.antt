@@ -1,4 +1,7 @@
+use Rattle.std.proofs.Common.{sym, ap, ◌∙◌}
 use Rattle.beeb_bits.specs.declared.Side.TheVariants.{Host, Para}
+use Rattle.tube_trace.specs.Entries.{accesses}
+use Rattle.tube_trace.proofs.MergeLemmas.{accesses_back}
 use Rattle.cmd_ended.proofs.KeptLemmas.{of_one_side, of_both_sides}
 use Rattle.cmd_ended.proofs.kept.merged.Goals as goal
 
@@ -10,5 +13,5 @@ merge-requires-clause-para c = of_one_side Para c.requires.1 c.args.keep c.args.
 
 pub returns : goal.returns
 returns c = λ n list first.
-    of_both_sides list c.args.keep c.args.host.now c.args.para.now c.in_ok-kept.kept.items c.rising_list_is_merge.ensures first.trace.rises
-    first.host_is first.para_is c.in_ok-kept.ensures.merged
+    sym (accesses_back c.in_ok-merge.field-0.items) ∙ ap accesses c.in_ok-merge.ensures.merged
+    ∙ of_both_sides n list c.args.keep c.args.host.now c.args.para.now c.rising_list_is_merge.ensures first

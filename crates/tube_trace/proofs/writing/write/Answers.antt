@@ -1,7 +1,16 @@
-use Rattle.std.proofs.Common.{ap, ◌∙◌}
+use Rattle.std.proofs.Common.{◌≡◌, ◌∙◌, ap, length, []}
+use Rattle.tube_trace.specs.Merge.{of_both}
+use Rattle.tube_trace.specs.Text.{text_of}
 use Rattle.tube_trace.specs.Trace.{trace}
+use Rattle.tube_trace.proofs.MergeLemmas.{of_one}
 use Rattle.tube_trace.proofs.writing.write.Goals as goal
 
-pub returns-clause-back : goal.returns-clause-back
-returns-clause-back c =
-    ap trace c.in_ok-text_of.ensures.text ∙ c.text_reads_back.ensures.text c.args.clock c.args.entries.now c.requires.rises c.requires.lines c.in_ok-text_of.ensures.bytes
+pub returns : goal.returns
+returns c =
+    let xs = c.args.entries.now in
+    let all : of_both (length xs) xs [] ≡ xs = of_one xs in
+    let text = c.in_ok-text_of.ensures.text ∙ ap (text_of c.args.clock) all in
+    record {
+      text = text;
+      back = ap trace text ∙ c.text_reads_back.ensures.text c.args.clock xs c.requires.rises c.requires.lines (rw all at c.in_ok-text_of.ensures.bytes);
+    }
