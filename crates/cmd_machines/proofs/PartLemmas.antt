@@ -1,76 +1,80 @@
--- What the machines of a session are made of: slots below 16, and a script that is no longer than a session's.
-use Rattle.std.proofs.Common.{◌≡◌, ◌∙◌, sym, refl, ap, subst, ℕ, zero, suc, ◌<◌, ◌≤◌, ◌==◌, length, map, slice_index_or, get_or}
+-- What the machines of a session are made of: slots that rise and are below 16, and a script that is no longer than a session's.
+use Rattle.std.proofs.Common.{◌≡◌, ◌∙◌, sym, refl, ap, subst, ℕ, zero, suc, ◌+◌, ◌<◌, ◌≤◌, length, map, slice_index_or, get_or, IsTrue}
 use Rattle.std.proofs.Common.{List, [], ◌∷◌, ◌++◌, Option, Some, None, option_map, Result, Ok, Err, IfOk, IfSome, arith}
 use Rattle.std.proofs.lemmas.Bool.Decides.{nat_tests}
-use Rattle.std.specs.List.{All, range_with_len}
+use Rattle.std.proofs.lemmas.Simd.{map-map}
+use Rattle.std.specs.List.{All, range_with_len, filter_map}
 use Rattle.std.specs.declared.vec.Vec.{Vec}
 use Rattle.std.specs.declared.alloc.Global.{Global}
-use Rattle.rom_set.specs.Roms.{Rom, roms_seen}
+use Rattle.rom_set.specs.Roms.{Rom, rom_seen}
 use Rattle.cmd_words.specs.declared.keys.Slot.{Slot}
 use Rattle.cmd_words.specs.declared.keys.Slot.TheVariants as slots
+use Rattle.cmd_words.specs.Reads.{rom_slot, rise_from}
+use Rattle.cmd_words.proofs.SlotLemmas.{left_out, taken}
+use Rattle.cmd_stages.specs.Plan.{Want, AreWithin}
 use Rattle.save_state.specs.declared.Kind.TheVariants as parts
 use Rattle.save_state.specs.Saved.{Session}
 use Rattle.save_state.specs.File.{IsPart, IsSession, part}
-use Rattle.cmd_machines.specs.Inputs.{Inputs, no_inputs, with_input, with_inputs, inputs_of}
+use Rattle.cmd_machines.specs.Inputs.{Inputs, no_inputs, inputs_of}
 use Rattle.cmd_machines.specs.Sessions.{part_slots, if_there, there, inputs_in}
 use Rattle.cmd_machines.specs.View.{items, seen_inputs}
 use Rattle.cmd_machines.specs.declared.inputs.Inputs as held
-use Rattle.cmd_machines.proofs.ReadLemmas.{disc_leaves}
+use Rattle.cmd_machines.proofs.ReadLemmas.{numbers_of, numbers_read, IsCapped, AreCapped, ShortKeys, all_short as short_read}
 
--- ---- a fact of each part that is there
+-- ---- the slots of the paged ROMs
 
--- the slot is below 16, the script no longer than a session's
-abbrev MayBe : Slot → List ℕ → Type 0
-MayBe (slots.Rom n) bytes = n < 16
-MayBe slots.Keys bytes = length bytes ≤ 1048576
-MayBe slot bytes = Unit {0}
+abbrev these : List (Slot × List ℕ) → List ℕ
+these list = filter_map rom_slot (map (λ (one : Slot × List ℕ). one.0) list)
 
-abbrev EachMayBe : List (Slot × List ℕ) → Type 0
-EachMayBe [] = Unit {0}
-EachMayBe (x ∷ list) = MayBe x.0 x.1 × EachMayBe list
+-- those that are there rise as the slots do
+rise : (low : ℕ) (all : List Slot) (ps : List (Option (List ℕ))) → IsTrue (rise_from low (filter_map rom_slot all)) →
+    IsTrue (rise_from low (these (there all ps)))
+rise low [] ps rises = refl
+rise low (slot ∷ all) [] rises = refl
+rise low (slot ∷ all) (None ∷ ps) rises = rise low all ps (left_out low (rom_slot slot) (filter_map rom_slot all) rises)
+rise low (slot ∷ all) (Some bytes ∷ ps) rises = taken low (rom_slot slot) (filter_map rom_slot all) (these (there all ps)) (λ from. rise from all ps) rises
 
-one_part : (slot : Slot) (p : Option (List ℕ)) (more : List (Slot × List ℕ)) → ((bytes : List ℕ) → p ≡ Some bytes → MayBe slot bytes) → EachMayBe more → EachMayBe (if_there slot p ++ more)
-one_part slot None more may each = each
-one_part slot (Some bytes) more may each = (may bytes refl, each)
+pub roms_rise : (s : Session) → IsTrue (rise_from 0 (numbers_of (inputs_in s).roms))
+unfolding inputs_in inputs_of part_slots
+roms_rise s = subst (λ (ns : List ℕ). IsTrue (rise_from 0 ns)) (sym (numbers_read (there part_slots s.parts) no_inputs)) (rise 0 part_slots s.parts refl)
 
--- slots whose parts may be any
+-- slots that rise are below 16
+pub below_at : (xs : List (ℕ × Vec ℕ Global)) (low : ℕ) → IsTrue (rise_from low (map (λ (x : ℕ × Vec ℕ Global). x.0) xs)) →
+    (k : ℕ) (d : ℕ × Vec ℕ Global) → k < length xs → (get_or xs k d).0 < 16
+below_at [] low rises k d h = absurd (omega (arith, h))
+below_at (x ∷ xs) low rises zero d h = grind (arith, nat_tests)
+below_at (x ∷ xs) low rises (suc k) d h =
+    let later : IsTrue (rise_from (x.0 + 1) (map (λ (x : ℕ × Vec ℕ Global). x.0) xs)) = grind (arith, nat_tests) in below_at xs (x.0 + 1) later k d
+    (omega (arith, h))
+
+-- ---- the length of the key script
+
+-- what is there as what was wanted, of no name, and no longer than it is
+abbrev wants_of : List (Slot × List ℕ) → List (Want Slot)
+wants_of list = map (λ (x : Slot × List ℕ). (x.0, [], length x.1)) list
+
+all_within : (list : List (Slot × List ℕ)) → AreWithin (wants_of list) list
+all_within [] = tt
+all_within (x ∷ list) = (refl, omega arith, all_within list)
+
+one_part : (slot : Slot) (p : Option (List ℕ)) (more : List (Slot × List ℕ)) → ((bytes : List ℕ) → p ≡ Some bytes → IsCapped slot (length bytes)) →
+    AreCapped (wants_of more) → AreCapped (wants_of (if_there slot p ++ more))
+one_part slot None more capped each = each
+one_part slot (Some bytes) more capped each = (capped bytes refl, each)
+
+-- slots whose parts may be of any length
 abbrev AreFree : List Slot → Type 0
 AreFree [] = Unit {0}
-AreFree (slot ∷ slots) = ((bytes : List ℕ) → MayBe slot bytes) × AreFree slots
+AreFree (slot ∷ slots) = ((cap : ℕ) → IsCapped slot cap) × AreFree slots
 
 each_there : (front : List Slot) (ps : List (Option (List ℕ))) → AreFree front →
-    ((bytes : List ℕ) → slice_index_or ps (length front) None ≡ Some bytes → length bytes ≤ 1048576) → EachMayBe (there (front ++ slots.Keys ∷ []) ps)
+    ((bytes : List ℕ) → slice_index_or ps (length front) None ≡ Some bytes → length bytes ≤ 1048576) →
+    AreCapped (wants_of (there (front ++ slots.Keys ∷ []) ps))
 each_there [] [] free keys = tt
 each_there [] (p ∷ ps) free keys = one_part slots.Keys p (there [] ps) keys tt
 each_there (slot ∷ front) [] free keys = tt
-each_there (slot ∷ front) (p ∷ ps) free keys = one_part slot p (there (front ++ slots.Keys ∷ []) ps) (λ bytes is. free.0 bytes) (each_there front ps free.1 keys)
-
--- ---- what is made of them
-
-abbrev AreBelow : List Rom → Type 0
-AreBelow [] = Unit {0}
-AreBelow (r ∷ roms) = (r.slot < 16) × AreBelow roms
-
-pub record MayStand (i : Inputs) : Type 0 where
-  pub roms : AreBelow i.roms
-  pub keys : IfSome i.keys (λ keys. length keys ≤ 1048576)
-
-more_below : (roms : List Rom) (r : Rom) → AreBelow roms → r.slot < 16 → AreBelow (roms ++ r ∷ [])
-more_below [] r below low = (low, tt)
-more_below (x ∷ roms) r below low = (below.0, more_below roms r below.1 low)
-
-one_stands : (slot : Slot) (bytes : List ℕ) (i : Inputs) → MayBe slot bytes → MayStand i → MayStand (with_input slot bytes i)
-one_stands (slots.Rom n) bytes i may stands = record { roms = more_below i.roms _ stands.roms may; keys = stands.keys }
-one_stands slots.Keys bytes i may stands = record { roms = stands.roms; keys = may }
-one_stands (slots.Disc n) bytes i may stands =
-    let same = disc_leaves (n == 0) bytes i in record { roms = rw same.0 stands.roms; keys = rw same.1 stands.keys }
-one_stands slot bytes i may stands = record { roms = stands.roms; keys = stands.keys }
-
-all_stand : (list : List (Slot × List ℕ)) (i : Inputs) → EachMayBe list → MayStand i → MayStand (with_inputs list i)
-all_stand [] i each stands = stands
-all_stand (x ∷ list) i each stands = all_stand list (with_input x.0 x.1 i) each.1 (one_stands x.0 x.1 i each.0 stands)
-
--- ---- of a session
+each_there (slot ∷ front) (p ∷ ps) free keys =
+    one_part slot p (there (front ++ slots.Keys ∷ []) ps) (λ bytes is. free.0 (length bytes)) (each_there front ps free.1 keys)
 
 abbrev front_slots : List Slot
 front_slots = slots.Os ∷ slots.Tube ∷ map slots.Rom (range_with_len 0 16) ++ slots.Font ∷ slots.Disc 0 ∷ slots.Disc 1 ∷ []
@@ -82,31 +86,30 @@ keys_part : (p : Option (List ℕ)) (bytes : List ℕ) → IsPart parts.Keys p �
 keys_part None bytes is some = cc
 keys_part (Some body) bytes is some = grind (arith, nat_tests)
 
-pub in_stand : (s : Session) → IsPart parts.Keys (part s 21) → MayStand (inputs_in s)
+pub keys_stand : (s : Session) → IsPart parts.Keys (part s 21) → ShortKeys (inputs_in s)
 unfolding inputs_in inputs_of part_slots
-in_stand s keys =
-    all_stand (there part_slots s.parts) no_inputs
-    (each_there front_slots s.parts free_front (λ bytes some. keys_part (part s 21) bytes keys some))
-    (record { roms = tt; keys = tt })
+keys_stand s keys =
+    let list : List (Slot × List ℕ) = there part_slots s.parts in
+    short_read (wants_of list) list no_inputs (all_within list)
+    (each_there front_slots s.parts free_front (λ bytes some. keys_part (part s 21) bytes keys some)) tt
 
-rom_at : (xs : List (ℕ × Vec ℕ Global)) (k : ℕ) (d : ℕ × Vec ℕ Global) → AreBelow (roms_seen xs) → k < length xs → (get_or xs k d).0 < 16
-rom_at [] k d below h = absurd (omega (arith, h))
-rom_at (x ∷ xs) zero d below h = below.0
-rom_at (x ∷ xs) (suc k) d below h = rom_at xs k d below.1 (omega (arith, h))
+-- the slots that contracts see of some inputs
+pub numbers_seen : (i : held.Inputs) → map (λ (x : ℕ × Vec ℕ Global). x.0) i.roms.items ≡ numbers_of (seen_inputs i).roms
+numbers_seen i = sym (map-map (λ (r : Rom). r.slot) rom_seen i.roms.items)
 
 pub keys_held : (keys : Option (Vec ℕ Global)) → IfSome (option_map items keys) (λ keys. length keys ≤ 1048576) → IfSome keys (λ keys. length keys.items ≤ 1048576)
 keys_held None short = tt
 keys_held (Some bytes) short = short
 
 module _ (i : held.Inputs) (s : Session) (keeps : IsSession s) (is : seen_inputs i ≡ inputs_in s) where
-  stands : MayStand (seen_inputs i)
-  stands = subst MayStand (sym is) (in_stand s keeps.keys)
-
   slots_low : All (λ (slot : ℕ × Vec ℕ Global). slot.0 < 16) i.roms.items
-  slots_low = λ k d h. rom_at i.roms.items k d stands.roms h
+  slots_low =
+      let numbers : map (λ (x : ℕ × Vec ℕ Global). x.0) i.roms.items ≡ numbers_of (inputs_in s).roms =
+      numbers_seen i ∙ ap (λ (x : Inputs). numbers_of x.roms) is in
+      below_at i.roms.items 0 (rw numbers (roms_rise s))
 
   keys_short : IfSome i.keys (λ keys. length keys.items ≤ 1048576)
-  keys_short = keys_held i.keys stands.keys
+  keys_short = keys_held i.keys (subst ShortKeys (sym is) (keys_stand s keeps.keys))
 
 module _ (list : List (Slot × List ℕ)) (ps : List (Option (List ℕ))) (listed : list ≡ there part_slots ps) (s : Session) (keeps : IsSession s) (same : s.parts ≡ ps) where
   made : inputs_of list ≡ inputs_in s

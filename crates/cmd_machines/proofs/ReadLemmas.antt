@@ -24,7 +24,7 @@ same_slots (w ∷ ws) [] fits = absurd fits
 same_slots (w ∷ ws) (i ∷ is) fits = rw (fits.0, same_slots ws is fits.2)
 
 -- a disc leaves the paged ROMs and the script
-pub disc_leaves : (first : Bool) (bytes : List ℕ) (i : inputs.Inputs) →
+disc_leaves : (first : Bool) (bytes : List ℕ) (i : inputs.Inputs) →
     let j : inputs.Inputs = if first then record i { disc0 = Some bytes } else record i { disc1 = Some bytes } in (j.roms ≡ i.roms) × (j.keys ≡ i.keys)
 disc_leaves true bytes i = (refl, refl)
 disc_leaves false bytes i = (refl, refl)

@@ -38,9 +38,9 @@ abbrev pub spills : HostState → List Output
 spills s = plugs (length s.bus.bus.plugs)
 
 -- The report; the memories of the machines that are there, the host's first; the discs; the frames; the trace of what is kept, if something is;
--- what the plugged devices spill; and then each output that is given a name of its own.
-unfoldable pub machine_outputs : Left → List Output
-machine_outputs l =
+-- what the plugged devices spill
+abbrev pub front_of : Left → List Output
+front_of l =
     Report ∷ []
     ++ if_there (Memory sides.Host) l.host
     ++ if_there (Memory sides.Para) l.para
@@ -48,5 +48,7 @@ machine_outputs l =
     ++ of_host shots l.host
     ++ if_there Trace l.kept
     ++ of_host spills l.host
-    ++ if_there Sound l.names.wav
-    ++ if_there Session l.names.save
+
+-- all outputs of machines: these, and then each output that is given a name of its own
+unfoldable pub machine_outputs : Left → List Output
+machine_outputs l = front_of l ++ if_there Sound l.names.wav ++ if_there Session l.names.save

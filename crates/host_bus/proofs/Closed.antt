@@ -43,10 +43,7 @@ still-on-time t h low high = record { step = h.step; begins = h.begins; first = 
 -- the board that is closed before anything comes is valid, and is what contracts see of closing it
 pub valid-later : {b : Inside} (t : ℕ) → IsValid b → b.closed ≤ t → t ≤ b.next → IsValid (record b { closed = t })
 valid-later {b} t h low high = record {
-  memory = h.memory;
-  addresses = h.addresses;
-  shows = h.shows;
-  slot = h.slot;
+  stored = h.stored;
   played = played-later t h.played low (omega (arith, h.on_time.least, high));
   on_time = still-on-time t h.on_time low high;
   next_break = h.next_break;

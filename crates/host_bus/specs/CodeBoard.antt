@@ -3,6 +3,7 @@ use Rattle.std.specs.Prelude.{ℕ, List, ◌≡◌, ◌<◌, length}
 use Rattle.beeb_bits.specs.declared.clock.Clock.{Clock}
 use Rattle.beeb_bits.specs.Clock.{micro}
 use Rattle.saa5050.specs.Shapes.{Font}
+use Rattle.rom_set.specs.Roms.{Roms}
 use Rattle.key_script.specs.declared.Event.{Event}
 use Rattle.host_bus.specs.declared.board.Board.TheInside.{Inside}
 use Rattle.host_devices.specs.Devices.{Devices}
@@ -34,11 +35,15 @@ around_by clock ram font script = record { clock = clock; ram = ram; font = font
 abbrev pub moving : Devices → List (List ℕ) → Moving
 moving devices shots = record { devices = devices; shots = shots }
 
+-- the memories, and what a read shows of them by this latch
+pub record IsStored (ram shown : List ℕ) (roms : Roms) (latch : ℕ) : Type 0 where
+  pub memory : length ram ≡ 32768
+  pub addresses : length shown ≡ 65536
+  pub shows : Shows ram roms.slots latch roms.os shown
+  pub slot : latch < 16
+
 pub record IsValid (b : Inside) : Type 0 where
-  pub memory : length b.ram.items ≡ 32768
-  pub addresses : length b.shown.items ≡ 65536
-  pub shows : Shows b.ram.items b.letters.slots b.latch b.letters.os b.shown.items
-  pub slot : b.latch < 16
+  pub stored : IsStored b.ram.items b.shown.items b.letters b.latch
   pub played : IsPlayed b.playback b.closed
   pub on_time : IsOnTime (micro b.clock) b.closed b.playback.event b.next
   pub next_break : IsNextBreak b.breaks b.playback.script

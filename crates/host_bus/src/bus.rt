@@ -20,9 +20,9 @@ use rom_set::RomSet;
 use sn76489::SoundWrite;
 use std::alloc::Global;
 
-/// The host's bus: the board, and the plugged devices on FRED and JIM. `closed` is the tick that contracts see, `board.closed` how far the devices
-/// are stepped: at an access of one of them, at a tick from which on a line to the processor may change, and before a store into memory that the
-/// picture may read. The picture is behind these by as many microseconds as they owe it.
+/// The host's bus: the board, and the plugged devices on FRED and JIM. `closed` is the tick that contracts see; `board.closed` is how far the
+/// devices are stepped; the picture is `owed` microseconds behind these. They are stepped at an access of one of them, at a tick from which on a
+/// line to the processor may change, and before a store into memory that the picture may read.
 #[derive(Drop)]
 pub struct Bus<D = Box<dyn BusDevice + Send>> {
     board: Board,

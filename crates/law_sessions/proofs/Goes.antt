@@ -49,7 +49,7 @@ module _ (again : MachinesAreMadeAgain) (reads : SavedRunIsRead) (resumes : Save
       let made = again set i plugs t (below t (take keep (accesses_of m n))) there.plugged there.roms in
       let read : state_of j.state ≡ Ok s = ap state_of is ∙ (reads set i plugs m n keep there most few).1 in
       let same : session_after plugs ticks kept names j ≡ solo_after set ticks kept names i =
-      one_run set i plugs m s ticks kept names j read (made.0 ∙ there.made) there.made (none_wrong t s.entries law.1.legal) (law.1.agree (min t ticks) (omega arith))
+      one_run set i plugs m s ticks kept names j read (made.0 ∙ there.made) there.made (none_wrong law.1.legal) (law.1.agree (min t ticks) (omega arith))
       (ap (λ (b : Session). option_map (λ (name : List ℕ). b) names.save) made.1) refl in
       let end = ends set i m ticks kept names there.made in
       (same, (end.0, same ∙ end.1, end.2))

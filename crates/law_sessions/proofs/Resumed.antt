@@ -1,6 +1,5 @@
 -- What goes on from any session file.
-use Rattle.std.proofs.Common.{◌≡◌, ◌∙◌, sym, refl, ap, subst, ℕ, List, [], ◌∷◌, map, IsTrue, Option, Some, None, Result, Ok, Err}
-use Rattle.std.specs.List.{filter_map}
+use Rattle.std.proofs.Common.{◌≡◌, ◌∙◌, sym, refl, ap, subst, ℕ, List, Option, Some, None, Result, Ok, Err}
 use Rattle.bus_plug.specs.Plug.{Plug}
 use Rattle.host_mach.specs.State.{HostState}
 use Rattle.host_mach.specs.Step.{host_moves}
@@ -14,8 +13,6 @@ use Rattle.save_state.specs.declared.StateError.TheVariants as state_errors
 use Rattle.save_state.specs.Saved.{Session}
 use Rattle.save_state.specs.File.{file, file_of, IsSession}
 use Rattle.save_state.specs.Laws.{AreBytes, OnlyFileReads}
-use Rattle.cmd_words.specs.declared.keys.Slot.{Slot}
-use Rattle.cmd_words.specs.Reads.{rom_slot, rise_from}
 use Rattle.cmd_stages.specs.Plan.{Verdict, ◌>>=◌, or_refusal}
 use Rattle.cmd_stages.specs.declared.stop.Refusal.{Refusal}
 use Rattle.cmd_status.specs.declared.status.Cause.{Cause}
@@ -23,10 +20,8 @@ use Rattle.cmd_status.specs.declared.status.Ending.{Ending}
 use Rattle.cmd_status.specs.declared.status.Ending.TheVariants.{Done}
 use Rattle.cmd_machines.specs.Inputs as inputs
 use Rattle.cmd_machines.specs.Machines.{machines_of}
-use Rattle.cmd_machines.specs.Sessions.{part_slots, there, setup_in, inputs_in, begun_if}
-use Rattle.cmd_words.proofs.SlotLemmas.{left_out, taken}
-use Rattle.cmd_machines.proofs.PartLemmas.{in_stand}
-use Rattle.cmd_machines.proofs.ReadLemmas.{numbers_of, numbers_read}
+use Rattle.cmd_machines.specs.Sessions.{setup_in, inputs_in, begun_if}
+use Rattle.cmd_machines.proofs.PartLemmas.{roms_rise, keys_stand}
 use Rattle.cmd_outcome.specs.Names.{Names}
 use Rattle.cmd_replayed.specs.Replay.{verdict_of_place, unless_wrong}
 use Rattle.cmd_ended.specs.Kept.{kept_verdict}
@@ -34,23 +29,6 @@ use Rattle.cmd_pair.specs.Solo.{solo_after}
 use Rattle.cmd_session.specs.Session.{state_of, state_refusal, place_of, session_ended, session_after}
 use Rattle.law_sessions.specs.OneRun.{Begins, saved_run, EndsWith, SessionIsWritten, SavedRunIsOneRun, SessionBegins, ResumedRunIsOneRun}
 use Rattle.law_sessions.proofs.Goes.{one_run}
-
--- ---- the paged ROMs of a session
-
-abbrev these : List (Slot × List ℕ) → List ℕ
-these list = filter_map rom_slot (map (λ (one : Slot × List ℕ). one.0) list)
-
--- those that are there rise as the slots do
-rise : (low : ℕ) (all : List Slot) (ps : List (Option (List ℕ))) → IsTrue (rise_from low (filter_map rom_slot all)) → IsTrue (rise_from low (these (there all ps)))
-rise low [] ps rises = refl
-rise low (slot ∷ all) [] rises = refl
-rise low (slot ∷ all) (None ∷ ps) rises = rise low all ps (left_out low (rom_slot slot) (filter_map rom_slot all) rises)
-rise low (slot ∷ all) (Some bytes ∷ ps) rises = taken low (rom_slot slot) (filter_map rom_slot all) (these (there all ps)) (λ from. rise from all ps) rises
-
-roms_rise : (s : Session) → IsTrue (rise_from 0 (numbers_of (inputs_in s).roms))
-unfolding inputs_in inputs.inputs_of part_slots
-roms_rise s =
-    subst (λ (ns : List ℕ). IsTrue (rise_from 0 ns)) (sym (numbers_read (there part_slots s.parts) inputs.no_inputs)) (rise 0 part_slots s.parts refl)
 
 -- ---- a session begins a run
 
@@ -68,7 +46,7 @@ module _ (only : OnlyFileReads) where
   unfolding setup_in
   session_begins bytes s plugs m are read made =
       let session : IsSession s = keeps bytes s are read in
-      record { made = made; number = session.plugs; plugged = refl; roms = roms_rise s; keys = (in_stand s session.keys).keys }
+      record { made = made; number = session.plugs; plugged = refl; roms = roms_rise s; keys = keys_stand s session.keys }
 
 -- ---- a run that goes on, and is done
 

@@ -1,7 +1,6 @@
 -- What a run writes that is to be saved.
 use Rattle.std.proofs.Common.{◌≡◌, ◌∙◌, sym, refl, ap, ℕ, List, [], ◌∷◌, ◌++◌, length, map, take, Option, Some, append_assoc}
 use Rattle.std.proofs.lemmas.List.{map-append}
-use Rattle.beeb_bits.specs.declared.Side.TheVariants as sides
 use Rattle.tube_trace.specs.Entries.{accesses}
 use Rattle.tube_party.specs.Reference.{World, reference}
 use Rattle.host_mach.specs.State.{HostState}
@@ -9,9 +8,8 @@ use Rattle.host_mach.specs.Step.{host_moves}
 use Rattle.para_mach.specs.State.{ParaState}
 use Rattle.para_mach.specs.Step.{para_moves}
 use Rattle.save_state.specs.File as sessions
-use Rattle.cmd_outcome.specs.declared.output.Output.{Output}
-use Rattle.cmd_outcome.specs.declared.output.Output.TheVariants.{Report, Memory, Trace, Sound, Session}
-use Rattle.cmd_outcome.specs.Outputs.{if_there, of_host, discs, shots, spills, machine_outputs}
+use Rattle.cmd_outcome.specs.declared.output.Output.TheVariants.{Sound, Session}
+use Rattle.cmd_outcome.specs.Outputs.{if_there, front_of, machine_outputs}
 use Rattle.cmd_outcome.specs.Left.{Left}
 use Rattle.cmd_outcome.specs.Files.{file_of}
 use Rattle.cmd_outcome.specs.Names.{Names}
@@ -36,22 +34,10 @@ mapped f x xs last = (map f last.0, ap (map f) last.1 ∙ map-append f last.0 (x
 there : (save : Option (List ℕ)) (name : List ℕ) → save ≡ Some name → IsLast Session (if_there Session save)
 there save name is = rw is ([], refl)
 
--- the outputs but the session file
-abbrev others_of : Left → List Output
-others_of l =
-    Report ∷ []
-    ++ if_there (Memory sides.Host) l.host
-    ++ if_there (Memory sides.Para) l.para
-    ++ of_host discs l.host
-    ++ of_host shots l.host
-    ++ if_there Trace l.kept
-    ++ of_host spills l.host
-    ++ if_there Sound l.names.wav
-
 -- the session file is behind all others
 session_last : (l : Left) (name : List ℕ) → l.names.save ≡ Some name → IsLast Session (machine_outputs l)
 unfolding machine_outputs
-session_last l name is = behind Session (others_of l) (if_there Session l.names.save) (there l.names.save name is)
+session_last l name is = behind Session (front_of l ++ if_there Sound l.names.wav) (if_there Session l.names.save) (there l.names.save name is)
 
 -- what both machines leave
 abbrev left_of : Setup → Inputs → HostState × ParaState → ℕ → ℕ → Names → Left

@@ -10,12 +10,15 @@ use Rattle.beeb_bits.specs.declared.Side.{Side}
 use Rattle.tube_chip.specs.Events.{Rises, RisesAfter}
 use Rattle.tube_trace.specs.declared.Entry.{Entry}
 use Rattle.tube_trace.specs.Entries.{accesses, event_of, events_of}
+use Rattle.tube_trace.specs.Text.{HasLine}
 use Rattle.tube_party.specs.Moves.{Moves}
 use Rattle.tube_party.specs.Reference.{reference, IsTraceBelow, ReferenceIsTrace}
 use Rattle.tube_party.specs.ReplayLaws.{ReferenceIsReplayed}
 use Rattle.tube_party.specs.GoingOn.{entries_below, ShorterRunIsBeginning}
 use Rattle.tube_party.proofs.Begun.{below_none}
 use Rattle.tube_party.proofs.Replayed.{rises_tail}
+use Rattle.save_state.specs.Saved.{Session}
+use Rattle.save_state.specs.File.{IsSession}
 use Rattle.save_state.specs.Resume.{last_tick, moment_of, IsResumed, SavedRunIsResumed}
 
 -- ---- Entries, each before the next
@@ -109,3 +112,21 @@ saved_run {h} {p} trace replayed shorter s t n keep =
     let all : List Entry = accesses (reference h p s t n).list in
     let is : IsTraceBelow n all = trace s t n in
     saved_by h p trace replayed shorter s t n keep (moment_of n keep all) (moment_by (nat_le (length all) keep) refl is.rises is.below)
+
+-- a session that keeps the rules keeps them with another moment, and with the accesses of a trace below that
+pub keeps_rules : {b : Session} {at : ℕ} {entries : List Entry} → IsSession b → at ≤ 1073741824 → length entries ≤ 4194304 → All HasLine entries →
+    IsTraceBelow at entries → IsSession (record b { ticks = at; entries = entries })
+keeps_rules begun most few lines trace = record {
+  ticks = most;
+  plugs = begun.plugs;
+  many = begun.many;
+  both = begun.both;
+  first = begun.first;
+  disc0 = begun.disc0;
+  disc1 = begun.disc1;
+  keys = begun.keys;
+  few = few;
+  lines = lines;
+  below = trace.below;
+  rises = trace.rises;
+}

@@ -319,9 +319,10 @@ impl Both<'_> {
         let screen = !chance.once_in(4);
         let keeps = screen && chance.once_in(2);
         let reads = chance.once_in(4);
-        self.set_up(lists.settings)
+        self.agree_on_writes(lists.settings)
+            && self.set_palette()
             && (!screen || self.set_screen(lists.screen))
-            && (!reads || self.read_sector(chance, lists.sector))
+            && (!reads || self.agree_on_writes(lists.sector) && self.see_first_byte(chance))
             && self.agree_by_chance(chance, keeps, acts)
             && self.come_to_the_same()
     }
@@ -332,13 +333,18 @@ impl Both<'_> {
         self.agree(t, act)
     }
 
-    // Whether both agree on the settings, and on a palette of many colours.
-    fn set_up(&mut self, settings: &[(u16, u8)]) -> bool {
-        for (at, v) in settings {
+    // Whether both agree on these writes.
+    fn agree_on_writes(&mut self, writes: &[(u16, u8)]) -> bool {
+        for (at, v) in writes {
             if !self.agree_next(Act::Write(*at, *v)) {
                 return false;
             }
         }
+        true
+    }
+
+    // Whether both agree on a palette of many colours.
+    fn set_palette(&mut self) -> bool {
         for entry in 0..16u8 {
             if !self.agree_next(Act::Write(0xfe21, entry.wrapping_mul(17))) {
                 return false;
@@ -347,13 +353,8 @@ impl Both<'_> {
         true
     }
 
-    // Whether both agree on a sector's being read, up to about its first byte.
-    fn read_sector(&mut self, chance: &mut Chance, sector: &[(u16, u8)]) -> bool {
-        for (at, v) in sector {
-            if !self.agree_next(Act::Write(*at, *v)) {
-                return false;
-            }
-        }
+    // Whether both agree about when a sector that is read has its first byte.
+    fn see_first_byte(&mut self, chance: &mut Chance) -> bool {
         let first = self.micro.wrapping_mul(FIRST_BYTE);
         let t = first.wrapping_add(u64::from(chance.below(200)));
         self.agree(t, Act::Look)
@@ -362,9 +363,7 @@ impl Both<'_> {
     // Whether both agree on a screen's registers.
     fn set_screen(&mut self, registers: &[(u8, u8)]) -> bool {
         for (register, v) in registers {
-            if !self.agree_next(Act::Write(0xfe00, *register))
-                || !self.agree_next(Act::Write(0xfe01, *v))
-            {
+            if !self.agree_on_writes(&[(0xfe00, *register), (0xfe01, *v)]) {
                 return false;
             }
         }

@@ -1,8 +1,8 @@
 //! The host, an NMOS 6502.
 use crate::chance::Chance;
 use crate::code::Place;
-use crate::roads::{Course, Stands, come_to_the_same};
-use crate::twins::{Tried, agree};
+use crate::roads::{Course, Stands};
+use crate::twins::agree;
 use beeb_bits::{Clock, NoMemory};
 use bus_plug::RamCard;
 use cpu_alu::Regs;
@@ -89,6 +89,10 @@ fn forward<P: Party>(made: Result<P, NoMemory>) -> Result<Forward<P>, NoMemory> 
 }
 
 impl Stands for Host {
+    fn begun(alloc: Global, course: &Course) -> Result<Host, NoMemory> {
+        forward(machine(alloc, course))
+    }
+
     fn part() -> Part {
         Part::Nmos
     }
@@ -106,22 +110,6 @@ impl Stands for Host {
             && one.starting() == other.starting()
             && one.ram() == other.ram()
             && one.sound() == other.sound()
-    }
-}
-
-impl Tried<Course> for Host {
-    fn make(alloc: Global, course: &Course) -> Result<Self, NoMemory> {
-        forward(machine(alloc, course))
-    }
-
-    fn agrees(
-        &mut self,
-        other: &mut Self,
-        alloc: Global,
-        course: &Course,
-        chance: &mut Chance,
-    ) -> Result<bool, NoMemory> {
-        come_to_the_same(alloc, self, other, course, chance)
     }
 }
 

@@ -3,6 +3,7 @@ ghost use Rattle.std.specs.Prelude.{◌≤◌, ◌^◌};
 
 use crate::chance::Chance;
 use crate::setting::is_handler;
+use crate::twins::Tried;
 use beeb_bits::{Clock, NoMemory, Tick};
 use cpu_alu::{DECIMAL, INTERRUPT, Regs};
 use op_table::Part;
@@ -230,6 +231,9 @@ fn go_by_ticks<M: Stands>(machine: &mut M, end: u64, tube: &mut Tube) -> bool
 
 /// A machine whose registers are seen.
 pub trait Stands: Rewinds {
+    /// One at a course's beginning.
+    fn begun(alloc: Global, course: &Course) -> Result<Self, NoMemory>;
+
     fn part() -> Part;
 
     fn registers(&self) -> Regs;
@@ -279,9 +283,25 @@ impl Course {
     }
 }
 
-/// Goes to a tick with both, and from there on with each by its own road. Whether both ask the same of the Tube, in the same order, and come to
-/// the same.
-pub fn come_to_the_same<M: Stands>(
+impl<M: Stands> Tried<Course> for M {
+    fn make(alloc: Global, course: &Course) -> Result<Self, NoMemory> {
+        M::begun(alloc, course)
+    }
+
+    fn agrees(
+        &mut self,
+        other: &mut Self,
+        alloc: Global,
+        course: &Course,
+        chance: &mut Chance,
+    ) -> Result<bool, NoMemory> {
+        come_to_the_same(alloc, self, other, course, chance)
+    }
+}
+
+// Goes to a tick with both, and from there on with each by its own road. Whether both ask the same of the Tube, in the same order, and come to
+// the same.
+fn come_to_the_same<M: Stands>(
     alloc: Global,
     far: &mut M,
     near: &mut M,

@@ -1,8 +1,8 @@
 //! The second processor, a 65C02.
 use crate::chance::Chance;
 use crate::code::Place;
-use crate::roads::{Course, Stands, come_to_the_same};
-use crate::twins::{Tried, agree};
+use crate::roads::{Course, Stands};
+use crate::twins::agree;
 use beeb_bits::NoMemory;
 use cpu_alu::Regs;
 use op_table::Part;
@@ -11,6 +11,13 @@ use std::alloc::Global;
 use tube_party::Party;
 
 impl Stands for ParaMachine {
+    fn begun(alloc: Global, course: &Course) -> Result<ParaMachine, NoMemory> {
+        match ParaMachine::make(alloc, course.clock, course.image.to_vec(alloc)?) {
+            Ok(machine) => Ok(machine),
+            Err(_) => Err(NoMemory),
+        }
+    }
+
     fn part() -> Part {
         Part::Cmos
     }
@@ -26,25 +33,6 @@ impl Stands for ParaMachine {
             && self.starting() == other.starting()
             && self.ram() == other.ram()
             && self.peek(0xf800) == other.peek(0xf800)
-    }
-}
-
-impl Tried<Course> for ParaMachine {
-    fn make(alloc: Global, course: &Course) -> Result<Self, NoMemory> {
-        match ParaMachine::make(alloc, course.clock, course.image.to_vec(alloc)?) {
-            Ok(machine) => Ok(machine),
-            Err(_) => Err(NoMemory),
-        }
-    }
-
-    fn agrees(
-        &mut self,
-        other: &mut Self,
-        alloc: Global,
-        course: &Course,
-        chance: &mut Chance,
-    ) -> Result<bool, NoMemory> {
-        come_to_the_same(alloc, self, other, course, chance)
     }
 }
 

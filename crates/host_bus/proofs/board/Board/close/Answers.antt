@@ -38,10 +38,7 @@ loop-next-preserved c =
     ap with_script done.script ∙ gone (board_seen b) u (moving after p.shots.frames) (omega (arith, past, here)) (rw here at done.ticks) in
     rw same (record {
       valid = record {
-        memory = valid.memory;
-        addresses = valid.addresses;
-        shows = valid.shows;
-        slot = valid.slot;
+        stored = valid.stored;
         played = done.played;
         on_time = done.next;
         next_break = rw done.script valid.next_break;

@@ -13,10 +13,7 @@ invariant_of-result c =
     let first = rw kept.0 at c.first_memory.ensures in
     let played = rw kept.1 at c.make.ensures in
     record {
-      memory = first.memory;
-      addresses = first.addresses;
-      shows = rw first.ram first.shows;
-      slot = omega arith;
+      stored = record { memory = first.memory; addresses = first.addresses; shows = rw first.ram first.shows; slot = omega arith };
       played = played.played;
       on_time = record { step = 0; begins = zero-mod (micro c.args.clock); first = omega arith; near = omega (arith, some-micro c.args.clock); least = omega arith };
       in_time = first-in-time c.args.clock (rw heard.0 at c.make-2.ensures);

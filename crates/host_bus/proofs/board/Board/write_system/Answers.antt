@@ -11,10 +11,7 @@ invariant_of-self c =
     let write : SoundWrite = record { moment = c.div_ceil.result; byte = c.sound_data.result } in
     let now = c.div_ceil.ensures ∙ ap (λ (u : ℕ). div_ceil b.closed u) c.micro.ensures.value ∙ rounded-up b.clock b.closed in
     record {
-      memory = valid.memory;
-      addresses = valid.addresses;
-      shows = valid.shows;
-      slot = valid.slot;
+      stored = valid.stored;
       played = valid.played;
       on_time = valid.on_time;
       next_break = valid.next_break;
