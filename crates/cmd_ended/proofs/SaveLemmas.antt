@@ -14,9 +14,11 @@ use Rattle.tube_trace.specs.Entries.{IsEntry, event_of, events_of}
 use Rattle.tube_trace.specs.Text.{HasLine}
 use Rattle.tube_trace.proofs.MergeLemmas.{Rises-take}
 use Rattle.tube_party.specs.Reference.{IsTraceBelow}
+use Rattle.tube_party.specs.GoingOn.{entries_below}
 use Rattle.save_state.specs.Saved.{Session}
 use Rattle.save_state.specs.File.{IsSession}
-use Rattle.cmd_ended.specs.Save.{below, saved_tick, saved_of}
+use Rattle.save_state.proofs.Again.{keeps_rules}
+use Rattle.cmd_ended.specs.Save.{saved_tick, saved_of}
 use Rattle.cmd_ended.proofs.KeptLemmas.{Below, rest_rises, events_take, all_lines}
 
 -- ---- of entries, each before the next, those below a tick are the first
@@ -29,7 +31,7 @@ drop_rises zero xs rises = rises
 drop_rises (suc i) [] rises = tt
 drop_rises (suc i) (x ∷ xs) rises = drop_rises i xs (rest_rises (event_of x) (events_of xs) rises)
 
-none_after : (t : ℕ) (x : Entry) (xs : List Entry) → t ≤ (x.tick).0 → RisesAfter (event_of x) (events_of xs) → below t xs ≡ []
+none_after : (t : ℕ) (x : Entry) (xs : List Entry) → t ≤ (x.tick).0 → RisesAfter (event_of x) (events_of xs) → entries_below t xs ≡ []
 none_after t x [] late rises = refl
 none_after t x (y ∷ xs) late rises =
     let later : t ≤ (y.tick).0 = omega (arith, late, not_sooner (x.tick).0 (y.tick).0 x.side y.side rises.0) in
@@ -37,14 +39,14 @@ none_after t x (y ∷ xs) late rises =
     grind (arith, nat_tests)
 
 -- none from here on
-pub none_from : (t : ℕ) (x : Entry) (xs : List Entry) → t ≤ (x.tick).0 → Rises (events_of (x ∷ xs)) → below t (x ∷ xs) ≡ []
+pub none_from : (t : ℕ) (x : Entry) (xs : List Entry) → t ≤ (x.tick).0 → Rises (events_of (x ∷ xs)) → entries_below t (x ∷ xs) ≡ []
 none_from t x xs late rises = let none = none_after t x xs late rises in grind (arith, nat_tests)
 
 pub count_here : (t i : ℕ) (xs : List Entry) (d : Entry) → i < length xs → t ≤ ((slice_index_or xs i d).tick).0 → Rises (events_of xs) →
-    below t xs ≡ take i xs ++ below t (drop i xs) → below t xs ≡ take i xs
+    entries_below t xs ≡ take i xs ++ entries_below t (drop i xs) → entries_below t xs ≡ take i xs
 count_here t i xs d h late rises is =
     is
-    ∙ ap (λ ys. take i xs ++ below t ys) (drop_more xs i d h)
+    ∙ ap (λ ys. take i xs ++ entries_below t ys) (drop_more xs i d h)
     ∙ ap (λ ys. take i xs ++ ys)
     (none_from t (slice_index_or xs i d) (drop (i + 1) xs) late (subst (λ (ys : List Entry). Rises (events_of ys)) (drop_more xs i d h) (drop_rises i xs rises)))
     ∙ append-nil (take i xs)
@@ -61,11 +63,11 @@ below_by : (t : ℕ) (b : Bool) (x : Entry) (ys : List Entry) → nat_lt (x.tick
 below_by t true x ys is all = All-cons (Below t) x ys (grind (arith, nat_tests)) all
 below_by t false x ys is all = all
 
-all_below : (t : ℕ) (xs : List Entry) → All (Below t) (below t xs)
+all_below : (t : ℕ) (xs : List Entry) → All (Below t) (entries_below t xs)
 all_below t [] = All-nil (Below t)
-all_below t (x ∷ xs) = below_by t (nat_lt (x.tick).0 t) x (below t xs) refl (all_below t xs)
+all_below t (x ∷ xs) = below_by t (nat_lt (x.tick).0 t) x (entries_below t xs) refl (all_below t xs)
 
-pub first_of_trace : (t k n : ℕ) (xs ys : List Entry) → ys ≡ take k xs → below t xs ≡ take k xs → IsTraceBelow n xs → IsTraceBelow t ys
+pub first_of_trace : (t k n : ℕ) (xs ys : List Entry) → ys ≡ take k xs → entries_below t xs ≡ take k xs → IsTraceBelow n xs → IsTraceBelow t ys
 first_of_trace t k n xs ys taken is trace =
     rw taken (record {
       entries = All-take IsEntry k xs trace.entries;
@@ -102,24 +104,12 @@ tick_low n false xs below = low_at n (length xs - 1) xs below
 
 -- the session of a run keeps the rules
 pub saved_is : (b s : Session) (n : ℕ) (all : Bool) (k : ℕ) (kept : List Entry) → IsSession b → n ≤ 1073741824 → length kept ≤ 4194304 → IsTraceBelow n kept →
-    below (saved_tick n all kept) kept ≡ take k kept → s ≡ saved_of b n all kept → IsSession s
+    entries_below (saved_tick n all kept) kept ≡ take k kept → s ≡ saved_of b n all kept → IsSession s
 unfolding saved_of
 saved_is b s n all k kept begun most few trace first is =
     let t : ℕ = saved_tick n all kept in
     let low : t ≤ n = tick_low n all kept trace.below in
-    let mine : IsTraceBelow t (below t kept) = first_of_trace t k n kept (below t kept) first first trace in
-    let fewer : length (below t kept) ≤ 4194304 = rw first (omega (arith, length-take k kept)) in
-    rw is (record {
-      ticks = omega (arith, low, most);
-      plugs = begun.plugs;
-      many = begun.many;
-      both = begun.both;
-      first = begun.first;
-      disc0 = begun.disc0;
-      disc1 = begun.disc1;
-      keys = begun.keys;
-      few = fewer;
-      lines = trace_lines t (below t kept) (omega (arith, low, most)) mine;
-      below = mine.below;
-      rises = mine.rises;
-    })
+    let mine : IsTraceBelow t (entries_below t kept) = first_of_trace t k n kept (entries_below t kept) first first trace in
+    let fewer : length (entries_below t kept) ≤ 4194304 = rw first (omega (arith, length-take k kept)) in
+    let end : t ≤ 1073741824 = omega (arith, low, most) in
+    rw is (keeps_rules begun end fewer (trace_lines t (entries_below t kept) end mine) mine)

@@ -5,7 +5,9 @@ ghost use Rattle.tube_trace.specs.Entries.{events_of};
 ghost use Rattle.tube_party.specs.Reference.{IsTraceBelow};
 ghost use Rattle.save_state.specs.Saved.{session};
 ghost use Rattle.save_state.specs.File.{IsSession, file_of};
-ghost use Rattle.cmd_ended.specs.Save.{below, last_tick, saved_tick, saved_of};
+ghost use Rattle.tube_party.specs.GoingOn.{entries_below};
+ghost use Rattle.save_state.specs.Resume.{last_tick};
+ghost use Rattle.cmd_ended.specs.Save.{saved_tick, saved_of};
 
 use beeb_bits::Tick;
 use save_state::{Saved, encode};
@@ -17,7 +19,7 @@ use tube_trace::Entry;
 #[tactic(auto, using(crate::proofs::SaveLemmas::count_here))]
 fn count_below(entries: &[Entry], tick: Tick) -> usize
     requires { Rises (events_of entries.now) }
-    ensures below { below tick.0 entries.now ≡ take result entries.now }
+    ensures below { entries_below tick.0 entries.now ≡ take result entries.now }
     ensures bound { result ≤ length entries.now }
 {
     for (place, entry) in entries.iter().enumerate() {
@@ -31,7 +33,7 @@ fn count_below(entries: &[Entry], tick: Tick) -> usize
 /// Those of these entries, each before the next, that are below a tick. Those of a trace are a trace.
 pub fn entries_below(entries: &[Entry], tick: Tick) -> &[Entry]
     requires { Rises (events_of entries.now) }
-    ensures below { result.now ≡ below tick.0 entries.now }
+    ensures below { result.now ≡ entries_below tick.0 entries.now }
     ensures trace { (n : ℕ) → IsTraceBelow n entries.now → IsTraceBelow tick.0 result.now }
 {
     &entries[..count_below(entries, tick)]

@@ -8,8 +8,8 @@ use Rattle.tube_party.specs.declared.Doing.{Doing}
 use Rattle.tube_party.specs.Moves.{Moves}
 use Rattle.tube_party.specs.OneThread.{IsPlayed, played_of}
 use Rattle.tube_party.specs.Reference.{reference}
+use Rattle.tube_party.specs.GoingOn.{entries_below}
 use Rattle.save_state.specs.Resume.{first_difference}
-use Rattle.cmd_ended.specs.Save.{below}
 use Rattle.cmd_session.specs.declared.going.Back.{Back}
 use Rattle.cmd_session.specs.declared.going.Back.TheVariants.{On, Wrong, Differs}
 
@@ -21,7 +21,7 @@ pub record AreAccesses (moment : ℕ) (entries : List Entry) : Type 0 where
 
 -- where the parties and the accesses below the moment and below the end of the run differ first
 abbrev pub place_of : {S T : Type 0} → Moves S → Moves T → List Entry → ℕ → ℕ → S → T → Option (ℕ × Option Doing)
-place_of h p entries moment n s t = first_difference h p (below (min moment n) entries) (min moment n) s t
+place_of h p entries moment n s t = first_difference h p (entries_below (min moment n) entries) (min moment n) s t
 
 -- The parties went on as the reference run does, or an answer is wrong, or a party differs.
 abbrev pub Goes : {H P S T : Type 0} → (H → S) → (P → T) → Moves S → Moves T → S → T → List Entry → ℕ → ℕ → ℕ → Back H P → Type 0

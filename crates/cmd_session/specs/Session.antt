@@ -4,6 +4,7 @@ use Rattle.bus_plug.specs.Plug.{Plug}
 use Rattle.tube_trace.specs.FirstWrong.{wrong}
 use Rattle.tube_party.specs.declared.Doing.{Doing}
 use Rattle.tube_party.specs.Reference.{reference}
+use Rattle.tube_party.specs.GoingOn.{entries_below}
 use Rattle.host_mach.specs.State.{HostState}
 use Rattle.host_mach.specs.Step.{host_moves}
 use Rattle.para_mach.specs.State.{ParaState}
@@ -24,7 +25,6 @@ use Rattle.cmd_machines.specs.Machines.{machines_of}
 use Rattle.cmd_machines.specs.Sessions.{setup_in, inputs_in, begun_if}
 use Rattle.cmd_outcome.specs.Names.{Names}
 use Rattle.cmd_replayed.specs.Replay.{verdict_of_place, unless_wrong}
-use Rattle.cmd_ended.specs.Save.{below}
 use Rattle.cmd_ended.specs.Kept.{kept_verdict}
 
 -- the refusal that an error of a session file is
@@ -38,7 +38,7 @@ state_of bytes = or_refusal state_refusal (file bytes)
 
 -- Where both machines from power-on and the accesses of a session differ first: the accesses below its moment and below the end of a run.
 abbrev pub place_of : Session → ℕ → HostState × ParaState → Option (ℕ × Option Doing)
-place_of s ticks m = first_difference host_moves para_moves (below (min s.ticks ticks) s.entries) (min s.ticks ticks) m.0 m.1
+place_of s ticks m = first_difference host_moves para_moves (entries_below (min s.ticks ticks) s.entries) (min s.ticks ticks) m.0 m.1
 
 -- The reference run of both machines from power-on, where they and the accesses of the session differ nowhere.
 unfoldable pub session_ended : List Plug → ℕ → ℕ → Names → Session → HostState × ParaState → Verdict Ending

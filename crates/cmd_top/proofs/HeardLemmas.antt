@@ -5,7 +5,7 @@ use Rattle.std.specs.Cmp.Lexicographic.{nat_list_cmp_total, bytes_decides, texts
 use Rattle.std.proofs.lemmas.Cmp.{eq_by_cmp_equiv}
 use Rattle.std.specs.FinMap.{get-insert}
 use Rattle.beeb_bits.specs.declared.clock.Clock.{Clock}
-use Rattle.beeb_bits.specs.declared.Side.TheVariants.{Host, Para}
+use Rattle.beeb_bits.specs.declared.Side.TheVariants.{Host}
 use Rattle.beeb_files.specs.Files.{Files, bytes_of, put}
 use Rattle.cmd_words.specs.declared.keys.Slot.{Slot}
 use Rattle.cmd_words.specs.Command.{Command, replay, solo, run, resume, is_paired, ticks_of}
@@ -37,12 +37,12 @@ use Rattle.cmd_machines.specs.Setup.{setup_of}
 use Rattle.cmd_machines.specs.Machines.{machines_of}
 use Rattle.cmd_machines.specs.Sessions.{setup_in, inputs_in, begun_if}
 use Rattle.cmd_outcome.specs.declared.output.Output.{Output}
-use Rattle.cmd_outcome.specs.declared.output.Output.TheVariants.{Report, Memory, Sound, Session, Trace}
+use Rattle.cmd_outcome.specs.declared.output.Output.TheVariants.{Sound, Session}
 use Rattle.cmd_outcome.specs.Names.{Names, names_of}
 use Rattle.cmd_outcome.specs.Left.{Left}
 use Rattle.cmd_outcome.specs.Sound.{sound_bytes}
 use Rattle.cmd_outcome.specs.Files.{file_of, own_name}
-use Rattle.cmd_outcome.specs.Outputs.{if_there, of_host, discs, shots, spills, machine_outputs}
+use Rattle.cmd_outcome.specs.Outputs.{if_there, front_of, machine_outputs}
 use Rattle.cmd_outcome.specs.Verdicts.{machine_verdict, both_left, host_left}
 use Rattle.cmd_replay.specs.Replay.{side_count, replayed, replay_after}
 use Rattle.cmd_replayed.specs.Replay.{verdict_of_place, unless_wrong}
@@ -83,12 +83,6 @@ put_behind (f ∷ fs) gs files = put_behind fs gs (put f.0 f.1 files)
 
 -- ---- what machines leave
 
--- what stands in front of the sound file
-front_of : Left → List Output
-front_of l =
-    Report ∷ (if_there (Memory Host) l.host ++ if_there (Memory Para) l.para ++ of_host discs l.host ++ of_host shots l.host
-    ++ if_there Trace l.kept ++ of_host spills l.host)
-
 sound_is : (l : Left) (s : HostState) (name : List ℕ) → l.host ≡ Some s → l.names.wav ≡ Some name → file_of l Sound ≡ (name, sound_bytes l.clock l.ticks s)
 sound_is l s name host wav = rw (host, wav)
 
@@ -107,7 +101,7 @@ session_behind l name bytes (Some other) files save differ is =
 
 left_heard : (l : Left) (s : HostState) (name : List ℕ) (old new : Option Files) → l.host ≡ Some s → l.names.wav ≡ Some name → (l.names.save ≡ Some name → ⊥) →
     new ≡ put_all (machine_verdict l).files old → IfSome new (λ files. bytes_of files name ≡ Some (sound_bytes l.clock l.ticks s))
-unfolding machine_verdict machine_outputs front_of
+unfolding machine_verdict machine_outputs
 left_heard l s name old new host wav differ is =
     let f : Output → List ℕ × List ℕ = file_of l in
     let sound : List Output = if_there Sound l.names.wav in

@@ -3,6 +3,7 @@ use Rattle.std.proofs.Common.{◌≡◌, ◌∙◌, refl, ap, ℕ, min, nat_le, 
 use Rattle.bus_plug.specs.Plug.{Plug}
 use Rattle.tube_trace.specs.FirstWrong.{wrong}
 use Rattle.tube_party.specs.Reference.{reference}
+use Rattle.tube_party.specs.GoingOn.{entries_below}
 use Rattle.host_mach.specs.State.{HostState}
 use Rattle.host_mach.specs.Step.{host_moves}
 use Rattle.para_mach.specs.State.{ParaState}
@@ -18,7 +19,7 @@ use Rattle.cmd_machines.specs.Inputs.{Inputs}
 use Rattle.cmd_machines.specs.Setup.{Setup}
 use Rattle.cmd_machines.specs.Machines.{machines_of}
 use Rattle.cmd_machines.specs.Sessions.{begun, begun_if, setup_in, inputs_in}
-use Rattle.cmd_ended.specs.Save.{saved_tick, saved_of, below}
+use Rattle.cmd_ended.specs.Save.{saved_tick, saved_of}
 use Rattle.cmd_ended.specs.Kept.{kept_verdict}
 use Rattle.cmd_pair.specs.Solo.{solo_after}
 use Rattle.cmd_session.specs.Session.{state_of, place_of, session_ended, session_after}
@@ -46,7 +47,7 @@ module _ (again : MachinesAreMadeAgain) (reads : SavedRunIsRead) (resumes : Save
       let s : Session = saved_run set i m n keep in
       let t : ℕ = saved_tick n (nat_le (length (accesses_of m n)) keep) (take keep (accesses_of m n)) in
       let law = resumes m.0 m.1 n keep in
-      let made = again set i plugs t (below t (take keep (accesses_of m n))) there.plugged there.roms in
+      let made = again set i plugs t (entries_below t (take keep (accesses_of m n))) there.plugged there.roms in
       let read : state_of j.state ≡ Ok s = ap state_of is ∙ (reads set i plugs m n keep there most few).1 in
       let same : session_after plugs ticks kept names j ≡ solo_after set ticks kept names i =
       one_run set i plugs m s ticks kept names j read (made.0 ∙ there.made) there.made (none_wrong law.1.legal) (law.1.agree (min t ticks) (omega arith))

@@ -6,6 +6,7 @@ use Rattle.tube_trace.specs.declared.Entry.{Entry}
 use Rattle.tube_trace.specs.FirstWrong.{wrong}
 use Rattle.tube_trace.proofs.WrongLemmas.{none_iff}
 use Rattle.tube_party.specs.Reference.{IsTraceBelow}
+use Rattle.tube_party.specs.GoingOn.{entries_below}
 use Rattle.host_mach.specs.State.{HostState}
 use Rattle.host_mach.specs.Step.{host_moves}
 use Rattle.para_mach.specs.State.{ParaState}
@@ -18,7 +19,7 @@ use Rattle.cmd_machines.specs.Inputs.{Inputs}
 use Rattle.cmd_machines.specs.Setup.{Setup}
 use Rattle.cmd_machines.specs.Sessions.{BegunIsSession}
 use Rattle.cmd_ended.proofs.SaveLemmas.{trace_lines}
-use Rattle.cmd_ended.specs.Save.{below, saved_tick, saved_of}
+use Rattle.cmd_ended.specs.Save.{saved_tick, saved_of}
 use Rattle.cmd_stages.specs.Plan.{or_refusal}
 use Rattle.cmd_session.specs.Session.{state_refusal, state_of}
 use Rattle.law_sessions.specs.OneRun.{Begins, accesses_of, saved_run, SavedRunIsRead}
@@ -32,7 +33,7 @@ none_wrong {entries = entries} trace = none_is ((none_iff entries refl).1 trace.
 
 -- ---- how many accesses are saved
 
-below_less : (t : ℕ) (xs : List Entry) → length (below t xs) ≤ length xs
+below_less : (t : ℕ) (xs : List Entry) → length (entries_below t xs) ≤ length xs
 below_less t [] = omega arith
 below_less t (x ∷ xs) = grind (arith, below_less t xs)
 
@@ -47,7 +48,7 @@ module _ (begins : BegunIsSession) (reads : FileReadsBack) (resumes : SavedRunIs
       let law = resumes m.0 m.1 n keep in
       let low : t ≤ n = law.0 in
       let end : t ≤ 1073741824 = omega (arith, low, most) in
-      let kept : List Entry = below t (take keep (accesses_of m n)) in
+      let kept : List Entry = entries_below t (take keep (accesses_of m n)) in
       keeps_rules (begins set i m there.made there.number there.keys) end
       (omega (arith, below_less t (take keep (accesses_of m n)), length-take keep (accesses_of m n), few)) (trace_lines t kept end law.1.legal) law.1.legal
 
