@@ -82,8 +82,7 @@ start_leaves-stuck w k always m = grind arith
 -- a modify form, but for that of A
 modify_form-entered : (part : Part) (w : Mode) → (w ≡ Acc → ⊥) → (row : Row) (always : Bool) (r : Regs) (seen : List (Option ℕ))
     → modify_form part row w always r seen ≡ reach part w always r seen ++ at_operand part Change row (address w r seen) r (operand part w always r seen)
-modify_form-entered part Acc n row always r seen = absurd (n refl)
-modify_form-entered part _ n row always r seen = refl
+modify_form-entered part w n row always r seen = grind arith
 
 -- the modes of a jump, and those of a store
 abbrev known_by : BusUse → Mode → Bool
@@ -117,8 +116,7 @@ module _ {part : Part} {m : Progress} (op : ℕ) (p : m.phase ≡ phase.Opcode) 
   goes : {u : BusUse} {then : Progress} → bus_use m.row.mnemonic ≡ u → ((f : List (Option ℕ)) → form part u m.row m.work (Some op ∷ f) ≡ cycles_left part then f)
       → ((f : List (Option ℕ)) → after_row part u m.row m.work (Some op ∷ f) ≡ outcome part then f) → wants then ≡ first (cycles_left part then [])
       → is_fetch then.phase ≡ false → is_stuck then.phase ≡ false → GoesOn part m op then
-  goes b left end wanted fetch stuck =
-      record { accesses_left = λ f. rw (p, e, b) (left f); end = λ f. rw (p, e, b) (end f); wanted = wanted; fetch = fetch; stuck = rw (p, e) stuck }
+  goes b left end wanted fetch stuck = grind arith
 
   -- with an operand in memory
   reaches : {u : BusUse} (k : Access) (w : Mode) → bus_use m.row.mnemonic ≡ u → m.row.mode ≡ w
@@ -144,15 +142,11 @@ module _ {part : Part} {m : Progress} (op : ℕ) (p : m.phase ≡ phase.Opcode) 
 
   -- an instruction without an operand
   implied_by : (w : Mode) → bus_use m.row.mnemonic ≡ Implied → m.row.mode ≡ w → ((start_implied w).phase ≡ phase.Opcode → ⊥) → GoesOn part m op (start_leaves (start_implied w) m)
-  implied_by Spare b v n = absurd (n refl)
-  implied_by _ b v n = goes b (λ f. rw v) (λ f. refl) refl refl refl
+  implied_by w b v n = grind arith
 
   -- JMP
   jumps_by : (w : Mode) → bus_use m.row.mnemonic ≡ Jumps → m.row.mode ≡ w → known_by Jumps w ≡ true → GoesOn part m op (start_leaves (start_jump w) m)
-  jumps_by Abs b v k = goes b (λ f. rw v) (λ f. rw v) refl refl refl
-  jumps_by Ind b v k = goes b (λ f. rw v) (λ f. rw v) refl refl refl
-  jumps_by IndAbsX b v k = goes b (λ f. rw v) (λ f. rw v) refl refl refl
-  jumps_by _ b v k = cc
+  jumps_by w b v k = grind arith
 
   -- each opcode but those that do nothing
   goes_by : (u : BusUse) (w : Mode) → bus_use m.row.mnemonic ≡ u → m.row.mode ≡ w → ((start_by part u w).phase ≡ phase.Opcode → ⊥) → known_by u w ≡ true
@@ -174,10 +168,6 @@ goes_on {part} {m} {op} h p e is n =
     let same = is ∙ ap (start_in part) e in
     rw same (goes_by op p e (bus_use m.row.mnemonic) m.row.mode refl refl (rw same at n) (ap known_in (sym e) ∙ known_at part op h))
 
--- what begins with no cycle of its own does nothing
-apart_by : (part : Part) (u : BusUse) (w : Mode) → (start_by part u w).phase ≡ phase.Opcode → (u ≡ Implied) × (w ≡ Spare)
-apart_by part u w o = grind arith
-
 pub apart : (part : Part) (m : Progress) (op : ℕ) (s : Start) → row_at part op ≡ Some m.row → s ≡ start_at part op → s.phase ≡ phase.Opcode
     → (bus_use m.row.mnemonic ≡ Implied) × (m.row.mode ≡ Spare)
-apart part m op s e is o = apart_by part (bus_use m.row.mnemonic) m.row.mode (rw (is ∙ ap (start_in part) e) at o)
+apart part m op s e is o = grind arith

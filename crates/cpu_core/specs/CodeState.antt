@@ -2,6 +2,7 @@
 use Rattle.std.specs.Prelude.{◌≡◌, ℕ, List, Option, cond, ◌==◌, refl}
 use Rattle.std.specs.Coded.{Coded, code_by, coded×, coded_ℕ, coded_list, coded_option}
 use mathlib.Core.Path.{ap}
+use Rattle.cpu_alu.specs.declared.Regs.{Regs}
 use Rattle.cpu_core.specs.State.{State}
 use Rattle.cpu_core.specs.declared.Sequence.{Sequence}
 use Rattle.cpu_core.specs.declared.Sequence.TheVariants.{Instruction, Reset, Nmi, Irq}
@@ -25,24 +26,25 @@ sequence_at-number_of Irq = refl
 abbrev Registers : Type 0
 Registers = ℕ × (ℕ × (ℕ × (ℕ × (ℕ × ℕ))))
 
+abbrev pub regs_coded : Coded Regs
+regs_coded =
+    code_by Registers
+    (coded× coded_ℕ (coded× coded_ℕ (coded× coded_ℕ (coded× coded_ℕ (coded× coded_ℕ coded_ℕ)))))
+    (λ r. (r.pc, (r.a, (r.x, (r.y, (r.s, r.p))))))
+    (λ n. record { pc = n.0; a = n.1.0; x = n.1.1.0; y = n.1.1.1.0; s = n.1.1.1.1.0; p = n.1.1.1.1.1 })
+    (λ r. refl)
+
 abbrev Parts : Type 0
-Parts = ℕ × (Registers × List (Option ℕ))
+Parts = ℕ × (Regs × List (Option ℕ))
 
 abbrev parts_of : State → Parts
-parts_of s = (number_of s.sequence, ((s.regs.pc, (s.regs.a, (s.regs.x, (s.regs.y, (s.regs.s, s.regs.p))))), s.seen))
+parts_of s = (number_of s.sequence, (s.regs, s.seen))
 
 abbrev state_of : Parts → State
-state_of p = record {
-  sequence = sequence_at p.0;
-  regs = record { pc = p.1.0.0; a = p.1.0.1.0; x = p.1.0.1.1.0; y = p.1.0.1.1.1.0; s = p.1.0.1.1.1.1.0; p = p.1.0.1.1.1.1.1 };
-  seen = p.1.1;
-}
+state_of p = record { sequence = sequence_at p.0; regs = p.1.0; seen = p.1.1 }
 
 pub state_of-parts_of : (s : State) → state_of (parts_of s) ≡ s
 state_of-parts_of s = ap (λ (q : Sequence). record s { sequence = q }) (sequence_at-number_of s.sequence)
 
 abbrev pub state_coded : Coded State
-state_coded =
-    code_by Parts
-    (coded× coded_ℕ (coded× (coded× coded_ℕ (coded× coded_ℕ (coded× coded_ℕ (coded× coded_ℕ (coded× coded_ℕ coded_ℕ))))) (coded_list (coded_option coded_ℕ))))
-    parts_of state_of state_of-parts_of
+state_coded = code_by Parts (coded× coded_ℕ (coded× regs_coded (coded_list (coded_option coded_ℕ)))) parts_of state_of state_of-parts_of

@@ -155,11 +155,10 @@ fn carry_out<N, M: Plain<N>, L>(
     }
 }
 
-/// Carries out the instruction at PC at once, if all its accesses are of plain memory: the number of its cycles, at most 8. Else nothing is done,
-/// and that number is 0. It is 0 too for BRK, RTI, PLP, CLI and SEI, for sums and differences in decimal mode, and for opcodes that do nothing
-/// or halt: what is done leaves the flag I as it was.
-/// `L` stands for the calling loop and is used for nothing else: each loop so gets its own inlined copy.
-/// Source: the MCS6500 Hardware Manual, summary of single cycle execution, and the 65C02's data sheet.
+/// Carries out the instruction at PC at once, if all its accesses are of plain memory: the number of its cycles, at most 8. Else nothing is done, and
+/// that number is 0. It is 0 too for sums and differences in decimal mode, for opcodes that do nothing or halt, and for BRK, RTI, PLP, CLI and SEI,
+/// so that the flag I stays as it was. `L` stands for the calling loop and is used for nothing else: each loop so gets its own inlined copy. Source:
+/// the MCS6500 Hardware Manual, summary of single cycle execution, and the 65C02's data sheet.
 #[inline(always)]
 pub fn whole<N, M: Plain<N>, L>(
     part: Part,

@@ -1,5 +1,5 @@
-//! Operations found by comparisons with the order of the mnemonics, each then by its own name: comparisons take less time than a jump through
-//! a table where the processor does not foresee such a jump, and a name that is a constant leaves the operation alone.
+//! Operations found by comparisons with the order of the mnemonics: they take less time than a jump through a table that the processor does not
+//! foresee. Each is then called by its own name: of what is called with a constant the compiler keeps that operation alone.
 ghost use Rattle.std.specs.Prelude.{◌≡◌, true, false, not};
 ghost use Rattle.cpu_alu.specs.Arithmetic.{adc, sbc};
 ghost use Rattle.cpu_alu.specs.Flags.{has_flag};
@@ -172,8 +172,8 @@ fn change_by(mnemonic: Mnemonic, mode: Mode, r: &mut Regs, m: u8) -> u8
     value
 }
 
-/// What a modify instruction makes of the byte `m` of the memory and, PC apart, of the registers. It has its types for no other sake than that each
-/// place which calls it has one of its own: called from several places it would stay a call, for which the registers lie in memory.
+/// What a modify instruction makes of the byte `m` of the memory and, PC apart, of the registers. Its type parameters stand for the calling place, which so
+/// gets a copy of its own: where several places share one it stays a call, for which the registers lie in memory.
 #[inline(always)]
 pub(crate) fn change<W, N, M: Plain<N>, L>(
     mnemonic: Mnemonic,

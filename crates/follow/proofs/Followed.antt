@@ -1,45 +1,21 @@
 -- The run of a replay of a machine that follows the trace.
-use Rattle.std.proofs.Common.{ℕ, zero, suc, ◌≡◌, ◌+◌, ◌≤◌, nat_lt, refl, sym, ◌∙◌, ap, arith, true, false, List, [], ◌∷◌, map, Option, None, Some}
+use Rattle.std.proofs.Common.{ℕ, zero, suc, ◌≡◌, ◌+◌, ◌≤◌, nat_lt, sym, ◌∙◌, arith, true, List, [], ◌∷◌, Option, None, Some}
 use Rattle.std.specs.Prelude.{All, MatchOption}
 use Rattle.std.proofs.lemmas.List.Elements.{All-head, All-tail}
 use Rattle.std.proofs.lemmas.Bool.Decides.{nat_tests}
 use Rattle.beeb_bits.specs.declared.Side.{Side}
-use Rattle.tube_chip.specs.declared.Op.{Op}
-use Rattle.tube_chip.specs.declared.Op.TheVariants.{Read, Write, Reset}
 use Rattle.tube_chip.specs.declared.Answer.{Answer}
-use Rattle.tube_chip.specs.declared.Answer.TheVariants.{Byte, Seen}
-use Rattle.tube_chip.specs.Act.{Query, access, look}
+use Rattle.tube_chip.specs.Act.{Query}
 use Rattle.tube_chip.specs.Events.{Event}
 use Rattle.tube_trace.specs.declared.Entry.{Entry}
 use Rattle.tube_trace.specs.Entries.{accesses}
 use Rattle.tube_party.specs.Moves.{Moves, IsLawful, Runs, Heads, course}
-use Rattle.tube_party.specs.Replay.{Numbered, own_from, same_op, is_that}
-use Rattle.tube_party.specs.ReplayLaws.{own_below, IsAnsweredBy, FollowsTrace}
+use Rattle.tube_party.specs.Replay.{Numbered, own_from}
+use Rattle.tube_party.specs.ReplayLaws.{IsAnsweredBy, FollowsTrace}
 use Rattle.tube_party.proofs.Runs.{event}
-use Rattle.follow.specs.Listing.{access_run, step_run, run_from, run_of}
+use Rattle.tube_party.proofs.FollowingLemmas.{entries, own_entries}
+use Rattle.follow.specs.Listing.{step_run, run_from, run_of}
 use Rattle.follow.specs.Steps.{behind_event, behind_step, states_of}
-
-abbrev entry : ℕ → Side → Op → ℕ → Entry
-entry t side op b = record { tick = record { 0 = t }; side = side; op = op; answer = b }
-
-abbrev entries : List Numbered → List Entry
-entries own = map (λ (x : Numbered). x.entry) own
-
-own_by : (side : Side) (n line : ℕ) (x : Entry) (trace : List Entry) → entries (own_from side n (line + 1) trace) ≡ own_below side n trace →
-    entries (own_from side n line (x ∷ trace)) ≡ own_below side n (x ∷ trace)
-own_by side n line x trace on = grind arith
-
-own_entries : (side : Side) (n line : ℕ) (trace : List Entry) → entries (own_from side n line trace) ≡ own_below side n trace
-own_entries side n line [] = refl
-own_entries side n line (x ∷ trace) = own_by side n line x trace (own_entries side n (line + 1) trace)
-
-op_same : (a : Op) → same_op a a ≡ true
-op_same (Read r) = grind (arith, nat_tests)
-op_same (Write r v) = grind (arith, nat_tests)
-op_same Reset = refl
-
-that_entry : (t : ℕ) (side : Side) (op : Op) (b : ℕ) → is_that (entry t side op b) t op ≡ true
-that_entry t side op b = grind (arith, nat_tests, op_same)
 
 same_event : (e : Event) (t : ℕ) (side : Side) (q : Query) → e.tick ≡ t → e.side ≡ side → e.query ≡ q → e ≡ event t side q e.answer
 same_event e t side q et es eq = rw (← et, ← es, ← eq)
@@ -56,33 +32,18 @@ module _ {S : Type 0} (m : Moves S) (lawful : IsLawful m) (side : Side) (trace :
       run_from m side trace n more s own ≡ states_of m k s events
 
   over : (more : ℕ) (s : S) (own : List Numbered) → n ≤ m.due s → run_from m side trace n more s own ≡ []
-  over zero s own high = refl
-  over (suc more) s own high = let no : nat_lt (m.due s) n ≡ false = grind (arith, nat_tests) in rw no
+  over more s own high = grind (arith, nat_tests)
 
   -- behind a step
   module _ (k : ℕ) (on : Holds k) (more : ℕ) (s last : S) (enough : n ≤ m.due s + suc more) (high : n ≤ m.due last) where
     goes : (a : Option Answer) (events : List Event) (own : List Numbered) → Runs m side n k (m.next s a) (course events last) → All Told events → accesses events ≡ entries own →
         s ∷ run_from m side trace n more (m.next s a) own ≡ s ∷ states_of m k (m.next s a) events
-    goes a events own runs answered same =
-        let rise = lawful.rises s a in
-        ap (λ (l : List S). s ∷ l) (on more (m.next s a) last events own (omega arith) high runs answered same)
-
-    -- an access of the side's next entry
-    that_run : (op : Op) (b : ℕ) (others : List Event) (own : List Numbered) → Runs m side n k (m.next s (Some (Byte b))) (course others last) → All Told others
-        → entry (m.due s) side op b ∷ accesses others ≡ entries own →
-        access_run m s op own (run_from m side trace n more) ≡ s ∷ states_of m k (m.next s (Some (Byte b))) others
-    that_run op b others [] runs answered same = cc
-    that_run op b others (x ∷ own) runs answered same =
-        let head : x.entry ≡ entry (m.due s) side op b = cc in
-        let tail : accesses others ≡ entries own = cc in
-        rw (head, that_entry (m.due s) side op b) (goes (Some (Byte b)) others own runs answered tail)
+    goes a events own runs answered same = grind (arith, nat_tests)
 
     asking_by : (q : Query) (a : Answer) (others : List Event) (own : List Numbered) → Runs m side n k (m.next s (Some a)) (course others last) → IsAnsweredBy trace (m.due s) side q a
         → All Told others → accesses (event (m.due s) side q a ∷ others) ≡ entries own →
         step_run m side trace s own (Some q) (run_from m side trace n more) ≡ s ∷ states_of m k (m.next s (Some a)) others
-    asking_by look a others own runs told answered same = rw (← told) (goes (Some a) others own runs answered same)
-    asking_by (access op) (Byte b) others own runs told answered same = that_run op b others own runs answered same
-    asking_by (access op) (Seen l) others own runs told answered same = absurd told
+    asking_by q a others own runs told answered same = grind (arith, nat_tests)
 
     heads_by : (q : Query) (events : List Event) (own : List Numbered) →
         Heads events (λ e rest. (e.tick ≡ m.due s) × (e.side ≡ side) × (e.query ≡ q) × Runs m side n k (m.next s (Some e.answer)) (course rest last)) → All Told events
@@ -111,4 +72,4 @@ module _ {S : Type 0} (m : Moves S) (lawful : IsLawful m) (side : Side) (trace :
   unfolding run_of
   run_followed s ended f =
       let d = m.due s in
-      followed f.follows.steps n s f.follows.last f.events (own_from side n 1 trace) (omega arith) f.follows.over f.follows.runs f.answered (f.own ∙ sym (own_entries side n 1 trace))
+      followed f.follows.steps n s f.follows.last f.events (own_from side n 1 trace) (omega arith) f.follows.over f.follows.runs f.answered (f.own ∙ sym (own_entries side n 1 trace).0)

@@ -1,18 +1,17 @@
 -- A replay of a party that is watched is one of the party, and the starts of its run are kept.
-use Rattle.std.proofs.Common.{ℕ, zero, suc, ◌≡◌, ◌∙◌, nat_lt, refl, sym, ap, List, [], ◌∷◌, ◌++◌, length, Bool, true, false, Option, Some, None, if◌then◌else◌, append_assoc, arith}
+use Rattle.std.proofs.Common.{ℕ, zero, suc, ◌≡◌, ◌∙◌, nat_lt, refl, sym, List, [], ◌∷◌, ◌++◌, Bool, true, false, Option, if◌then◌else◌, append_assoc, arith}
 use Rattle.std.proofs.lemmas.List.{append-nil}
 use Rattle.beeb_bits.specs.declared.Side.{Side}
-use Rattle.tube_chip.specs.declared.Op.{Op}
-use Rattle.tube_chip.specs.Act.{Query, access, look}
+use Rattle.tube_chip.specs.Act.{Query}
 use Rattle.tube_trace.specs.declared.Entry.{Entry}
 use Rattle.tube_party.specs.declared.replaying.Doing.{Doing}
 use Rattle.tube_party.specs.Moves.{Moves}
-use Rattle.tube_party.specs.Replay.{Numbered, Ended, own_from, is_that, access_step, one_step, replay_from, replay_of}
+use Rattle.tube_party.specs.Replay.{Numbered, Ended, own_from, one_step, replay_from, replay_of}
 use Rattle.op_table.specs.declared.names.Part.{Part}
 use Rattle.follow.specs.declared.choice.Choice.{Choice}
 use Rattle.follow.specs.Sight.{Sight, IsSame}
 use Rattle.follow.specs.Start.{StartState}
-use Rattle.follow.specs.Listing.{access_run, step_run, run_from, run_of, starts_of, is_chosen, chosen_from, listing_of_chosen, replay_listing}
+use Rattle.follow.specs.Listing.{step_run, run_from, run_of, starts_of, is_chosen, chosen_from, listing_of_chosen, replay_listing}
 use Rattle.follow.specs.CodeNotes.{Kept, none_kept, keep, keep_all}
 use Rattle.follow.specs.CodeWatched.{Order, order, Watched, watched_of, watched_moves, noted}
 use Rattle.follow.proofs.Inside.{place_inside}
@@ -52,24 +51,10 @@ module _ {S : Type 0} (m : Moves S) (sights : S → Sight) (set : Order) where
     Holds k = (s : S) (kept : Kept) (own : List Numbered) →
         replay_from v side trace n k (watched_of s set kept) own ≡ ended_with (replay_from m side trace n k s own) (kept_on kept (run_from m side trace n k s own))
 
-    -- behind a step from s
-    on_by : (k : ℕ) → Holds k → (s t : S) (kept : Kept) (own : List Numbered) →
-        replay_from v side trace n k (watched_of t set (noted m sights s set.choice kept)) own
-        ≡ ended_with (replay_from m side trace n k t own) (kept_on kept (s ∷ run_from m side trace n k t own))
-    on_by k on s t kept own = on t _ own ∙ ap (ended_with (replay_from m side trace n k t own)) (noted_on s kept (run_from m side trace n k t own))
-
-    access_by : (k : ℕ) → Holds k → (s : S) (kept : Kept) (op : Op) (own : List Numbered) →
-        access_step v side (length trace) (watched_of s set kept) op own (replay_from v side trace n k)
-        ≡ ended_with (access_step m side (length trace) s op own (replay_from m side trace n k)) (kept_on kept (access_run m s op own (run_from m side trace n k)))
-    access_by k on s kept op [] = refl
-    access_by k on s kept op (x ∷ own) = either (is_that x.entry (m.due s) op) _ _ kept _ _ (on_by k on s _ kept own) refl
-
     step_by : (k : ℕ) → Holds k → (s : S) (kept : Kept) (own : List Numbered) (o : Option Query) →
         one_step v side trace (watched_of s set kept) own o (replay_from v side trace n k)
         ≡ ended_with (one_step m side trace s own o (replay_from m side trace n k)) (kept_on kept (step_run m side trace s own o (run_from m side trace n k)))
-    step_by k on s kept own None = on_by k on s _ kept own
-    step_by k on s kept own (Some look) = on_by k on s _ kept own
-    step_by k on s kept own (Some (access op)) = access_by k on s kept op own
+    step_by k on s kept own o = grind arith
 
     watched_from : (k : ℕ) → Holds k
     watched_from zero s kept own = refl

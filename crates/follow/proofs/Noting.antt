@@ -1,5 +1,5 @@
 -- One more start behind others.
-use Rattle.std.proofs.Common.{ℕ, ◌≡◌, ◌≤◌, ◌<◌, ◌+◌, ◌∙◌, arith, refl, List, [], ◌∷◌, ◌++◌, length, take, true, false, nat_lt, if◌then◌else◌, length-append, take_all, ◌⊎◌, inl, inr}
+use Rattle.std.proofs.Common.{ℕ, ◌≡◌, ◌≤◌, ◌<◌, ◌+◌, ◌∙◌, arith, List, [], ◌∷◌, ◌++◌, length, take, true, false, nat_lt, if◌then◌else◌, length-append, take_all, ◌⊎◌, inl, inr}
 use Rattle.std.specs.Prelude.{Bool, flat_map}
 use Rattle.std.proofs.lemmas.Bool.Decides.{nat_tests}
 use Rattle.std.proofs.lemmas.Grind.{flat_map-append}
@@ -34,10 +34,7 @@ pub kept_added : {part : Part} {starts after : List StartState} {text new : List
 kept_added x kept is ok lines =
     record { lines = λ done. lines done ∙ rw (kept.lines (ok done), kept.count, is, lines_more); count = rw (is, length-append, kept.count) }
 
-no_lines : (part : Part) (n : ℕ) → [] ≡ flat_map (λ (s : StartState). start_line part s) (take n [])
-no_lines part n = let none : List StartState = [] in rw (take_all n none (omega arith))
-
 -- before any start
 pub kept_none : (part : Part) (starts : List StartState) (text : List ℕ) → starts ≡ [] → text ≡ [] → IsKept part starts text false 0
 unfolding lines_of_starts
-kept_none part starts text none empty = rw (none, empty) record { lines = λ ok. no_lines part 1048576; count = refl }
+kept_none part starts text h empty = grind (arith, nat_tests)

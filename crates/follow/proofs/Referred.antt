@@ -1,8 +1,7 @@
 -- The reference run of a party that is watched is that of the party, and the starts of its run are kept.
-use Rattle.std.proofs.Common.{ℕ, zero, suc, ◌≡◌, ◌+◌, ◌∙◌, nat_eq, refl, ap, List, [], ◌∷◌, ◌++◌, Bool, true, false, Option, Some, None, if◌then◌else◌, arith}
+use Rattle.std.proofs.Common.{ℕ, zero, suc, ◌≡◌, ◌+◌, ◌∙◌, nat_eq, refl, ap, List, [], ◌∷◌, ◌++◌, Bool, None, if◌then◌else◌, arith}
 use Rattle.beeb_bits.specs.declared.Side.{Side}
 use Rattle.beeb_bits.specs.declared.Side.TheVariants.{Host, Para}
-use Rattle.tube_chip.specs.Act.{Query}
 use Rattle.tube_trace.specs.Entries.{accesses}
 use Rattle.tube_party.specs.Moves.{Moves}
 use Rattle.tube_party.specs.Replay.{Ended, replay_of}
@@ -10,9 +9,9 @@ use Rattle.tube_party.specs.Reference.{Seat, step_leaves, step_if_due, World, wi
 use Rattle.follow.specs.Sight.{Sight}
 use Rattle.follow.specs.Listing.{listing_of_chosen, replay_listing}
 use Rattle.follow.specs.CodeNotes.{Kept, none_kept}
-use Rattle.follow.specs.Reference.{due_at, host_run, para_run, host_listing, para_listing}
-use Rattle.follow.specs.CodeWatched.{Order, Watched, watched_of, watched_moves, noted}
-use Rattle.follow.proofs.Listed.{kept_on, chosen_kept, noted_on, replay_watched}
+use Rattle.follow.specs.Reference.{due_at, reference_run, reference_listing}
+use Rattle.follow.specs.CodeWatched.{Order, Watched, watched_of, watched_moves}
+use Rattle.follow.proofs.Listed.{kept_on, chosen_kept, replay_watched}
 
 abbrev seat : {S T : Type 0} → S → World S T → Seat S
 seat s w = record { state = s; chip = w.chip; list = w.list }
@@ -25,16 +24,10 @@ module _ {S : Type 0} (m : Moves S) (sights : S → Sight) (set : Order) where
   abbrev watched_seat : Seat S → Kept → Seat (Watched S)
   watched_seat x kept = record { state = watched_of x.state set kept; chip = x.chip; list = x.list }
 
-  step_same : (side : Side) (x : Seat S) (kept : Kept) (o : Option Query) →
-      step_leaves v side (watched_seat x kept) o ≡ watched_seat (step_leaves m side x o) (noted m sights x.state set.choice kept)
-  step_same side x kept None = refl
-  step_same side x kept (Some q) = refl
-
   due_by : (side : Side) (x : Seat S) (kept : Kept) (is : Bool) →
       (if is then step_leaves v side (watched_seat x kept) (m.asks x.state) else watched_seat x kept)
       ≡ watched_seat (if is then step_leaves m side x (m.asks x.state) else x) (kept_on m sights set kept (if is then x.state ∷ [] else []))
-  due_by side x kept true = step_same side x kept (m.asks x.state) ∙ ap (watched_seat (step_leaves m side x (m.asks x.state))) (noted_on m sights set x.state kept [])
-  due_by side x kept false = refl
+  due_by side x kept is = grind arith
 
   due_same : (side : Side) (k : ℕ) (x : Seat S) (kept : Kept) →
       step_if_due v side k (watched_seat x kept) ≡ watched_seat (step_if_due m side k x) (kept_on m sights set kept (due_at m k x.state))
@@ -55,17 +48,17 @@ module _ {S T : Type 0} (h : Moves S) (sights : S → Sight) (p : Moves T) (set 
   watched_host w kept = record { host = watched_of w.host set kept; para = w.para; chip = w.chip; list = w.list }
 
   host_ticks : (j k : ℕ) (w : World S T) (kept : Kept) →
-      ticks hv p j k (watched_host w kept) ≡ watched_host (ticks h p j k w) (kept_on h sights set kept (host_run h p j k w))
+      ticks hv p j k (watched_host w kept) ≡ watched_host (ticks h p j k w) (kept_on h sights set kept (reference_run h p h (λ w. w.host) j k w))
   host_ticks zero k w kept = refl
   host_ticks (suc j) k w kept =
       let on = tick h p k w in
       ap (λ (x : Seat (Watched S)). ticks hv p j (k + 1) (para_part p k x w.para)) (due_same h sights set Host k (seat w.host w) kept)
-      ∙ host_ticks j (k + 1) on _ ∙ ap (watched_host (ticks h p j (k + 1) on)) (kept_more h sights set k w.host kept (host_run h p j (k + 1) on))
+      ∙ host_ticks j (k + 1) on _ ∙ ap (watched_host (ticks h p j (k + 1) on)) (kept_more h sights set k w.host kept (reference_run h p h (λ w. w.host) j (k + 1) on))
 
   pub host_replayed : (s : S) (t : T) (n : ℕ) →
       replay_of hv Host (accesses (reference hv p (watched_of s set none_kept) t n).list) n
       (watched_of s set none_kept) ≡ record { machine = (reference hv p (watched_of s set none_kept) t n).host; place = None } →
-      replay_listing h sights set.part Host (accesses (reference h p s t n).list) n set.choice s ≡ host_listing h p sights set.part set.choice s t n
+      replay_listing h sights set.part Host (accesses (reference h p s t n).list) n set.choice s ≡ reference_listing h p h (λ w. w.host) sights set.part set.choice s t n
   host_replayed s t n replayed =
       simp chosen_kept at (ap (λ (e : Ended (Watched S)). listing_of_chosen set.part e.machine.kept.chosen) (rw (host_ticks n 0 (start s t) none_kept, replay_watched) at replayed))
 
@@ -77,17 +70,17 @@ module _ {S T : Type 0} (h : Moves S) (p : Moves T) (sights : T → Sight) (set 
   watched_para w kept = record { host = w.host; para = watched_of w.para set kept; chip = w.chip; list = w.list }
 
   para_ticks : (j k : ℕ) (w : World S T) (kept : Kept) →
-      ticks h pv j k (watched_para w kept) ≡ watched_para (ticks h p j k w) (kept_on p sights set kept (para_run h p j k w))
+      ticks h pv j k (watched_para w kept) ≡ watched_para (ticks h p j k w) (kept_on p sights set kept (reference_run h p p (λ w. w.para) j k w))
   para_ticks zero k w kept = refl
   para_ticks (suc j) k w kept =
       let on = tick h p k w in
       let x = step_if_due h Host k (seat w.host w) in
       ap (λ (y : Seat (Watched T)). ticks h pv j (k + 1) (with_host x.state y)) (due_same p sights set Para k (record { state = w.para; chip = x.chip; list = x.list }) kept)
-      ∙ para_ticks j (k + 1) on _ ∙ ap (watched_para (ticks h p j (k + 1) on)) (kept_more p sights set k w.para kept (para_run h p j (k + 1) on))
+      ∙ para_ticks j (k + 1) on _ ∙ ap (watched_para (ticks h p j (k + 1) on)) (kept_more p sights set k w.para kept (reference_run h p p (λ w. w.para) j (k + 1) on))
 
   pub para_replayed : (s : S) (t : T) (n : ℕ) →
       replay_of pv Para (accesses (reference h pv s (watched_of t set none_kept) n).list) n
       (watched_of t set none_kept) ≡ record { machine = (reference h pv s (watched_of t set none_kept) n).para; place = None } →
-      replay_listing p sights set.part Para (accesses (reference h p s t n).list) n set.choice t ≡ para_listing h p sights set.part set.choice s t n
+      replay_listing p sights set.part Para (accesses (reference h p s t n).list) n set.choice t ≡ reference_listing h p p (λ w. w.para) sights set.part set.choice s t n
   para_replayed s t n replayed =
       simp chosen_kept at (ap (λ (e : Ended (Watched T)). listing_of_chosen set.part e.machine.kept.chosen) (rw (para_ticks n 0 (start s t) none_kept, replay_watched) at replayed))

@@ -1,12 +1,11 @@
 -- The steps of a party are those of the party that is watched, with what is kept of the starts.
-use Rattle.std.proofs.Common.{ℕ, zero, suc, ◌≡◌, ◌≤◌, ◌<◌, ◌∙◌, max, refl, ap, arith, [], Bool, true, false, Some, None}
+use Rattle.std.proofs.Common.{ℕ, zero, suc, ◌≡◌, ◌≤◌, ◌<◌, ◌∙◌, refl, arith, [], true, false, Some, None}
 use Rattle.beeb_bits.specs.declared.Tick.{Tick}
 use Rattle.beeb_bits.specs.declared.Side.TheVariants.{Host}
-use Rattle.tube_chip.specs.Act.{look}
 use Rattle.tube_chip.specs.declared.Answer.TheVariants.{Seen}
 use Rattle.tube_chip.specs.declared.Lines.{Lines}
 use Rattle.tube_party.specs.declared.party.Ask.{Ask}
-use Rattle.tube_party.specs.declared.party.Ask.TheVariants.{Nothing, Access, Look}
+use Rattle.tube_party.specs.declared.party.Ask.TheVariants.{Look}
 use Rattle.tube_party.specs.Moves.{Moves, IsLawful, Looks, Advances, Sees, IsAsk, IsUnsure, shown_lines}
 use Rattle.tube_party.specs.Steps.{due_rises, looks_on}
 use Rattle.tube_party.proofs.Runs.{Steps, steps_of, runs_of}
@@ -18,10 +17,8 @@ use Rattle.op_table.specs.declared.names.Part.{Part}
 use Rattle.follow.specs.declared.choice.Choice.{Choice}
 use Rattle.follow.specs.Sight.{Sight, IsSeen, IsSame}
 use Rattle.follow.specs.Start.{StartState, start_of}
-use Rattle.follow.specs.Listing.{is_chosen}
 use Rattle.follow.specs.CodeNotes.{Kept, LeavesKept, keep}
-use Rattle.follow.proofs.Inside.{closed_to}
-use Rattle.follow.specs.CodeWatched.{Order, order, Watched, watched_of, watched_moves, watched_lawful, noted, keep_if}
+use Rattle.follow.specs.CodeWatched.{Order, order, Watched, watched_of, watched_moves, watched_lawful, noted}
 
 -- steps to last that ask nothing
 abbrev Silently : {S : Type 0} → Moves S → ℕ → S → S → Type 0
@@ -47,33 +44,18 @@ module _ {S : Type 0} {m : Moves S} {n : ℕ} {lines : Lines} {sure : ℕ} {old 
 
 -- ---- A party that is watched
 
-leaves_by : (is : Bool) (choice : Choice) (kept : Kept) (x : StartState) → is_chosen choice kept.before x.tick x.regs.pc x.watched ≡ false → kept.before ≡ Some x.watched
-    → keep_if is choice kept x ≡ kept
-leaves_by true choice kept x left stays = rw (left, ← stays)
-leaves_by false choice kept x left stays = refl
-
-starts_none : (b : Bool) → (b ≡ true → ⊥) → b ≡ false
-starts_none true h = absurd (h refl)
-starts_none false h = refl
-
 module _ {T : Type 0} {w : Moves T} {sights : T → Sight} (seen : IsSeen w sights) where
   -- no start follows a step that asks nothing
   no_start : (t : T) → w.asks t ≡ None → (sights (w.next t None)).starting ≡ false
-  no_start t none = starts_none _ (λ is. let asks : w.asks t ≡ Some look = seen.behind t None is in cc)
+  no_start t h = grind arith
 
   -- what is asked leaves the tick of the next step
   due_asked : (n : ℕ) (last : T) (ask : Ask) (new : T) → IsAsk w n last ask new → w.due new ≡ w.due last
-  due_asked n last Nothing new h =
-      let c = w.closed last in
-      ap w.due h.1 ∙ (seen.lawful.closing last (max n (w.closed last)) (omega arith) (omega (arith, h.0, seen.lawful.within last))).due
-  due_asked n last (Access t op) new h = ap w.due h.3
-  due_asked n last (Look t) new h = ap w.due h.3
+  due_asked n last ask new h = grind arith
 
   module _ (set : Order) (kept : Kept) where
     ask_with : (n : ℕ) (last : T) (ask : Ask) (new : T) → IsAsk w n last ask new → IsAsk (watched_moves w sights) n (watched_of last set kept) ask (watched_of new set kept)
-    ask_with n last Nothing new h = rw h.1 (h.0, refl)
-    ask_with n last (Access t op) new h = rw h.3 (h.0, h.1, h.2, refl)
-    ask_with n last (Look t) new h = rw h.3 (h.0, h.1, h.2, refl)
+    ask_with n last ask new h = grind arith
 
     -- silent steps from a state that leaves what is kept, and each of them leaves it
     steps_on : {n : ℕ} {last t : T} → noted w sights t set.choice kept ≡ kept → Silently w n last t
@@ -87,9 +69,7 @@ module _ {T : Type 0} {w : Moves T} {sights : T → Sight} (seen : IsSeen w sigh
       over s = IsOver passing (w.due s) (sights s).regs.pc (sights s).peek
 
       leaves_noted : (t : T) → over t → noted w sights t set.choice kept ≡ kept
-      leaves_noted t is =
-          let left = leaves (w.due t) (sights t).regs.pc (sights t).peek is in
-          leaves_by (sights t).starting set.choice kept (start_of w sights set.choice.watch t) left.0 left.1
+      leaves_noted t is = grind arith
 
       passes_on : (k : ℕ) {old : Watched T} (t last : T) → (j : ℕ) × Looks (watched_moves w sights) n (shown_lines lines sure) j old (watched_of t set kept)
           → Passes w over n (shown_lines lines sure) k t last → (j : ℕ) × Looks (watched_moves w sights) n (shown_lines lines sure) j old (watched_of last set kept)
@@ -123,9 +103,7 @@ module _ {X S T : Type 0} {state : X → S} {m : Moves S} {inside : X → T} {w 
   steps_to (Silent {s = s} low none on) = Silent (rw same.due low) (same.asks s ∙ none) (rw same.next (steps_to on))
 
   ask_to : (n : ℕ) (last : S) (ask : Ask) (y : X) → IsAsk m n last ask (state y) → IsAsk w n (same.to last) ask (inside y)
-  ask_to n last Nothing y h = rw (same.due, ← same.is y, h.1, closed_to same n last) (h.0, refl)
-  ask_to n last (Access t op) y h = rw (same.due, same.asks, ← same.is y, h.3) (h.0, h.1, h.2, refl)
-  ask_to n last (Look t) y h = rw (same.due, same.asks, ← same.is y, h.3) (h.0, h.1, h.2, refl)
+  ask_to n last ask y h = grind arith
 
   module _ {sights : T → Sight} (seen : IsSeen w sights) {n : ℕ} (x y : X) {ask : Ask} (goes : Advances m n (state x) ask (state y)) where
     way : Silently w n (same.to goes.last) (inside x)

@@ -2,8 +2,8 @@
 ghost use Rattle.std.specs.Prelude.{◌≡◌};
 ghost use Rattle.follow.specs.Listing.{is_at, is_same_byte, has_changed, is_chosen};
 
-/// Which starts of instructions are listed: those at a tick or later, at an address, if one is given, and those at which the byte at another, if
-/// one is given, is not what it was at the start before, whether that is listed or not.
+/// Which starts of instructions are listed: those at tick `from` or later for which the rest holds too. If `at` is given, PC is `at`. If `watch` is
+/// given, the byte at `watch` is not what it was at the start before, listed or not.
 #[derive(Clone, Copy, Debug, PartialEq, Eq)]
 pub struct Choice {
     pub from: u64,

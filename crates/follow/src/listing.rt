@@ -28,7 +28,7 @@ pub struct Listing {
 /// Why there is no listing.
 #[derive(Clone, Copy, Debug, PartialEq, Eq, Error)]
 pub enum FollowError {
-    /// The machine and its side of the trace differ: at the line of the side's entry, or one past the trace where it has none, and what the
+    /// The machine and its side of the trace differ at `line`: that of the side's entry, or one past the trace where it has none. `doing` is what the
     /// machine does there, if it does something.
     #[error("the machine differs from line {line} of the trace")]
     Differs { line: u64, doing: Option<Doing> },

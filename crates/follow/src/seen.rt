@@ -36,8 +36,7 @@ pub trait Seen: Party {
     fn peek(&self, at: u16) -> Option<u8>
         ensures { result ≡ (sights (inside self.now)).peek at };
 
-    /// Does instructions whole, each from a start that is passed over, with the look behind it, which sees these lines and is below `until` and
-    /// `sure`. It may leave off at any start.
+    /// Skips instructions whose starts `passing` passes over. Their looks see these lines, and come before `until` and `sure`. It may stop at any start.
     fn pass(&mut self, until: Tick, lines: &Lines, sure: Tick, passing: Passing)
         requires { until.0 ≤ MOST }
         ensures { let old = inside self.old in

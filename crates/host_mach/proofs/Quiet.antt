@@ -1,16 +1,13 @@
 -- A halted host reads one address in every cycle.
 use Rattle.std.proofs.Common.{◌≡◌, ◌≤◌, ◌<◌, ◌∙◌, ◌&&◌, inl, inr, refl, ap, sym, arith, ℕ, zero, suc, ◌+◌}
-use Rattle.std.proofs.Common.{List, [], ◌∷◌, length, true, false, is_none, Option, Some, None}
+use Rattle.std.proofs.Common.{List, length, true, false, Option, Some, None}
 use Rattle.std.specs.Prelude.{slice_get, max}
 use Rattle.std.proofs.lemmas.Bool.{cases_lt}
 use Rattle.op_table.specs.declared.names.Part.TheVariants.{Nmos}
-use Rattle.op_table.specs.declared.rows.Row.{Row}
 use Rattle.cpu_alu.specs.declared.Cycle.{Cycle}
 use Rattle.cpu_alu.specs.declared.Cycle.TheVariants.{Read}
 use Rattle.cpu_alu.specs.declared.Regs.{Regs}
 use Rattle.cpu_core.specs.declared.Sequence.{Sequence}
-use Rattle.cpu_core.specs.declared.Sequence.TheVariants.{Instruction}
-use Rattle.cpu_core.specs.Accesses.{row_at, form_of}
 use Rattle.cpu_core.specs.Sequences.{accesses, halts}
 use Rattle.cpu6502.specs.State as cpu
 use Rattle.cpu6502.specs.Sequences.{next_cycle, after_byte, halted}
@@ -32,14 +29,8 @@ none_some is = cc
 abbrev pub IsFree : ℕ → BusState → Type 0
 IsFree far b = (t : ℕ) → t < far → bus_break_pending b t ≡ false
 
--- the opcode without an instruction is read again
-read_again : (o : Option Row) (r : Regs) (seen : List (Option ℕ)) → is_none o ≡ true → slice_get (form_of Nmos o r seen) 0 ≡ Some (Read r.pc)
-read_again None r seen h = refl
-read_again (Some row) r seen h = cc
-
 halts_at : (seen : List (Option ℕ)) (q : Sequence) (r : Regs) → halts seen Nmos q ≡ true → slice_get (accesses Nmos q r seen) (length seen) ≡ Some (Read r.pc)
-halts_at (Some o ∷ []) Instruction r h = read_again (row_at Nmos o) r (Some o ∷ []) h
-halts_at _ _ r h = cc
+halts_at seen q r h = grind arith
 
 halted_next : (c : cpu.State) → halted c ≡ true → next_cycle c ≡ Some (Read c.regs.pc)
 halted_next c h = halts_at c.seen c.sequence c.regs h

@@ -1,39 +1,29 @@
 -- The host is a party that plays the host's side.
-use Rattle.std.specs.Prelude.{ℕ, ◌≡◌, ◌≤◌, ◌+◌, ◌/◌, ◌%◌, ◌==◌, Bool, true, false, IsTrue, Option, None, Some, refl, if◌then◌else◌}
+use Rattle.std.specs.Prelude.{ℕ, ◌≡◌, ◌≤◌, ◌+◌, Bool, true, false, IsTrue, Option, Some, refl, if◌then◌else◌}
 use Rattle.std.proofs.Common.{arith, ap}
-use Rattle.std.proofs.Math.Nat.{le-mul_of_pos_right}
 use Rattle.beeb_bits.specs.declared.Side.{Side}
 use Rattle.beeb_bits.specs.declared.Side.TheVariants.{Host, Para}
 use Rattle.beeb_bits.specs.declared.clock.Clock.{Clock}
 use Rattle.beeb_bits.specs.Clock.{host, some-host, few-host}
 use Rattle.op_table.specs.declared.names.Part.TheVariants.{Nmos}
 use Rattle.cpu_alu.specs.declared.Cycle.{Cycle}
-use Rattle.cpu_alu.specs.declared.Cycle.TheVariants.{Read, Write}
 use Rattle.cpu_core.specs.Sequences.{next_cycle}
 use Rattle.tube_chip.specs.declared.Op.TheVariants as op
 use Rattle.tube_chip.specs.Act.{MayDo}
 use Rattle.tube_chip.specs.Events.{is_side}
 use Rattle.tube_chip.specs.declared.Answer.TheVariants.{Seen}
 use Rattle.tube_party.specs.Moves.{IsLawful, IsPermitted, SeesHirqAlone}
-use Rattle.host_devices.specs.Map.{stretched_in, memory_map}
 use Rattle.host_bus.specs.Bus.{BusState, clock_of}
 use Rattle.host_bus.specs.Closing.{closed-again, closed-still}
 use Rattle.tube_machine.specs.Wiring.{IsWired, StaysPlain}
 use Rattle.tube_machine.specs.Lawful.{lawful, may_play}
 use Rattle.host_mach.specs.State.{HostBusState, HostState}
-use Rattle.host_mach.specs.Step.{host_wiring, host_moves, host_closed, is_break, after_break, after_step, address, cycle_ticks}
+use Rattle.host_mach.specs.Step.{host_wiring, host_moves, host_closed, is_break, after_break, after_step, cycle_ticks}
 use Rattle.host_mach.specs.SameClock.{access-same}
 use Rattle.host_mach.specs.SameBreaks.{access-leaves}
 
--- an access takes at least one cycle
-some-cycle : (slow even : Bool) → 1 ≤ (if slow then (if even then 2 else 3) else 1)
-some-cycle true true = omega arith
-some-cycle true false = omega arith
-some-cycle false even = omega arith
-
 pub cycle-ticks : (clock : Clock) (t : ℕ) (c : Cycle) → host clock ≤ cycle_ticks clock t c
-cycle-ticks clock t c =
-    le-mul_of_pos_right (host clock) (some-cycle (stretched_in memory_map (address c)) (t / host clock % 2 == 0))
+cycle-ticks clock t c = grind arith
 
 pub host_wired : IsWired host_wiring
 host_wired = record {
@@ -90,7 +80,4 @@ host_sees s a b same = by (is_break s) (next_cycle Nmos s.cpu)
 
     by : (breaks : Bool) (c : Option Cycle)
         → (if breaks then after_break closed else after_step c closed (Some (Seen a))) ≡ (if breaks then after_break closed else after_step c closed (Some (Seen b)))
-    by true c = refl
-    by false None = ap (λ (q : Bool). after_step None closed (Some (Seen (record { prst = false; resets = 0; nmis = 0; pirq = false; hirq = q })))) same
-    by false (Some (Read at)) = refl
-    by false (Some (Write at byte)) = refl
+    by breaks c = grind arith

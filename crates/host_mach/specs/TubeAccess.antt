@@ -1,5 +1,5 @@
 -- An access of the Tube leaves the bus, and is not stretched.
-use Rattle.std.proofs.Common.{ℕ, ◌≡◌, ◌≤◌, ◌∙◌, ◌*◌, ◌/◌, ◌&&◌, refl, ap, Bool, true, false, None, Some, arith, if◌then◌else◌}
+use Rattle.std.proofs.Common.{ℕ, ◌≡◌, ◌≤◌, ◌∙◌, ◌*◌, ◌/◌, ◌&&◌, ap, Bool, true, false, Some, arith}
 use Rattle.std.proofs.lemmas.Grind.{common_steps}
 use Rattle.std.proofs.Math.Nat.{mul-one}
 use Rattle.beeb_bits.specs.Clock.{host}
@@ -7,7 +7,7 @@ use Rattle.cpu_alu.specs.declared.Cycle.{Cycle}
 use Rattle.cpu_alu.specs.declared.Cycle.TheVariants.{Read, Write}
 use Rattle.host_bus.specs.Bus.{BusState, clock_of}
 use Rattle.host_bus.specs.AtTube.{tube-read, tube-write, tube-fast}
-use Rattle.tube_chip.specs.Act.{Query, access}
+use Rattle.tube_chip.specs.Act.{access}
 use Rattle.tube_chip.specs.declared.Op.{Op}
 use Rattle.tube_machine.specs.Step.{asks_by}
 use Rattle.tube_machine.specs.Exchange.{IsAtTube, IsPassing}
@@ -41,13 +41,8 @@ tube-ticks h t c is =
     let n : ℕ = host (clock_of h.bus) in
     ap (λ (k : ℕ). n * k) (tube-fast (address c) (t / n) (from (address c) tube) (to (address c) tube)) ∙ mul-one n
 
-asked_there : (tube : Bool) (q : Query) (o : Op) → (if tube then Some q else None) ≡ Some (access o) → tube ≡ true
-asked_there true q o asks = refl
-asked_there false q o asks = cc
-
 asked_at : (h : HostBusState) (c : Cycle) (o : Op) → asks_by host_wiring h (Some c) ≡ Some (access o) → (t : ℕ) → IsAtTube host_wiring (host_wiring.close h t) c
-asked_at h (Read at) o asks t = asked_there (h.tube && is_tube at) _ o asks
-asked_at h (Write at v) o asks t = asked_there (h.tube && is_tube at) _ o asks
+asked_at h c o asks t = grind arith
 
 -- so that it may be answered in passing
 pub tube-passing : (h : HostBusState) (c : Cycle) (o : Op) → asks_by host_wiring h (Some c) ≡ Some (access o) → IsPassing host_wiring h c o

@@ -1,11 +1,11 @@
 -- Which of the host's addresses are plain memory.
 use Rattle.std.specs.Prelude.{ℕ, zero, suc, length, Option, None, Some, MatchOption, ◌≡◌, ◌≤◌, ◌<◌, ◌+◌, ◌*◌, ◌/◌}
-use Rattle.std.specs.Prelude.{max, nat_lt, nat_le, ◌&&◌, ◌||◌, not, Bool, true, false, refl, slice_index, slice_set, if◌then◌else◌}
+use Rattle.std.specs.Prelude.{max, nat_lt, ◌&&◌, ◌||◌, not, Bool, true, false, slice_index, slice_set, if◌then◌else◌}
 use Rattle.std.proofs.Common.{arith, ap, ◌∙◌, sym, subst, inl, inr}
-use Rattle.std.proofs.lemmas.Bool.{ltb-true, lt-ltb, eq-eqb, cases_lt}
+use Rattle.std.proofs.lemmas.Bool.{ltb-true, lt-ltb, cases_lt}
 use Rattle.std.proofs.lemmas.Grind.{common_steps}
 use Rattle.std.proofs.lemmas.List.{set-get_or}
-use Rattle.std.proofs.Math.Nat.{mul-le-mul_left, mul-one}
+use Rattle.std.proofs.Math.Nat.{mul-one}
 use Rattle.op_table.specs.declared.names.Part.{Part}
 use Rattle.cpu_alu.specs.declared.Cycle.{Cycle}
 use Rattle.cpu_alu.specs.declared.Cycle.TheVariants.{Read, Write}
@@ -14,9 +14,9 @@ use Rattle.cpu_core.specs.Sequences.{next_cycle, after_byte}
 use Rattle.beeb_bits.specs.Clock.{host}
 use Rattle.tube_chip.specs.declared.Lines.{Lines}
 use Rattle.host_devices.specs.Map.{Place, Ram, PagedRom, OsRom, place_of, stretch, stretched_in, memory_map}
-use Rattle.host_bus.specs.Bus.{BusState, clock_of, bus_closed, closed_at, bus_irq, bus_nmis, answer_of, after_read_of, bus_answer, bus_after_read, bus_after_write}
+use Rattle.host_bus.specs.Bus.{BusState, clock_of, bus_closed, closed_at, bus_irq, bus_nmis, bus_answer, bus_after_read, bus_after_write}
 use Rattle.host_bus.specs.Closing.{closed-again, closed-still}
-use Rattle.tube_machine.specs.Whole.{reach_of, IsMemory, IsAtRest, StaysAtRest}
+use Rattle.tube_machine.specs.Whole.{reach_of, later, IsMemory, IsAtRest, StaysAtRest}
 use Rattle.cpu_whole.specs.Whole.{Reach, Carried, is_plain, shows, leaves}
 use Rattle.host_bus.specs.StoredLines.{irq-stored, nmis-stored}
 use Rattle.host_mach.specs.State.{HostBusState}
@@ -38,9 +38,6 @@ reach = reach_of host_wiring plain_read plain_write
 abbrev memory_place : Bool → Bool → Place
 memory_place ram paged = if ram then Ram else if paged then PagedRom else OsRom
 
-is-memory : (at : ℕ) → at < 0xfc00 → place_of at ≡ memory_place (nat_le at 0x7FFF) (nat_le at 0xBFFF)
-is-memory at low = grind (arith, common_steps)
-
 is-ram : (at : ℕ) → at < 0x8000 → place_of at ≡ Ram
 is-ram at low = grind (arith, common_steps)
 
@@ -53,21 +50,11 @@ not-stretched at low = grind (arith, common_steps)
 fast : (n at cycle : ℕ) → at < 0xfc00 → n * stretch at cycle ≡ n
 fast n at cycle low = rw (not-stretched at low) (mul-one n)
 
-same-answer : (b : BusState) (u t at : ℕ) (ram paged : Bool) → answer_of (memory_place ram paged) (bus_closed b u) t at ≡ answer_of (memory_place ram paged) b 0 at
-same-answer b u t at true paged = refl
-same-answer b u t at false true = refl
-same-answer b u t at false false = refl
-
 answers : (b : BusState) (u t at : ℕ) → at < 0xfc00 → bus_answer (bus_closed b u) t at ≡ bus_answer b 0 at
-answers b u t at low = rw (is-memory at low) (same-answer b u t at (nat_le at 0x7FFF) (nat_le at 0xBFFF))
-
-same-read : (b : BusState) (at : ℕ) (ram paged : Bool) → after_read_of (memory_place ram paged) b at ≡ b
-same-read b at true paged = refl
-same-read b at false true = refl
-same-read b at false false = refl
+answers b u t at low = grind arith
 
 reads-leave : (b : BusState) (at : ℕ) → at < 0xfc00 → bus_after_read b at ≡ b
-reads-leave b at low = rw (is-memory at low) (same-read b at (nat_le at 0x7FFF) (nat_le at 0xBFFF))
+reads-leave b at low = grind arith
 
 -- a byte of the RAM is written
 abbrev stored : BusState → ℕ → ℕ → BusState
@@ -87,9 +74,6 @@ twice b t u at v low high =
     let back : bus_after_write c at (bus_answer b 0 at) ≡ c =
     rw (writes-store c at (bus_answer b 0 at) low, stands b at low, set-get_or b.board.ram at 0) in
     ap (λ (x : BusState). bus_after_write (bus_closed x u) at v) back ∙ ap (λ (x : BusState). bus_after_write x at v) (closed-again b t u high)
-
-later : (c t n : ℕ) → t + c * n + 1 ≤ t + c * suc n + 1
-later c t n = let more : c * n ≤ c * suc n = mul-le-mul_left c (omega arith) in omega (arith, more)
 
 clock-stays : (b : BusState) (at v : ℕ) → at < 0x8000 → clock_of (bus_after_write b at v) ≡ clock_of b
 clock-stays b at v low = ap clock_of (writes-store b at v low)
@@ -117,8 +101,8 @@ host_memory = record {
   write_closed = λ b at byte low. ap (λ (x : BusState). x.board.closed) (writes-store b.bus at byte (ltb-true at 0x8000 low));
 }
 
--- Looks up to a tick ask for nothing where, however far the bus is closed below it, the count of NMIs is the one taken, and no line for an IRQ is
--- on or the flag I holds it back.
+-- A look asks for nothing where the count of NMIs is the one taken, and no line for an IRQ is on or the flag I holds it back. Looks up to a tick do
+-- so where this holds however far the bus is closed, up to there.
 abbrev pub AsksNothing : BusState → ℕ → Lines → Bool → Type 0
 AsksNothing b nmis l masks = (bus_nmis b ≡ nmis) × (((bus_irq b || l.hirq) && not masks) ≡ false)
 
@@ -126,11 +110,7 @@ abbrev pub rests : HostBusState → Lines → Bool → ℕ → Type 0
 rests b l masks far = 0 < far → (u : ℕ) → u ≤ far → AsksNothing (bus_closed b.bus u) b.nmis l masks
 
 at-rest : (b : HostBusState) (l : Lines) (masks : Bool) → AsksNothing b.bus b.nmis l masks → IsAtRest host_wiring b l masks
-at-rest b l masks h = record {
-  nmi = ap not (eq-eqb (bus_nmis b.bus) b.nmis h.0);
-  irq = h.1;
-  taken = ap (λ (n : ℕ). record b { nmis = n }) h.0;
-}
+at-rest b l masks h = grind arith
 
 closed-rests : (b : HostBusState) (l : Lines) (masks : Bool) (far t : ℕ) → rests b l masks far → t ≤ far → rests (record b { bus = bus_closed b.bus t }) l masks far
 closed-rests b l masks far t rest low some u near = elim (cases_lt u t) [
@@ -153,12 +133,9 @@ host_rests = record {
   tube = λ b l masks far c rest at some u near. rw (tube-leaves b c at) (rest some u near);
 }
 
--- an instruction's cycles begin one after another, and each closes the bus no further than behind its first tick
-pub comes_later : (closed c t n k : ℕ) → closed ≤ t + max 1 (c * n) → n ≤ k → closed ≤ t + max 1 (c * k)
-comes_later closed c t n k low high = let more : c * n ≤ c * k = mul-le-mul_left c high in omega (arith, low, more)
-
+-- behind an instruction the bus is closed no further than its cycles go
 pub comes_behind : (c t n closed : ℕ) → 1 < c → 0 < n → closed ≤ t + max 1 (c * n) → closed ≤ t + c * n
-comes_behind c t n closed some more low = let least : c * 1 ≤ c * n = mul-le-mul_left c more in let one : c * 1 ≡ c = mul-one c in omega (arith, least, one, some, low)
+comes_behind c t n closed h more low = grind arith
 
 -- no access changes how long ticks are
 pub carried-clock : (part : Part) (t k : ℕ) (s : State) (m : HostBusState) (last : State) (there : HostBusState) → Carried reach t part k s m last there → clock_of there.bus ≡ clock_of m.bus

@@ -254,11 +254,11 @@ impl<D: BusDevice> Plain<()> for HostBus<D> {
     ghost use Rattle.std.specs.Prelude.{◌≤◌, ◌+◌, ◌*◌, max};
     ghost use Rattle.beeb_bits.specs.Clock.{host};
     ghost use Rattle.host_bus.specs.Bus.{clock_of, closed_at};
-    ghost use Rattle.tube_machine.specs.Whole.{reach_of};
+    ghost use Rattle.tube_machine.specs.Whole.{reach_of, comes_later};
     ghost use Rattle.host_mach.specs.State.{HostBusState};
     ghost use Rattle.host_mach.specs.View.{host_bus_seen};
     ghost use Rattle.host_mach.specs.Step.{host_wiring};
-    ghost use Rattle.host_mach.specs.Whole.{plain_read, plain_write, host_memory, comes_later};
+    ghost use Rattle.host_mach.specs.Whole.{plain_read, plain_write, host_memory};
 
     ghost State = { HostBusState };
 

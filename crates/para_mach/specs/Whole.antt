@@ -1,13 +1,12 @@
 -- Which of the second processor's addresses are plain memory, and which of its looks ask for nothing.
-use Rattle.std.specs.Prelude.{ℕ, suc, ◌≡◌, ◌≤◌, ◌<◌, ◌+◌, ◌*◌, ◌&&◌, max, nat_lt, nat_le, Bool, true, false, not, refl, slice_set, if◌then◌else◌}
-use Rattle.std.proofs.Common.{arith, ap, ◌∙◌, sym}
-use Rattle.std.proofs.lemmas.Bool.{and_left, ltb-true, lt-ltb, lt-leb, eq-eqb}
+use Rattle.std.specs.Prelude.{ℕ, suc, ◌≡◌, ◌≤◌, ◌<◌, ◌+◌, ◌*◌, ◌&&◌, max, nat_lt, Bool, true, false, not, refl, slice_set, if◌then◌else◌}
+use Rattle.std.proofs.Common.{arith}
+use Rattle.std.proofs.lemmas.Bool.{lt-ltb}
 use Rattle.std.proofs.lemmas.List.{set-set}
-use Rattle.std.proofs.Math.Nat.{mul-le-mul_left}
 use Rattle.cpu_alu.specs.declared.Cycle.TheVariants.{Read}
 use Rattle.tube_chip.specs.declared.Lines.{Lines}
 use Rattle.beeb_bits.specs.Clock.{para}
-use Rattle.tube_machine.specs.Whole.{IsMemory, IsAtRest, StaysAtRest}
+use Rattle.tube_machine.specs.Whole.{later, IsMemory, IsAtRest, StaysAtRest}
 use Rattle.para_mach.specs.State.{ParaBusState}
 use Rattle.para_mach.specs.Step.{is_tube, para_wiring}
 
@@ -23,12 +22,10 @@ abbrev pub rests : ParaBusState → Lines → Bool → ℕ → Type 0
 rests b l masks far = 0 < far → (l.nmis ≡ b.nmis) × (b.is_held ≡ false) × ((l.pirq && not masks) ≡ false)
 
 read-apart : (at : ℕ) → plain_read at ≡ true → is_tube at ≡ false
-read-apart at low = and_left (nat_le 0xFEF8 at) (nat_le at 0xFEFF) (lt-leb 0xFEF8 at (ltb-true at 0xFEF8 low))
+read-apart at low = grind arith
 
 write-apart : (at : ℕ) → plain_write at ≡ true → is_tube at ≡ false
-write-apart at low =
-    let below : at < 0xF800 = ltb-true at 0xF800 low in
-    and_left (nat_le 0xFEF8 at) (nat_le at 0xFEFF) (lt-leb 0xFEF8 at (omega (arith, below)))
+write-apart at low = grind arith
 
 and-true : (b : Bool) → (b && true) ≡ b
 and-true true = refl
@@ -53,13 +50,6 @@ twice : (tube : Bool) → tube ≡ false → (b : ParaBusState) (t u at x y : �
 twice false is b t u at x y high = twice-apart b t u at x y high
 twice true is b t u at x y high = absurd (cc)
 
-later : (c t n : ℕ) → t + c * n + 1 ≤ t + c * suc n + 1
-later c t n = let more : c * n ≤ c * suc n = mul-le-mul_left c (omega arith) in omega (arith, more)
-
--- an instruction's cycles begin one after another, and each closes the bus no further than behind its first tick
-pub comes_later : (closed c t n k : ℕ) → closed ≤ t + max 1 (c * n) → n ≤ k → closed ≤ t + max 1 (c * k)
-comes_later closed c t n k low high = let more : c * n ≤ c * k = mul-le-mul_left c high in omega (arith, low, more)
-
 read-leaves : (b : ParaBusState) (at : ℕ) → plain_read at ≡ true → para_wiring.after b (Read at) ≡ b
 read-leaves b at low = rw (read-apart at low, and-true b.rom_in)
 
@@ -80,11 +70,7 @@ para_memory = record {
 }
 
 at-rest : (b : ParaBusState) (l : Lines) (masks : Bool) → l.nmis ≡ b.nmis → b.is_held ≡ false → (l.pirq && not masks) ≡ false → IsAtRest para_wiring b l masks
-at-rest b l masks nmis held irq = record {
-  nmi = ap not (eq-eqb l.nmis b.nmis nmis);
-  irq = irq;
-  taken = ap (λ (n : ℕ). record b { nmis = n; is_held = false }) nmis ∙ ap (λ (h : Bool). record b { is_held = h }) (sym held);
-}
+at-rest b l masks nmis held irq = grind arith
 
 pub para_rests : StaysAtRest para_wiring plain_write rests
 para_rests = record {

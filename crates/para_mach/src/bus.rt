@@ -221,10 +221,10 @@ impl<N: Notes> TubeBus<N> for ParaBus {
 impl<N: Notes> Plain<N> for ParaBus {
     ghost use Rattle.std.specs.Prelude.{◌≤◌, ◌+◌, ◌*◌, max};
     ghost use Rattle.beeb_bits.specs.Clock.{para};
-    ghost use Rattle.tube_machine.specs.Whole.{reach_of};
+    ghost use Rattle.tube_machine.specs.Whole.{reach_of, comes_later};
     ghost use Rattle.para_mach.specs.State.{ParaBusState};
     ghost use Rattle.para_mach.specs.Step.{para_wiring};
-    ghost use Rattle.para_mach.specs.Whole.{plain_read, plain_write, para_memory, comes_later};
+    ghost use Rattle.para_mach.specs.Whole.{plain_read, plain_write, para_memory};
     ghost use Rattle.para_mach.specs.CodeNotes.{part_kept};
 
     ghost State = { ParaBusState };

@@ -151,8 +151,8 @@ impl ParaMachine {
         self.bus.memory.peek(at)
     }
 
-    /// Does instructions whole, each from a start that is passed over, with the look behind it, which sees these lines and is below `until` and
-    /// `sure`. It leaves off at a start, maybe at once; elsewhere nothing is done.
+    /// Skips instructions whose starts `passing` passes over. Their looks see these lines, and come before `until` and `sure`. It may stop at any start;
+    /// within an instruction it does nothing.
     #[inline(always)]
     pub fn pass(&mut self, until: Tick, lines: &Lines, sure: Tick, passing: Passing)
         requires { until.0 ≤ 2 ^ 30 }

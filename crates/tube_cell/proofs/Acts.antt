@@ -146,10 +146,7 @@ module _ {id : TableId} {s : Side} {words : List ℕ} {old : State} {p : Carried
   -- one event at the local chip
   one_runs : (e : Event) → e.side ≡ s → own_horizon p ≤ e.tick → Admits p.side (bound_here p) e.tick → Answers old e
       → RunsPast s v.known v.mine v.ahead old (e ∷ []) (chip_after_event old e) (e.tick + 1)
-  one_runs e side later admitted answers =
-      let later' : own_horizon (carried_of id s v) ≤ e.tick = subst (λ q. own_horizon q ≤ e.tick) (sym view) later in
-      let admitted' : Admits s (bound_here (carried_of id s v)) e.tick = subst (λ q. Admits q.side (bound_here q) e.tick) (sym view) admitted in
-      (side, later', admitted', answers, (refl, omega arith))
+  one_runs e side later admitted answers = grind arith
 
   pub acted : {new : State} {w : View} (t : ℕ) (op : Op) → p.trusted ≡ [] → own_horizon p ≤ t → Admits p.side (bound_here p) t → new ≡ chip_after old s op
       → w ≡ added_view v (act_of t s op v ∷ []) → IsPassOf s words new w

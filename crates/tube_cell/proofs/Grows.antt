@@ -65,13 +65,7 @@ host_fine n {host} e fine is late up low admitted keep =
     }
 
 para_kept : {k : Known} (n : Known) {para : List Event} → ParaFine k para → k.para ≤ n.para → k.host ≤ n.host → k.trust ≤ n.trust → ParaFine n para
-para_kept n fine up host_up trust_up = record {
-  sided = fine.sided;
-  below_own = λ i d lt a. let h = fine.below_own i d lt a in omega arith;
-  admitted = λ i d lt a. let h = fine.admitted i d lt a in omega arith;
-  changes = λ i d lt a. let h = fine.changes i d lt a in omega arith;
-  climbs = fine.climbs;
-}
+para_kept n fine up host_up trust_up = grind arith
 
 -- cut at the tick to which the trust is taken back
 para_cut : {k : Known} (n : Known) (t : ℕ) {para : List Event} → ParaFine k para → k.para ≤ n.para → k.host ≤ n.host → t < n.host → n.trust ≡ min k.trust t → ParaFine n (below t para)
@@ -171,17 +165,7 @@ good_para {k} {host} {para} e m a good is from late answers up trust_up low admi
 -- ---- words that rise
 
 pub good_raised : {k : Known} (n : Known) {host para : List Event} → Good k host para → n.chip ≡ k.chip → k.host ≤ n.host → k.para ≤ n.para → k.trust ≤ n.trust → Good n host para
-good_raised n good chip host_up para_up trust_up = record {
-  chip_is = chip ∙ good.chip_is;
-  legal = good.legal;
-  host_fine = record {
-    sided = good.host_fine.sided;
-    below_own = λ i d lt a. let h = good.host_fine.below_own i d lt a in omega arith;
-    admitted = λ i d lt. let h = good.host_fine.admitted i d lt in omega arith;
-    climbs = good.host_fine.climbs;
-  };
-  para_fine = para_kept n good.para_fine para_up host_up trust_up;
-}
+good_raised n good chip host_up para_up trust_up = grind arith
 
 -- ---- the host's events, one after another
 
@@ -345,14 +329,7 @@ module _ (last : State) (end : ℕ) where
 
 -- what the host's pass knows, once the parasite took its steps
 pub host_knows : {k : Known} (n : Known) {x : Known} → Knows Host k x → n.host ≡ k.host → k.para ≤ n.para → k.trust ≤ n.trust → (k.host ≤ own_bound Para k → n.chip ≡ k.chip) → Knows Host n x
-host_knows n knows host para trust idle =
-    record {
-      well = knows.well;
-      own_word = knows.own_word ∙ sym host;
-      other_word = omega arith;
-      trust = omega arith;
-      same_chip = λ a. knows.same_chip a ∙ sym (idle (omega arith));
-    }
+host_knows n knows host para trust idle = grind arith
 
 -- ---- observations on trust
 

@@ -16,7 +16,7 @@ use Rattle.tube_chip.specs.State.{State, power_on}
 use Rattle.tube_chip.specs.Register.{empty}
 use Rattle.tube_chip.specs.Events.{Event, merge, after, IsLegal}
 use Rattle.tube_chip.specs.Packing.{packed_words, IsRegister, IsChip, PackingIsOneToOne}
-use Rattle.tube_cell.specs.Views.{Known, words_of, new_known, Role, undivided, one_side, rejoined, used, View, flip, word_of_other, own_bound}
+use Rattle.tube_cell.specs.Views.{Known, words_of, new_known, Role, undivided, one_side, rejoined, View, flip, word_of_other, own_bound}
 use Rattle.tube_cell.specs.Views.{other_bound, pick, known_with, slack, Admits, admits, horizon, past_last, AllBelow, below, trust_after}
 use Rattle.tube_cell.specs.Rules.{Good, Knows, FitsAs, Kept, whole, spent_view, host_part, para_part, joined_view, GoesOn, firm, pending_events}
 use Rattle.tube_cell.specs.Rules.{found_view, Exchanged, published_view, Finds, Publishes, entrusted_view, Entrusts, told_view, PublishesAndEntrusts}
@@ -81,15 +81,7 @@ new-well =
 others : (s : Side) (k n : Known) (a b a' b' : List Event) (hs ps hs' ps' j : ℕ) (u : View) → j ≢ pick s hs ps
     → (FitsAs k a b hs ps (one_side (flip s)) j u → FitsAs n a' b' hs' ps' (one_side (flip s)) j u)
     → (r : Role) → FitsAs k a b hs ps r j u → FitsAs n a' b' hs' ps' r j u
-others s k n a b a' b' hs ps hs' ps' j u apart keep used f = tt
-others Host k n a b a' b' hs ps hs' ps' j u apart keep undivided f = absurd (apart f.0)
-others Para k n a b a' b' hs ps hs' ps' j u apart keep undivided f = absurd (apart f.1)
-others Host k n a b a' b' hs ps hs' ps' j u apart keep rejoined f = absurd (apart f.0)
-others Para k n a b a' b' hs ps hs' ps' j u apart keep rejoined f = absurd (apart f.1)
-others Host k n a b a' b' hs ps hs' ps' j u apart keep (one_side Host) f = absurd (apart f.0)
-others Host k n a b a' b' hs ps hs' ps' j u apart keep (one_side Para) f = keep f
-others Para k n a b a' b' hs ps hs' ps' j u apart keep (one_side Host) f = keep f
-others Para k n a b a' b' hs ps hs' ps' j u apart keep (one_side Para) f = absurd (apart f.0)
+others s k n a b a' b' hs ps hs' ps' j u apart keep r f = grind arith
 
 -- the view that a pass was set to
 at_again : (views : List View) (pass : ℕ) (v u : View) → get_elem? views pass ≡ some v → get_elem? (set views pass u) pass ≡ some u
@@ -149,8 +141,7 @@ module _ {words : List ℕ} {views : List View} (k : Kept words views) where
 
 -- a pass that knows the words as they are
 knows_all : (s : Side) (k : Known) → IsChip k.chip → Knows s k k
-knows_all Host k well = record { well = well; own_word = refl; other_word = omega arith; trust = omega arith; same_chip = λ a. refl }
-knows_all Para k well = record { well = well; own_word = refl; other_word = omega arith; trust = inl refl; same_chip = λ a. refl }
+knows_all s k well = grind (arith, nat_tests)
 
 goes_on : {s : Side} {k v : Known} → Knows s k v → GoesOn (one_side s) v k
 goes_on knows = (sym knows.own_word, knows.other_word, knows.trust, knows.same_chip)
@@ -430,7 +421,7 @@ FitsWith k ps j u = FitsAs k.known k.host k.para k.host_seat ps u.role j u
 
 -- all but the parasite's pass
 unmoved : {words : List ℕ} {views : List View} (k : Kept words views) (ps j : ℕ) (u : View) → j ≢ k.para_seat → FitsIn k u.role j u → FitsWith k ps j u
-unmoved k ps j u apart f = others Para k.known k.known k.host k.para k.host k.para k.host_seat k.para_seat _ ps j u apart (λ h. h) u.role f
+unmoved k ps j u apart f = grind (arith, nat_tests)
 
 -- the rule, of other passes, the parasite's at this seat
 seated : {words : List ℕ} {views : List View} (k : Kept words views) (next : List View) (ps : ℕ)

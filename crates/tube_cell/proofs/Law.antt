@@ -24,10 +24,7 @@ Precedes e x = x.tick + gap x.side e.side ≤ e.tick
 
 before_of : (a b : ℕ) (x y : Side) → a + gap x y ≤ b → IsTrue (before a x b y)
 unfolding gap
-before_of a b Host Host h = grind (arith, nat_tests)
-before_of a b Host Para h = grind (arith, nat_tests)
-before_of a b Para Host h = grind (arith, nat_tests)
-before_of a b Para Para h = grind (arith, nat_tests)
+before_of a b x y h = grind (arith, nat_tests)
 
 is_before : (x e : Event) → Precedes e x → IsBefore x e
 is_before x e h = before_of x.tick e.tick x.side e.side h
@@ -145,16 +142,9 @@ past_last-on (x ∷ y ∷ ys) e = past_last-on (y ∷ ys) e
 pub nat_lt-from_true : (m n : ℕ) → nat_lt m n ≡ true → m < n
 nat_lt-from_true m n e = grind (arith, nat_tests)
 
-pub nat_lt-from_false : (m n : ℕ) → nat_lt m n ≡ false → n ≤ m
-nat_lt-from_false m n e = grind (arith, nat_tests)
-
 -- by whether one number is below another
 pub by_lt : (m n : ℕ) (P : Bool → Type 0) → (m < n → P true) → (n ≤ m → P false) → P (nat_lt m n)
-by_lt m n P first second =
-    (elim (nat_lt m n) as (λ b. nat_lt m n ≡ b → P b) [
-      | true ↦ λ h. first (nat_lt-from_true m n h)
-      | false ↦ λ h. second (nat_lt-from_false m n h)
-    ]) refl
+by_lt m n P first second = grind (arith, nat_tests)
 
 -- the list with e before its first event at e's tick or later
 abbrev pub placed : Event → List Event → List Event
@@ -175,10 +165,7 @@ joins_placed (x ∷ xs) ys e all =
 -- ---- observations behind it
 
 before_le : (a b : ℕ) (x y : Side) → IsTrue (before a x b y) → a ≤ b
-before_le a b Host Host h = grind (arith, nat_tests)
-before_le a b Host Para h = grind (arith, nat_tests)
-before_le a b Para Host h = grind (arith, nat_tests)
-before_le a b Para Para h = grind (arith, nat_tests)
+before_le a b x y h = grind (arith, nat_tests)
 
 -- what may change the chip lies below this tick
 abbrev pub Early : ℕ → Event → Type 0
@@ -232,23 +219,15 @@ rises_of x (y ∷ ys) h = h.1
 abbrev pub Behind : ℕ → Event → Type 0
 Behind t x = t ≤ x.tick → x.side ≡ Para
 
-gap_zero : gap Host Para ≡ 0
-unfolding gap
-gap_zero = refl
-
 gap_one : (s t : Side) → gap s t ≤ 1
 unfolding gap
-gap_one Host Host = omega arith
-gap_one Host Para = omega arith
-gap_one Para t = omega arith
+gap_one s t = grind arith
 
 pub precedes_below : (e x : Event) → x.tick < e.tick → Precedes e x
 precedes_below e x lt = let g = gap_one x.side e.side in omega arith
 
 goes_first : (e x : Event) → e.side ≡ Host → e.tick ≤ x.tick → x.side ≡ Para → IsBefore e x
-goes_first e x host le para =
-    let g : gap e.side x.side ≡ 0 = ap (λ s. gap s x.side) host ∙ ap (gap Host) para ∙ gap_zero in
-    before_of e.tick x.tick e.side x.side (omega arith)
+goes_first e x host le para = grind (arith, nat_tests)
 
 rises_after-placed : (z : Event) (xs : List Event) (e : Event) → e.side ≡ Host → RisesAfter z xs → IsBefore z e → All (Behind e.tick) xs → RisesAfter z (placed e xs)
 rises_after-placed z [] e host rises here all = (here, tt)

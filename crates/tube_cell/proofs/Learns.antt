@@ -251,8 +251,7 @@ learned {id} {id'} {s} {v} {w} view is cell f =
 -- ---- the tick at which the trust is cut
 
 pub cut_kept : (s : Side) (cut : ℕ) (v w : View) → CutIs s cut v → v.ahead ≡ [] → w.ahead ≡ [] → CutIs s cut w
-cut_kept s cut v w is none none' a lt =
-    ap (λ l. trust_after s w.known.chip a l) none' ∙ sym (ap (λ l. trust_after s v.known.chip a l) none) ∙ is a lt
+cut_kept s cut v w is h none' a lt = grind (arith, nat_tests)
 
 pub cut_fresh : (s : Side) (v : View) → v.ahead ≡ [] → CutIs s 18446744073709551615 v
 cut_fresh s v none a lt = ap (λ l. trust_after s v.known.chip a l) none ∙ (omega arith)

@@ -6,10 +6,8 @@ use Rattle.beeb_bits.specs.declared.Side.{Side}
 use Rattle.beeb_bits.specs.declared.Side.TheVariants.{Host, Para}
 use Rattle.tube_chip.specs.declared.Op.TheVariants.{Read, Write, Reset}
 use Rattle.tube_chip.specs.declared.Lines.{Lines}
-use Rattle.tube_chip.specs.declared.Answer.TheVariants.{Byte, Seen}
-use Rattle.tube_chip.specs.Register.{front_of}
-use Rattle.tube_chip.specs.State.{State, register, incoming_bank, lines_of}
-use Rattle.tube_chip.specs.Act.{Query, access, look, act, register_number, status}
+use Rattle.tube_chip.specs.State.{State, lines_of}
+use Rattle.tube_chip.specs.Act.{Query, access, look, act, status}
 use Rattle.tube_chip.proofs.Rises.{status_leaves}
 use Rattle.tube_cell.specs.Views.{is_observation, same_lines, same_readings, trust_next}
 
@@ -31,59 +29,25 @@ pub shows_itself : (c : State) → ShowsSame c c
 shows_itself c = (refl, λ k. refl)
 
 pub same_answer : (c d : State) (q : Query) → ShowsSame c d → is_observation q ≡ true → (act d Para q).1 ≡ (act c Para q).1
-same_answer c d (access (Read number)) same is =
-    let k = register_number number in
-    let byte : (e : State) → (act e Para (access (Read number))).1 ≡ Byte (status Para k e) = λ e. ap (λ b. Byte (cond b (status Para k e) (front_of (register k (incoming_bank Para e))))) is in
-    byte d ∙ ap (λ n. Byte n) (same.1 k) ∙ sym (byte c)
-same_answer c d (access (Write number byte)) same is = absurd (true≢false (sym is))
-same_answer c d (access Reset) same is = absurd (true≢false (sym is))
-same_answer c d look same is = ap (λ l. Seen l) same.0
+same_answer c d q same is = grind (arith, nat_tests)
 
 -- ---- by their test
 
 eq_from : (a b : ℕ) → nat_eq a b ≡ true → a ≡ b
 eq_from a b e = grind (arith, nat_tests)
 
-flag_from : (a b : Bool) → beq a b ≡ true → a ≡ b
-flag_from true true e = refl
-flag_from true false e = sym e
-flag_from false true e = e
-flag_from false false e = refl
-
 both_from : (a b : Bool) → (a && b) ≡ true → (a ≡ true) × (b ≡ true)
-both_from true b e = (refl, e)
-both_from false b e = absurd (true≢false (sym e))
+both_from a b e = grind arith
 
 lines_from : (a b : Lines) → same_lines a b ≡ true → a ≡ b
-lines_from a b e =
-    let p = both_from (((beq a.prst b.prst && nat_eq a.resets b.resets) && nat_eq a.nmis b.nmis) && beq a.pirq b.pirq) (beq a.hirq b.hirq) e in
-    let q = both_from ((beq a.prst b.prst && nat_eq a.resets b.resets) && nat_eq a.nmis b.nmis) (beq a.pirq b.pirq) p.0 in
-    let r = both_from (beq a.prst b.prst && nat_eq a.resets b.resets) (nat_eq a.nmis b.nmis) q.0 in
-    let s = both_from (beq a.prst b.prst) (nat_eq a.resets b.resets) r.0 in
-    λ i. record {
-      prst = flag_from a.prst b.prst s.0 i;
-      resets = eq_from a.resets b.resets s.1 i;
-      nmis = eq_from a.nmis b.nmis r.1 i;
-      pirq = flag_from a.pirq b.pirq q.1 i;
-      hirq = flag_from a.hirq b.hirq p.1 i;
-    }
-
--- a register that is none of the first three is the fourth
-fourth : (k : ℕ) (c : State) → nat_eq k 1 ≡ false → nat_eq k 2 ≡ false → nat_eq k 3 ≡ false → status Para k c ≡ status Para 4 c
-fourth k c one two three = rw (one, two, three) refl
+lines_from a b e = grind (arith, nat_tests)
 
 four_from : (c d : State) → status Para 1 c ≡ status Para 1 d → status Para 2 c ≡ status Para 2 d → status Para 3 c ≡ status Para 3 d
     → status Para 4 c ≡ status Para 4 d → (k : ℕ) → status Para k d ≡ status Para k c
 four_from c d first second third last k = go (nat_eq k 1) (nat_eq k 2) (nat_eq k 3) refl refl refl
   where
-    at : (n : ℕ) → nat_eq k n ≡ true → status Para n c ≡ status Para n d → status Para k d ≡ status Para k c
-    at n e same = rw (eq_from k n e) (sym same)
-
     go : (x y z : Bool) → nat_eq k 1 ≡ x → nat_eq k 2 ≡ y → nat_eq k 3 ≡ z → status Para k d ≡ status Para k c
-    go true y z one two three = at 1 one first
-    go false true z one two three = at 2 two second
-    go false false true one two three = at 3 three third
-    go false false false one two three = fourth k d one two three ∙ sym last ∙ sym (fourth k c one two three)
+    go a0 y z one two three = grind (arith, nat_tests)
 
 pub readings_from : (c d : State) → same_readings c d ≡ true → ShowsSame c d
 readings_from c d e =

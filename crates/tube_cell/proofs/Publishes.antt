@@ -9,7 +9,7 @@ use Rattle.beeb_bits.specs.declared.Side.TheVariants.{Host, Para}
 use Rattle.tube_chip.specs.State.{State}
 use Rattle.tube_chip.specs.Events.{Event, after_from}
 use Rattle.tube_chip.specs.Packing.{IsChip, PackingIsOneToOne}
-use Rattle.tube_cell.specs.Views.{Known, words_of, View, word_of_other, own_bound, known_with, horizon, past_last, AllBelow, trust_after}
+use Rattle.tube_cell.specs.Views.{Known, words_of, View, word_of_other, own_bound, known_with, past_last, AllBelow, trust_after}
 use Rattle.tube_cell.specs.Rules.{Kept, published_view, told_view, PublishesAndEntrusts}
 use Rattle.tube_cell.specs.Passes.{Carried, carried_of, own_horizon, after_entrust, here, after_publish}
 use Rattle.tube_cell.specs.Steps.{Watches, MayPublish, MayPublishAndEntrust, IsPassOf, CutIs}

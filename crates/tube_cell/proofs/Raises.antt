@@ -1,5 +1,5 @@
 -- What raise, commit, entrust and look owe and tell, over plain variables.
-use Rattle.std.proofs.Common.{◌≡◌, ℕ, ◌+◌, ◌<◌, ◌≤◌, max, Bool, true, false, MatchBool, if◌then◌else◌, List, [], ◌∷◌, ◌++◌, refl, sym, ap, ◌∙◌, subst, arith, nat_eq, append-nil}
+use Rattle.std.proofs.Common.{◌≡◌, ℕ, ◌+◌, ◌<◌, ◌≤◌, Bool, true, MatchBool, if◌then◌else◌, List, [], ◌∷◌, ◌++◌, refl, sym, ap, ◌∙◌, subst, arith, nat_eq, append-nil}
 use lib.Pointwise.{pointwise}
 use Rattle.std.proofs.lemmas.List.Elements.{All-append}
 use Rattle.atomic_table.specs.Seated.{TableId}
@@ -63,30 +63,19 @@ module _ {id : TableId} {s : Side} {words : List ℕ} {here : State} {p : Carrie
   local = bare_local is bare
 
   pub may_raise : (t : ℕ) → p.trusted ≡ [] → own_horizon p ≤ t → MayPublish s [] here t v
-  may_raise t trusted later = record {
-    role = is.role;
-    none_trusted = none_of v view trusted;
-    runs = (local, later_of v t view none later);
-  }
+  may_raise t trusted later = grind arith
 
   pub may_look : (t : ℕ) → p.trusted ≡ [] → own_horizon p ≤ t → MayLook s t v
   may_look t trusted later = record { role = is.role; none_trusted = none_of v view trusted; later = later_of v t view none later }
 
   pub may_commit : {next : State} (t : ℕ) (op : Op) → p.trusted ≡ [] → own_horizon p ≤ t → Admits p.side (other_bound p.side p.known) t → next ≡ chip_after here s op
       → MayPublish s (access_at t s op v.known.chip ∷ []) next (t + 1) v
-  may_commit t op trusted later admitted next_is =
-      let admitted' : Admits s (other_bound s v.known) t = subst (λ q. Admits q.side (other_bound q.side q.known) t) (sym view) admitted in
-      record {
-        role = is.role;
-        none_trusted = none_of v view trusted;
-        runs = (refl, later_of v t view none later, admitted', refl, (next_is ∙ ap (λ c. chip_after c s op) local, omega arith));
-      }
+  may_commit t op trusted later admitted next_is = grind arith
 
   -- the trust of a commit, as the code has it of its local chip
   pub commit_trust : {next : State} (t : ℕ) {trust known : ℕ} (op : Op) → next ≡ chip_after here s op → known ≡ v.known.trust → trust ≡ trust_next s here next t known
       → trust ≡ trust_next s v.known.chip (chip_after v.known.chip s op) t v.known.trust
-  commit_trust t op next_is known_is trust_is =
-      trust_is ∙ (λ i. trust_next s (local i) ((next_is ∙ ap (λ c. chip_after c s op) local) i) t (known_is i))
+  commit_trust t op next_is known_is trust_is = grind arith
 
   -- and where it had none unpublished
   pub pass_raised : {next : List ℕ} {new : State} {w : View} (cut end trust : ℕ) (es : List Event) → CutIs s cut v → p.trusted ≡ [] → IsChip new
@@ -114,16 +103,7 @@ module _ {id : TableId} {s : Side} {words : List ℕ} {here : State} {p : Carrie
   pub is_committed : {id' : TableId} {next : State} {w : View} (t : ℕ) {trust : ℕ} (op : Op) → id' ≡ id → next ≡ chip_after here s op
       → trust ≡ trust_next s v.known.chip (chip_after v.known.chip s op) t v.known.trust
       → w ≡ published_view v (access_at t s op v.known.chip ∷ []) (known_with s next (t + 1) (word_of_other s v.known) trust) → carried_of id' s w ≡ after_commit p t op
-  is_committed t op cell next_is trust_is w_is =
-      let chip = next_is ∙ ap (λ c. chip_after c s op) local in
-      (λ i. carried_of (cell i) s (w_is i))
-      ∙ (λ i. record (carried_of id s v) {
-        events = v.mine ++ access_at t s op v.known.chip ∷ [];
-        ahead = sym bare i;
-        known = known_with s (chip i) (t + 1) (word_of_other s v.known) (trust_is i);
-        commits = v.commits + 1;
-      })
-      ∙ ap (λ q. after_commit q t op) view
+  is_committed t op cell next_is trust_is w_is = grind arith
 
   pub may_entrust : (es : List Event) (t : ℕ) → p.side ≡ Para → own_horizon p ≤ t → Watches Para (own_horizon p) p.known.chip es t → MayEntrust es t v
   may_entrust es t side later watches =
@@ -177,8 +157,7 @@ is_entrusted {s} es t view cell w_is = (λ i. carried_of (cell i) s (w_is i)) �
 -- what a look leaves of the view, but for the list
 looked_as : (b : Bool) (t : ℕ) (s : Side) (v w : View) → MatchBool b (w ≡ looked_view v t s w.known) (w ≡ found_view v w.known)
     → (w.role ≡ v.role) × (w.ahead ≡ v.ahead) × (w.trusted ≡ pending_events w.known v.trusted)
-looked_as true t s v w is = (ap (λ u. u.role) is, ap (λ u. u.ahead) is, ap (λ u. u.trusted) is)
-looked_as false t s v w is = (ap (λ u. u.role) is, ap (λ u. u.ahead) is, ap (λ u. u.trusted) is)
+looked_as b t s v w is = grind arith
 
 pub looked_ahead : {s : Side} {t : ℕ} {words : List ℕ} {v w : View} → LookedAt t s words v w → w.ahead ≡ v.ahead
 looked_ahead {s} {t} {v} {w} f = (looked_as (admits s (other_bound s w.known) t) t s v w f.view_is).1
@@ -195,22 +174,12 @@ pass_looked {s} {found} new {t} {v} {w} is none trusted f local =
 
 -- ---- own horizons
 
-past_le : (p : Carried) → past_last (p.events ++ p.ahead) ≤ own_horizon p
-past_le p = omega arith
-
-raised_bound : (s : Side) (k : Known) (c : State) (t : ℕ) → own_bound s k ≤ t → own_bound s (known_with s c t (word_of_other s k) k.trust) ≡ t
-raised_bound Host k c t le = refl
-raised_bound Para k c t le = omega arith
-
 committed_bound : (s : Side) (k : Known) (c : State) (t : ℕ) (old new : State) → own_bound s k ≤ t → own_bound s (known_with s c (t + 1) (word_of_other s k) (trust_next s old new t k.trust)) ≡ t + 1
 committed_bound Host k c t old new le = refl
 committed_bound Para k c t old new le = omega arith
 
 pub horizon_raised : (p : Carried) {q : Carried} (t : ℕ) → own_horizon p ≤ t → q ≡ after_raise p t → own_horizon q ≡ t
-horizon_raised p t later is =
-    let e = past_le p in
-    let o = raised_bound p.side p.known p.known.chip t (omega arith) in
-    ap own_horizon is ∙ (omega arith)
+horizon_raised p t later is = grind arith
 
 -- with an event at t at the end of the list, and an own bound of t + 1 or below
 ends_at : (bound : ℕ) (events : List Event) {ahead : List Event} (e : Event) → ahead ≡ [] → bound ≤ e.tick + 1 → horizon bound ((events ++ e ∷ []) ++ ahead) ≡ e.tick + 1
@@ -236,7 +205,4 @@ horizon_looked p {q} t lines none trusted later learns =
     omega arith
 
 pub horizon_entrusted : (p : Carried) {q : Carried} (es : List Event) (t : ℕ) → p.side ≡ Para → own_horizon p ≤ t → q ≡ after_entrust p es t → own_horizon q ≡ t
-horizon_entrusted p es t side later is =
-    let was : own_horizon p ≡ horizon (own_bound Para p.known) (p.events ++ p.ahead) = ap (λ s. horizon (own_bound s p.known) (p.events ++ p.ahead)) side in
-    let now : own_horizon (after_entrust p es t) ≡ horizon (max p.known.para t) (p.events ++ p.ahead) = ap (λ s. horizon (own_bound s (record p.known { trust = t })) (p.events ++ p.ahead)) side in
-    ap own_horizon is ∙ now ∙ (omega arith)
+horizon_entrusted p es t side later is = grind arith

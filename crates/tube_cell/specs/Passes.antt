@@ -11,8 +11,8 @@ use Rattle.tube_chip.specs.Events.{Event, after_from}
 use Rattle.tube_cell.specs.Views.{Known, new_known, View, one_side, word_of, word_of_other, own_bound, known_with, bound_at, has_access, horizon, below, trust_next, trust_after}
 use Rattle.tube_cell.specs.Rules.{rise, firm, pending_events, Trusts}
 
--- A pass of one side: the cell that it is of, its side, its list of events, those that are on it on trust, those that are not published yet, the words
--- that it knows, how often it published an access, and how often the known bound of the other rose.
+-- A pass of one side: its cell and its side; its events that are on the list, those that are there on trust, and those that are not published yet; the
+-- words that it knows; how often it published an access, and how often the known bound of the other rose.
 pub record Carried : Type 0 where
   pub cell : TableId
   pub side : Side

@@ -57,8 +57,8 @@ pub record Knows (s : Side) (k known : Known) : Type 0 where
   pub same_chip : Admits s (other_bound s known) (own_bound s known) → known.chip ≡ k.chip
 
 module _ (k : Known) (host para : List Event) (host_seat para_seat : ℕ) where
-  -- What holds of a pass with this number and this view, by its role. Of the parasite's list what is there on trust lies below the trust, and all else below the host's
-  -- word: so the host, which lowers the trust only to ticks from its word on, takes back no other.
+  -- What holds of a pass with this number and this view, by its role. Of the parasite's list what is there on trust lies below the trust, and all else
+  -- below the host's word. The host lowers the trust only to ticks from its word on, so it takes back no other.
   abbrev pub FitsAs : Role → ℕ → View → Type 0
   FitsAs undivided j v = (j ≡ host_seat) × (j ≡ para_seat) × (v.mine ≡ host) × (v.theirs ≡ para) × (v.trusted ≡ []) × All (λ e. e.tick < k.host) para × (v.known ≡ k)
   FitsAs (one_side Host) j v = (j ≡ host_seat) × (v.mine ≡ host) × (v.trusted ≡ []) × Knows Host k v.known

@@ -12,8 +12,8 @@ use Rattle.tube_cell.specs.Views.{AllBelow, is_observation, chip_after_event, An
 use Rattle.tube_cell.specs.Rules.{GoesOn, found_view, looked_view}
 use Rattle.tube_cell.specs.Passes.{access_at}
 
--- These events of one side can be done one after another: the first is at `from` or later, the other's bound admits each, by its word and the trust as this side's own
--- events leave it, each has the chip's answer, and the chip is `last` and all ticks are below `end` after them.
+-- These events of one side can be done one after another, the first at `from` or later. The other's bound admits each, by its word and by the trust as
+-- this side's own events leave it. Each has the chip's answer. Behind them the chip is `last`, and all their ticks are below `end`.
 abbrev pub Runs : Side → ℕ → ℕ → ℕ → State → List Event → State → ℕ → Type 0
 Runs s theirs trust from c [] last end = (last ≡ c) × (from ≤ end)
 Runs s theirs trust from c (e ∷ events) last end =

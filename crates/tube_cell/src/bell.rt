@@ -5,8 +5,9 @@ use std::sync::Wait;
 use std::sync::atomic::AtomicU64;
 use std::sync::atomic::Ordering::SeqCst;
 
-/// The bell of one side. A side that waits hangs it, tries its step once more, and then looks at the bell alone, which is no line of the cell's; each exchange
-/// of the other side that may let it on rings it. Nothing is claimed of it: a side that is let on too early tries its step, and waits again.
+/// The bell of one side. A side that waits hangs it, tries its step once more, and then looks at the bell alone, which lies in no cache line of the cell.
+/// Each exchange of the other side that may let it go on rings it. Nothing is claimed of it: a side that is let on too early tries its step, and waits
+/// again.
 #[derive(Drop)]
 pub struct Bell {
     // While the bell hangs, two more than twice the tick of the step that waits, and one more where the side sleeps; `RUNG` from when it is rung until the side

@@ -36,10 +36,10 @@ type Cell = RuledSeqCell<[u64; 9], PassView, CellRule, 9>;
 
 /// The Tube chip and the horizon of each side, in one cell that two threads share. Contracts see its name.
 ///
-/// A side's horizon h says that its later accesses and looks are at tick h or after. The host may act at a tick up to the
-/// parasite's horizon, and the parasite at a tick below the host's. The parasite may also put observations onto its list on trust, looks
-/// and reads of its status registers: later events than these are at its trust or after, and the host may act up to there; where it changes
-/// what observations show, it takes back those from its tick on.
+/// A side's horizon h says that its later accesses and looks are at tick h or after. The host may act at a tick up to
+/// the parasite's horizon, and the parasite at a tick below the host's. The parasite may also put observations onto its
+/// list on trust: looks, and reads of its status registers. Its later events are at its trust or after, and the host
+/// may act up to there. Where the host changes what observations show, it takes back those from its tick on.
 #[derive(Drop)]
 pub struct TubeCell {
     cell: Cell,
@@ -150,7 +150,7 @@ impl TubeCell {
         }
     }
 
-    // Rings the other side's bell, where that hangs and the side may go on behind an exchange of these words for the next: they let its step on, or cut the
+    // Rings the other side's bell, where that hangs and the side may go on behind an exchange of these words for the next: they admit its step, or cut the
     // trust, which it may wait for.
     #[inline(always)]
     fn ring(&self, side: Side, words: &[u64; 9], next: &[u64; 9]) {
@@ -431,9 +431,9 @@ impl TubeCell {
         }
     }
 
-    /// One exchange of the parasite's pass, which publishes and entrusts: the unpublished events join its list and its horizon becomes h,
-    /// and the machine's observations of the local chip, from h on, join the list on trust, which becomes t. They are named by the call's proof.
-    /// False only where the words were not those that the pass last knew; it knows them then, and the events stay unpublished.
+    /// One exchange of the parasite's pass, which publishes and entrusts. The unpublished events join its list, and its horizon becomes h. The
+    /// machine's observations of the local chip, from h on, join the list on trust, which becomes t. They are named by the call's proof. False only
+    /// where the words were not those that the pass last knew; it knows them then, and the events stay unpublished.
     pub fn publish_and_entrust<D: Deeds, R: Wait>(
         &self,
         rt: &R,
@@ -530,8 +530,8 @@ fn add<D: Deeds>(
     part::<Adding<D>>(cell, seat);
 }
 
-// One exchange: the access, if there is one, is published with the chip after it and this own word. At `Ok` these words are
-// answered, at `Err` those that were found in place of the known ones.
+// One exchange: the access, if there is one, is published with the chip after it and this own word. `_access` is read by the proof alone, which names
+// the event by it. At `Ok` the next words are answered, at `Err` those that were found in place of the known ones.
 fn exchange<W: Wish, R: Wait>(
     cell: &Cell,
     rt: &R,

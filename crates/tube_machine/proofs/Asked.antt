@@ -31,14 +31,7 @@ use Rattle.tube_machine.proofs.Taken.{at-tube, taken}
 module _ {part : Part} {B D : Type 0} {w : Wiring B} {plain : B → Lines → Bool} {answers : D → ℕ → Op → ℕ → D → Type 0} {lines : Lines} where
   -- steps without such accesses
   pub served-onward : {bound : ℕ} {old new : At B} {d : D} → IsOnward part w plain lines bound old new → IsServed part w plain answers lines bound old d new d
-  served-onward on = record {
-    talks = λ until sure in_run early. (0, (refl, on.looks until sure in_run early));
-    goes_on = on.goes_on;
-    closed = on.closed;
-    cycle = on.cycle;
-    free = on.free;
-    is_plain = on.is_plain;
-  }
+  served-onward on = grind arith
 
   -- some after others
   pub served-then : {bound : ℕ} {old mid new : At B} {d f e : D} → IsServed part w plain answers lines bound old d mid f → IsServed part w plain answers lines bound mid f new e
@@ -48,33 +41,23 @@ module _ {part : Part} {B D : Type 0} {w : Wiring B} {plain : B → Lines → Bo
         let one = a.talks until sure in_run early in
         let two = b.talks until sure in_run early in
         talks_on (moves_of part w) answers until lines sure one.0 two.0 old mid new d f e one.1 two.1;
-    goes_on = b.goes_on;
-    closed = b.closed;
-    cycle = a.cycle ∙ b.cycle;
-    free = λ far far_on clear. b.free far far_on (a.free far far_on clear);
-    is_plain = b.is_plain;
+    alike =
+        let x = a.alike in
+        let y = b.alike in
+        record { goes_on = y.goes_on; closed = y.closed; cycle = x.cycle ∙ y.cycle; free = λ far far_on clear. y.free far far_on (x.free far far_on clear); is_plain = y.is_plain };
   }
 
   -- none at all
   served-none : {bound : ℕ} {at : At B} {d : D} → plain at.bus lines ≡ true → w.closed at.bus ≤ at.due + 1 → IsSome (next_cycle part at.cpu) → IsServed part w plain answers lines bound at d at d
-  served-none first before on = record {
-    talks = λ until sure in_run early. (0, (refl, (0, refl)));
-    goes_on = on;
-    closed = before;
-    cycle = refl;
-    free = λ far far_on clear. clear;
-    is_plain = first;
-  }
+  served-none first before on = grind arith
 
   -- what is served up to a tick is so up to a later one
   pub served-wider : {end bound : ℕ} {old new : At B} {d e : D} → end ≤ bound → IsServed part w plain answers lines end old d new e → IsServed part w plain answers lines bound old d new e
   served-wider high a = record {
     talks = λ until sure in_run early. a.talks until sure (omega (arith, in_run, high)) (omega (arith, early, high));
-    goes_on = a.goes_on;
-    closed = a.closed;
-    cycle = a.cycle;
-    free = λ far far_on clear. a.free far (omega (arith, far_on, high)) clear;
-    is_plain = a.is_plain;
+    alike =
+        let x = a.alike in
+        record { goes_on = x.goes_on; closed = x.closed; cycle = x.cycle; free = λ far far_on clear. x.free far (omega (arith, far_on, high)) clear; is_plain = x.is_plain };
   }
 
 -- from a bus whose devices need not be closed yet as far as it counts
@@ -214,11 +197,13 @@ module _ (part : Part) {B D : Type 0} {w : Wiring B} (wired : IsWired w) {reads 
     pub asked-whole : IsServed part w plain answers lines bound (starts u from) d (ended from) e
     asked-whole = record {
       talks = talk;
-      goes_on = begins part Instruction (outcome part o r byte);
-      closed = let is = wired.closed m (top from + n) in omega (arith, is, before, some);
-      cycle = wired.cycle_close m u ∙ sym (wired.cycle_close m (top from + n));
-      free = λ far far_on clear t under. wired.pending_close m (top from + n) t ∙ sym (wired.pending_close m u t) ∙ clear t under;
-      is_plain = plain_to (top from + n);
+      alike = record {
+        goes_on = begins part Instruction (outcome part o r byte);
+        closed = let is = wired.closed m (top from + n) in omega (arith, is, before, some);
+        cycle = wired.cycle_close m u ∙ sym (wired.cycle_close m (top from + n));
+        free = λ far far_on clear t under. wired.pending_close m (top from + n) t ∙ sym (wired.pending_close m u t) ∙ clear t under;
+        is_plain = plain_to (top from + n);
+      };
     }
 
   -- a branch leads back

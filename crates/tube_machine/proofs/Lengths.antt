@@ -1,11 +1,11 @@
 -- A sequence of the 65C02 makes fewer than seventeen accesses.
-use Rattle.std.proofs.Common.{◌≡◌, ◌<◌, ◌≤◌, ℕ, zero, suc, ◌+◌, ◌-◌, ◌%◌, ◌==◌, ◌||◌, List, [], ◌∷◌, ◌++◌, length, Bool, true, false, cond, eqb}
+use Rattle.std.proofs.Common.{◌≡◌, ◌<◌, ◌≤◌, ℕ, zero, suc, ◌+◌, ◌-◌, List, [], ◌∷◌, ◌++◌, length, Bool, true, false, cond, eqb}
 use Rattle.std.proofs.Common.{if◌then◌else◌, Option, Some, None, is_none, refl, ap, arith, length-append}
 use Rattle.std.proofs.lemmas.Option.{slice_get_within}
 use Rattle.std.specs.Prelude.{slice_get}
 use Rattle.op_table.specs.declared.names.Part.TheVariants.{Cmos}
 use Rattle.op_table.specs.declared.names.Mode.{Mode}
-use Rattle.op_table.specs.declared.names.Mode.TheVariants.{Acc, Zp, Abs, AbsX, AbsY, IndY, Ind, Spare}
+use Rattle.op_table.specs.declared.names.Mode.TheVariants.{Ind, Spare}
 use Rattle.op_table.specs.declared.names.Mnemonic.{Mnemonic}
 use Rattle.op_table.specs.declared.names.Mnemonic.TheVariants.{Jmp}
 use Rattle.op_table.specs.declared.rows.Row.{Row}
@@ -17,10 +17,10 @@ use Rattle.cpu_alu.specs.declared.Cycle.{Cycle}
 use Rattle.cpu_alu.specs.declared.Cycle.TheVariants.{Read, Write}
 use Rattle.cpu_alu.specs.declared.uses.BusUse.{BusUse}
 use Rattle.cpu_alu.specs.declared.uses.BusUse.TheVariants as uses
-use Rattle.cpu_alu.specs.Instructions.{bus_use, takes_branch, modified_value, stored_value}
+use Rattle.cpu_alu.specs.Instructions.{bus_use, takes_branch, stored_value}
 use Rattle.cpu_core.specs.declared.Sequence.{Sequence}
 use Rattle.cpu_core.specs.declared.Sequence.TheVariants.{Instruction}
-use Rattle.cpu_core.specs.Accesses.{byte, cycle_between, waits, lasts_longer, reach, address, operand, last_place, modify_form, branch_form, jump_form, again, implied_form, form}
+use Rattle.cpu_core.specs.Accesses.{byte, waits, lasts_longer, reach, address, last_place, modify_form, branch_form, jump_form, again, implied_form, form}
 use Rattle.cpu_core.specs.Sequences.{accesses}
 use Rattle.cpu_core.specs.State as cpu
 use Rattle.cpu65c02.specs.Sequences.{next_cycle}
@@ -28,26 +28,19 @@ use Rattle.cpu65c02.specs.Sequences.{next_cycle}
 -- no row of the table has more than eight cycles
 
 few_read : (w : Mode) → read_cycles w ≤ 8
-few_read Zp = omega arith
-few_read _ = omega arith
+few_read w = grind arith
 
 few_store : (w : Mode) → store_cycles w ≤ 8
-few_store AbsX = omega arith
-few_store AbsY = omega arith
-few_store IndY = omega arith
-few_store w = few_read w
+few_store w = grind arith
 
 few_modify : (w : Mode) → modify_cycles w ≤ 8
-few_modify Zp = omega arith
-few_modify _ = omega arith
+few_modify w = grind arith
 
 few_shift : (w : Mode) → shift_cycles Cmos w ≤ 8
-few_shift AbsX = omega arith
-few_shift w = few_modify w
+few_shift w = grind arith
 
 few_jump : (w : Mode) → jump_cycles Cmos w ≤ 8
-few_jump Abs = omega arith
-few_jump _ = omega arith
+few_jump w = grind arith
 
 few_by : (u : Use) (w : Mode) → cycles_by Cmos u w ≤ 8
 few_by Reads w = few_read w
@@ -57,16 +50,8 @@ few_of : (name : Mnemonic) (w : Mode) → cycles_of Cmos name w ≤ 8
 few_of Jmp w = few_jump w
 few_of name w = omega (arith, few_by (use_of name) w)
 
-few_if : (b : Bool) (x y : ℕ × ℕ) → x.1 ≤ 8 → y.1 ≤ 8 → (let p : ℕ × ℕ = if b then x else y in p).1 ≤ 8
-few_if true x y p q = p
-few_if false x y p q = q
-
 few_spare : (op : ℕ) → (spare op).1 ≤ 8
-few_spare op =
-    few_if (op % 4 == 3) _ _ (omega arith)
-    (few_if (op == 0x44) _ _ (omega arith)
-    (few_if (op == 0x54 || op == 0xD4 || op == 0xF4) _ _ (omega arith)
-    (few_if (op == 0x5C) _ _ (omega arith) (few_if (op == 0xDC || op == 0xFC) _ _ (omega arith) (omega arith)))))
+few_spare op = grind arith
 
 few_or_spare : (op : ℕ) (o : Option Form) → (row_or_spare op o).cycles ≤ 8
 few_or_spare op (Some f) = few_of f.mnemonic f.mode
@@ -83,28 +68,20 @@ at_most_one true c = omega arith
 at_most_one false c = omega arith
 
 reach_most : (w : Mode) (always : Bool) (r : Regs) (seen : List (Option ℕ)) → length (reach Cmos w always r seen) ≤ 4
-reach_most AbsX always r seen = omega (arith, at_most_one)
-reach_most _ always r seen = omega (arith, at_most_one)
+reach_most w always r seen = grind arith
 
 with_more : (n k : ℕ) (xs ys : List Cycle) → length xs ≤ n → length ys ≤ k → length (xs ++ ys) ≤ n + k
 with_more n k xs ys g h = omega (arith, length-append xs ys)
 
 modify_most : (w : Mode) (row : Row) (always : Bool) (r : Regs) (seen : List (Option ℕ)) → length (modify_form Cmos row w always r seen) ≤ 7
-modify_most Acc row always r seen = omega arith
-modify_most w row always r seen =
-    let a : ℕ = address w r seen in
-    let old : ℕ = operand Cmos w always r seen in
-    let last : List Cycle = Read a ∷ cycle_between Cmos a old ∷ Write a (modified_value row.mnemonic r old) ∷ [] in
-    with_more 4 3 (reach Cmos w always r seen) last (reach_most w always r seen) (omega arith)
+modify_most w row always r seen = grind arith
 
 length-again : (n at : ℕ) → length (again n at) ≡ n
 length-again zero at = refl
 length-again (suc n) at = ap suc (length-again n at)
 
 spare_most : (one two : Bool) (n k at there : ℕ) (a b d : Cycle) → n ≤ 8 → k ≤ 8 → length (cond one [] (cond two (a ∷ again n at) (b ∷ d ∷ again k there))) ≤ 10
-spare_most true two n k at there a b d p q = omega arith
-spare_most false true n k at there a b d p q = omega (arith, length-again n at)
-spare_most false false n k at there a b d p q = omega (arith, length-again k there)
+spare_most one two n k at there a b d p q = grind (arith, length-again)
 
 implied_most : (w : Mode) (row : Row) (r : Regs) → row.cycles ≤ 8 → length (implied_form row w r) ≤ 10
 implied_most Spare row r few = spare_most (eqb row.bytes 1) (eqb row.bytes 2) (row.cycles - 2) (row.cycles - 3) _ _ _ _ _ (omega arith) (omega arith)

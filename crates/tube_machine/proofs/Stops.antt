@@ -1,5 +1,5 @@
 -- Where the machine stops, and how it goes on from there.
-use Rattle.std.proofs.Common.{◌≡◌, ◌∙◌, ◌&&◌, ◌||◌, refl, sym, ap, subst, ℕ, zero, suc, ◌+◌, ◌-◌, ◌*◌, ◌<◌, ◌≤◌, ◌⊎◌, inl, inr, max, min, length}
+use Rattle.std.proofs.Common.{◌≡◌, ◌∙◌, ◌&&◌, ◌||◌, refl, sym, ap, subst, ℕ, zero, suc, ◌+◌, ◌-◌, ◌*◌, ◌<◌, ◌≤◌, ◌⊎◌, max, min, length}
 use Rattle.std.specs.Prelude.{nat_lt, not}
 use Rattle.std.proofs.lemmas.Bool.{ltb-true, and_right}
 use Rattle.std.proofs.Common.{Bool, true, false, is_none, Option, Some, None, IsSome, arith, if◌then◌else◌}
@@ -16,27 +16,19 @@ use Rattle.tube_chip.specs.declared.Lines.{Lines}
 use Rattle.tube_chip.specs.declared.Answer.{Answer}
 use Rattle.tube_chip.specs.declared.Answer.TheVariants.{Seen}
 use Rattle.tube_party.specs.Moves.{Looks, Hears, IsAsk, IsUnsure, shown_lines}
-use Rattle.tube_party.specs.Steps.{After, silent_last, look_last}
+use Rattle.tube_party.specs.Steps.{After}
 use Rattle.tube_party.specs.declared.party.Ask.{Ask}
-use Rattle.tube_party.specs.declared.party.Ask.TheVariants.{Nothing, Access, Look}
 use Rattle.tube_machine.specs.Wiring.{Wiring, IsWired}
-use Rattle.tube_machine.specs.Step.{At, is_break, after_break, asks, asks_by, byte_of, after_step, closed_to, lines_in, next_state, moves_of}
+use Rattle.tube_machine.specs.Step.{At, is_break, after_break, asks, byte_of, after_step, closed_to, next_state, moves_of}
 use Rattle.tube_machine.specs.Lawful.{lawful}
 use Rattle.tube_machine.specs.Exchange.{Spent, HasSpent, IsSilent, IsCramped, ready}
-use Rattle.tube_machine.specs.NoBreak.{plain-asks, plain-next}
+use Rattle.tube_machine.specs.NoBreak.{plain-next}
 use Rattle.tube_machine.proofs.UnderWay.{Came}
 use Rattle.tube_machine.proofs.Spends.{seen-more}
 use Rattle.tube_machine.proofs.Lengths.{few_seen}
 
 pub silent-by : (breaks has : Bool) (o : Option Query) → has ≡ true → (if breaks then (if has then Some (access op.Reset) else None) else o) ≡ None → breaks ≡ false
-silent-by true true o is asked = cc
-silent-by true false o is asked = cc
-silent-by false has o is asked = refl
-
-look-by : (breaks has : Bool) (o : Option Query) → (if breaks then (if has then Some (access op.Reset) else None) else o) ≡ Some look → breaks ≡ true → ⊥
-look-by true true o asked is = cc
-look-by true false o asked is = cc
-look-by false has o asked is = cc
+silent-by breaks has o is asked = grind arith
 
 ready-tail : (over : Bool) (t n : ℕ) → 1 < n → (if over then (if false || over then t + (n - 1) else t + n) + 1 else (if false || over then t + (n - 1) else t + n)) ≡ t + n
 ready-tail true t n some = omega (arith, some)
@@ -76,17 +68,8 @@ module _ (part : Part) {B : Type 0} (w : Wiring B) where
 
 module _ (part : Part) {B : Type 0} (w : Wiring B) (wired : IsWired w) where
   -- no step changes how long a cycle is
-  look-cycle : (resets prst : Bool) (s held reset taken : At B) → w.cycle held.bus ≡ w.cycle s.bus → w.cycle reset.bus ≡ w.cycle s.bus → w.cycle taken.bus ≡ w.cycle s.bus →
-      w.cycle (if resets then (if prst then held else reset) else taken).bus ≡ w.cycle s.bus
-  look-cycle true true s held reset taken a b c = a
-  look-cycle true false s held reset taken a b c = b
-  look-cycle false prst s held reset taken a b c = c
-
   step-cycle : (o : Option Cycle) (s : At B) (a : Option Answer) → w.cycle (after_step part w o s a).bus ≡ w.cycle s.bus
-  step-cycle None s a =
-      let l : Lines = lines_in a in
-      look-cycle (w.resets s.bus l) l.prst s _ _ _ (wired.cycle_held s.bus) (wired.cycle_reset s.bus l) (wired.cycle_taken s.bus l)
-  step-cycle (Some c) s a = wired.cycle_after s.bus c
+  step-cycle o s a = grind arith
 
   cycle-by : (breaks : Bool) (o : Option Cycle) (s : At B) (a : Option Answer) → w.cycle (if breaks then after_break part w s else after_step part w o s a).bus ≡ w.cycle s.bus
   cycle-by true o s a = wired.cycle_broken s.bus s.due
@@ -107,22 +90,16 @@ module _ (part : Part) {B : Type 0} (w : Wiring B) (wired : IsWired w) where
 
     -- one more step that asks nothing
     pub more : (s new : At B) → s.due < n → IsSilent part w s new → Came part w n lines sure s new
-    more s new low done = subst (Came part w n lines sure s) (sym done.1) (1, silent_last (moves_of part w) n lines sure 0 s s refl low done.0)
+    more s new low done = grind arith
 
     -- one more look, of any kind
     pub more-look : (s new : At B) → s.due < n → s.due < sure → is_break part w s ≡ false → next_cycle part s.cpu ≡ None → new ≡ next_state part w s (Some (Seen lines))
         → Came part w n lines sure s new
-    more-look s new low early none over is =
-        subst (Came part w n lines sure s) (sym is) (1, look_last (moves_of part w) n lines sure 0 s s refl low (plain-asks part w s none ∙ ap (asks_by w s.bus) over) early)
+    more-look s new low early h over is = grind arith
 
     -- a look that is not sure, or none below n
     unsure-by : (last new : At B) (ask : Ask) → IsAsk (moves_of part w) n last ask new → (is_break part w last ≡ true) ⊎ (min n sure ≤ last.due) → IsUnsure sure ask
-    unsure-by last new Nothing is late = tt
-    unsure-by last new (Access t o) is late = tt
-    unsure-by last new (Look t) is late = elim late [
-      | inl breaks ↦ absurd (look-by (is_break part w last) (w.has_tube last.bus) (asks_by w last.bus (next_cycle part last.cpu)) is.2 breaks)
-      | inr high ↦ omega (arith, is.0, is.1, high)
-    ]
+    unsure-by last new ask is late = grind arith
 
     pub stops-at-look : {D : Type 0} {answers : D → ℕ → Op → ℕ → D → Type 0} {d : D} {last new : At B} {ask : Ask} →
         IsAsk (moves_of part w) n last ask new → (is_break part w last ≡ true) ⊎ (min n sure ≤ last.due) → Hears (moves_of part w) answers n (shown_lines lines sure) last d ask new d

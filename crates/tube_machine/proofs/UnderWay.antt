@@ -22,9 +22,6 @@ use Rattle.tube_machine.specs.Exchange.{IsQuick, behind, owed_at}
 
 -- up to where the device steps are owed
 
-pub owed-none : (n t closed : ℕ) → owed_at n t t closed ≡ closed
-owed-none n t closed = rw (le-ltb t t (omega arith)) refl
-
 pub owed-some : (n since due closed : ℕ) → since < due → owed_at n since due closed ≡ due - (n - 1)
 owed-some n since due closed gone = rw (lt-ltb since due gone) refl
 
@@ -120,7 +117,7 @@ module _ (part : Part) {B : Type 0} {w : Wiring B} (wired : IsWired w) {plain : 
     look-asks = plain-asks part w stands free ∙ ap (asks_by w stands.bus) over
 
     pub look-next : (lines : Lines) {new : At B} → u ≤ t + 1 → new ≡ after_look part w (closed_to w (at_of c b t) (t + 1)) lines → new ≡ next_state part w stands (Some (Seen lines))
-    look-next lines high is = is ∙ sym (plain-next part w stands (Some (Seen lines)) free ∙ rw (over, wired.again b u (t + 1) high))
+    look-next lines high is = grind arith
 
   -- a plain look that is sure
   sees-on : (until : ℕ) (lines : Lines) (sure : ℕ) (start : At B) (c : cpu.State) (b : B) (t u : ℕ) (new : At B) → Came part w until lines sure start (at_of c (w.close b u) t) → u ≤ t + 1
@@ -134,18 +131,7 @@ module _ (part : Part) {B : Type 0} {w : Wiring B} (wired : IsWired w) {plain : 
     -- before the next access, where no steps are owed
     pub caught-up : n ≡ w.cycle s.bus → IsSome (next_cycle part s.cpu) → w.closed s.bus ≤ s.due + 1 → IsFree part w far s.bus → (plain start.bus lines ≡ true → plain s.bus lines ≡ true) →
         Came part w until lines sure start s → IsUnderWay part w plain far n until lines sure start s s.due
-    caught-up cycle goes_on before free kept came =
-        let none : owed_at n s.due s.due (w.closed s.bus) ≡ w.closed s.bus = owed-none n s.due (w.closed s.bus) in
-        record {
-          cycle = cycle;
-          goes_on = goes_on;
-          looks = subst (Came part w until lines sure start) (sym (ap (closed_to w s) none ∙ none-owed s)) came;
-          low = omega (arith, none);
-          high = omega (arith, none, before);
-          free = free;
-          since_then = inl refl;
-          kept = kept;
-        }
+    caught-up cycle goes_on before free kept came = grind arith
 
     -- a look that sees the lines, before the first access
     pub at-look : n ≡ w.cycle start.bus → next_cycle part start.cpu ≡ None → w.closed start.bus ≤ start.due + 1 → IsFree part w far start.bus → plain start.bus lines ≡ true →
@@ -158,7 +144,7 @@ module _ (part : Part) {B : Type 0} {w : Wiring B} (wired : IsWired w) {plain : 
 
     -- nothing is owed at a step before which there was no access
     pub came-there : IsUnderWay part w plain far n until lines sure start s s.due → Came part w until lines sure start s
-    came-there way = subst (Came part w until lines sure start) (ap (closed_to w s) (owed-none n s.due (w.closed s.bus)) ∙ none-owed s) way.looks
+    came-there way = grind arith
 
   module _ {far n until : ℕ} {lines : Lines} {sure : ℕ} {start s : At B} {since : ℕ} (way : IsUnderWay part w plain far n until lines sure start s since) where
     -- a step that asked nothing, of the machine whose steps are owed

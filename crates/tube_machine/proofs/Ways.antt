@@ -89,8 +89,8 @@ module _ {part : Part} {B D : Type 0} {w : Wiring B} (wired : IsWired w) {plain 
     mid = new;
     talks = way-on (moves_of part w) (shown_lines lines sure) (then-came (moves_of part w) (shown_lines lines sure) at.talks (came-there part wired stays at.way))
         (served.talks until sure in_run early);
-    first = λ _. served.is_plain;
-    way = caught-up part wired stays (at.way.cycle ∙ served.cycle) served.goes_on served.closed (served.free far far_on at.way.free) (λ is. is) (0, refl);
+    first = λ _. served.alike.is_plain;
+    way = let to = served.alike in caught-up part wired stays (at.way.cycle ∙ to.cycle) to.goes_on to.closed (to.free far far_on at.way.free) (λ is. is) (0, refl);
   }
 
 -- the next step is done, and may be answered in passing

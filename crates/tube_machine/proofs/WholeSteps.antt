@@ -2,7 +2,6 @@
 use Rattle.std.proofs.Common.{◌≡◌, ◌≤◌, ◌<◌, ◌∙◌, ◌+◌, ◌-◌, ◌*◌, refl, sym, ap, subst, ℕ, zero, suc, max, length, [], List, Bool}
 use Rattle.std.proofs.Common.{true, false, Option, Some, None, IsSome, MatchOption, arith}
 use Rattle.std.proofs.Math.Nat.{mul-one}
-use Rattle.std.proofs.lemmas.Bool.{and_right}
 use Rattle.op_table.specs.declared.names.Part.{Part}
 use Rattle.cpu_alu.specs.declared.Cycle.{Cycle}
 use Rattle.cpu_alu.specs.declared.Cycle.TheVariants.{Read, Write}
@@ -81,31 +80,11 @@ module _ (part : Part) {B : Type 0} {w : Wiring B} (wired : IsWired w) {reads wr
   -- a plain access of an instruction that begins at tick t, in its cycle j, is quick
   is-quick : (t j due : ℕ) (m : B) (c : Cycle) → is_plain reach c ≡ true → due ≡ t + w.cycle m * j → w.closed m ≤ due + 1 →
       IsQuick w m due c (Some (shows reach m c)) (leaves reach t m j c)
-  is-quick t j due m (Read at) is there before =
-      let x : B = w.close m (due + 1) in (
-        rw (and_right (w.has_tube m) (w.is_tube at) (memory.read_apart at is)),
-        rw (and_right (w.has_tube x) (w.is_tube at) (memory.read_apart at is)) (sym (memory.shows m due (due + 1) at is)),
-        sym (memory.read_leaves x at is),
-        memory.read_ticks x due at is ∙ wired.cycle_close m (due + 1),
-      )
-  is-quick t j due m (Write at byte) is there before =
-      let x : B = w.close m (due + 1) in
-      let new : B = w.after x (Write at byte) in
-      let same : w.after (w.close m (t + w.cycle m * j + 1)) (Write at byte) ≡ new = ap (λ (u : ℕ). w.after (w.close m (u + 1)) (Write at byte)) (sym there) in
-      let closed : w.closed new ≡ max (due + 1) (w.closed m) = memory.write_closed x at byte is ∙ wired.closed m (due + 1) in (
-        rw (and_right (w.has_tube m) (w.is_tube at) (memory.write_apart at is)),
-        refl,
-        ap (λ (b : B). w.close b (due + 1)) same ∙ wired.still new (due + 1) (omega (arith, closed)),
-        memory.write_ticks x due at byte is ∙ wired.cycle_close m (due + 1),
-      )
+  is-quick t j due m c is there before = grind arith
 
   is-closed : (t j due : ℕ) (m : B) (c : Cycle) → is_plain reach c ≡ true → due ≡ t + w.cycle m * j → w.closed m ≤ due + 1
       → w.closed (leaves reach t m j c) ≤ due + 1
-  is-closed t j due m (Read at) is there before = before
-  is-closed t j due m (Write at byte) is there before =
-      let x : B = w.close m (t + w.cycle m * j + 1) in
-      let closed : w.closed (w.after x (Write at byte)) ≡ max (t + w.cycle m * j + 1) (w.closed m) = memory.write_closed x at byte is ∙ wired.closed m (t + w.cycle m * j + 1) in
-      omega (arith, closed, there, before)
+  is-closed t j due m c is there before = grind arith
 
   -- Cycles over a bus whose devices are closed at a tick already, up to which the first of them closes them: they lead to one that is the same
   -- once it is closed from that tick on.
@@ -138,16 +117,12 @@ module _ (part : Part) {B : Type 0} {w : Wiring B} (wired : IsWired w) {reads wr
 
   -- a plain access is none of the Tube's
   apart : (c : Cycle) → is_plain reach c ≡ true → (b : B) → IsAtTube w b c → ⊥
-  apart (Read at) is b tube = let none = and_right (w.has_tube b) (w.is_tube at) (memory.read_apart at is) in cc
-  apart (Write at byte) is b tube = let none = and_right (w.has_tube b) (w.is_tube at) (memory.write_apart at is) in cc
+  apart c is b tube = grind arith
 
   module _ {rests : B → Lines → Bool → ℕ → Type 0} (stays_at_rest : StaysAtRest w writes rests) where
     rests-on : (t j due : ℕ) (m : B) (c : Cycle) (lines : Lines) (masks : Bool) (far : ℕ) → is_plain reach c ≡ true → due ≡ t + w.cycle m * j → due < far →
         rests m lines masks far → rests (leaves reach t m j c) lines masks far
-    rests-on t j due m (Read at) lines masks far is there low rest = rest
-    rests-on t j due m (Write at byte) lines masks far is there low rest =
-        let u : ℕ = t + w.cycle m * j + 1 in
-        stays_at_rest.write (w.close m u) lines masks far at byte (stays_at_rest.close m lines masks far u rest (omega (arith, there, low))) is
+    rests-on t j due m c lines masks far is there low rest = grind arith
 
     module _ {plain : B → Lines → Bool} (stays : StaysPlain w plain) where
       -- the look behind an instruction, which is at rest
@@ -222,8 +197,7 @@ module _ (part : Part) {B : Type 0} {w : Wiring B} (wired : IsWired w) {reads wr
                   absurd (apart one.cycle one.plain x (subst (λ (c : Cycle). IsAtTube w x c) cycle tube))
 
           more-there : (t k : ℕ) (s : cpu.State) (m there : B) → Carried reach t part k s m last there → IsSome (next_cycle part s)
-          more-there t zero s m there h = rw (h.0, next)
-          more-there t (suc k) s m there h = some-first part reach t k s m last there h
+          more-there t k s m there h = grind arith
 
           -- all its accesses up to that one are plain: they are steps, and then comes that access
           pub to-tube : (k : ℕ) (s : At B) (since t : ℕ) (there : B) (top : ℕ) → IsMid t s since → Carried reach t part k s.cpu s.bus last there →
@@ -346,9 +320,11 @@ onward part wired stays {bound = bound} way free cycle before first =
     let here = way bound bound bound (omega arith) (omega arith) (omega arith) free in
     record {
       looks = λ until sure in_run early. came-there part wired stays (way bound until sure (omega arith) in_run early free);
-      goes_on = here.goes_on;
-      closed = before;
-      cycle = sym cycle ∙ here.cycle;
-      free = λ far far_on none. (way far bound bound far_on (omega arith) (omega arith) none).free;
-      is_plain = here.kept first;
+      alike = record {
+        goes_on = here.goes_on;
+        closed = before;
+        cycle = sym cycle ∙ here.cycle;
+        free = λ far far_on none. (way far bound bound far_on (omega arith) (omega arith) none).free;
+        is_plain = here.kept first;
+      };
     }

@@ -77,8 +77,7 @@ module _ (part : Part) {B : Type 0} (w : Wiring B) where
   abbrev pub IsAskedByte : At B → Type 0
   IsAskedByte s = MatchOption (asks part w s) ⊥ (λ q. FitsAnswer q (Byte 0))
 
-  -- Where steps leave off: at a look that is not sure, or one that is not plain, or a break; or at another step that is no quick access; or past
-  -- the end.
+  -- Where steps leave off: at a look, at another step below the end, or past the end.
   abbrev pub IsStop : ℕ → Stop → At B → Type 0
   IsStop until Look s = next_cycle part s.cpu ≡ None
   IsStop until Access s = IsSome (next_cycle part s.cpu) × (s.due < until)
@@ -115,7 +114,7 @@ abbrev pub Spends : Part → ℕ → ℕ → Spent → Stop → Spent → Type 0
 Spends part cycle sure old Access new = HasSpent (part ≡ Cmos) cycle sure old new
 Spends part cycle sure old _ new = Unit {0}
 
--- The steps asked nothing, or saw these lines, or were accesses answered in passing, up to a look, which may see them or not; or with them what is
+-- The steps of a run ask nothing, see these lines, or are accesses answered in passing. They lead to a look, of which nothing more is said, or to what is
 -- asked. What answers goes from d to e. Of a run that cannot be noted nothing is told.
 module _ (part : Part) {B D : Type 0} (w : Wiring B) (answers : D → ℕ → Op → ℕ → D → Type 0) where
   abbrev pub IsRun : ℕ → Lines → ℕ → At B → D → Left → At B → D → Type 0
@@ -124,7 +123,7 @@ module _ (part : Part) {B D : Type 0} (w : Wiring B) (answers : D → ℕ → Op
   IsRun until lines sure old d left.Look new e =
       ((j : ℕ) × Talks (moves_of part w) answers until (shown_lines lines sure) j old d new e) × (next_cycle part new.cpu ≡ None)
 
--- A run from a tick came to the end of its room in a sequence that began below the tick sure, or with the run: a write takes a cycle, and so do all
--- of the fewer than 16 accesses of that sequence that are done.
+-- A run from a tick came to the end of its room, in a sequence that began with the run or below the tick sure. Each note is of a write, which takes a
+-- cycle, and of that sequence fewer than 16 cycles are done.
 abbrev pub IsCramped : ℕ → ℕ → ℕ → ℕ → Type 0
 IsCramped cycle sure from room = from + cycle * room ≤ max sure from + cycle * 15

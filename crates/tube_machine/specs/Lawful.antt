@@ -1,10 +1,9 @@
 -- A machine at the Tube is a party.
-use Rattle.std.specs.Prelude.{ℕ, ◌≡◌, ◌≤◌, ◌<◌, ◌+◌, ◌-◌, ◌%◌, ◌&&◌, ◌||◌, Bool, true, false, IsTrue, is_none, Option, None, Some, refl, if◌then◌else◌}
+use Rattle.std.specs.Prelude.{ℕ, ◌≡◌, ◌≤◌, ◌<◌, ◌+◌, ◌-◌, ◌&&◌, ◌||◌, Bool, true, false, IsTrue, is_none, Option, None, Some, refl, if◌then◌else◌}
 use Rattle.std.proofs.Common.{arith, ap, ◌∙◌}
 use Rattle.op_table.specs.declared.names.Part.{Part}
 use Rattle.beeb_bits.specs.declared.Side.{Side}
 use Rattle.cpu_alu.specs.declared.Cycle.{Cycle}
-use Rattle.cpu_alu.specs.declared.Cycle.TheVariants.{Read, Write}
 use Rattle.cpu_core.specs.Sequences.{next_cycle, after_byte, halted}
 use Rattle.tube_chip.specs.declared.Lines.{Lines}
 use Rattle.tube_chip.specs.declared.Op.{Op}
@@ -13,18 +12,15 @@ use Rattle.tube_chip.specs.declared.Answer.{Answer}
 use Rattle.tube_chip.specs.Act.{access, MayDo}
 use Rattle.tube_party.specs.Moves.{IsLawful, IsPermitted, MayAsk}
 use Rattle.tube_machine.specs.Wiring.{Wiring, IsWired}
-use Rattle.tube_machine.specs.Step.{At, is_last_tick, is_break, asks_by, asks_reset, byte_of, after_break, after_step, closed_to, lines_in, next_state, moves_of}
+use Rattle.tube_machine.specs.Step.{At, is_break, asks_by, asks_reset, byte_of, after_break, after_step, closed_to, lines_in, next_state, moves_of}
 
 later : (over : Bool) (t n : ℕ) → 1 < n → t < (if over then t + (n - 1) else t + n)
-later true t n some = omega (arith, some)
-later false t n some = omega (arith, some)
+later over t n some = grind arith
 
 module _ (part : Part) {B : Type 0} (w : Wiring B) (wired : IsWired w) where
   looks_by : (resets prst : Bool) (s held reset taken : At B) → s.due < held.due → s.due < reset.due → s.due < taken.due →
       s.due < (if resets then (if prst then held else reset) else taken).due
-  looks_by true true s held reset taken a b c = a
-  looks_by true false s held reset taken a b c = b
-  looks_by false prst s held reset taken a b c = c
+  looks_by resets prst s held reset taken a b c = grind arith
 
   rises : (c : Option Cycle) (s : At B) (a : Option Answer) → s.due < (after_step part w c s a).due
   rises None s a =
@@ -47,23 +43,15 @@ module _ (part : Part) {B : Type 0} (w : Wiring B) (wired : IsWired w) where
 
   -- and changes nothing of the next step
   pub break_closed : (s : At B) (t : ℕ) → is_break part w (closed_to w s t) ≡ is_break part w s
-  break_closed s t =
-      ap (λ (p : Bool). p && (is_none (next_cycle part s.cpu) || (halted part s.cpu && is_last_tick (w.cycle (w.close s.bus t)) s.due))) (wired.pending_close s.bus t s.due)
-      ∙ ap (λ (n : ℕ). w.pending s.bus s.due && (is_none (next_cycle part s.cpu) || (halted part s.cpu && is_last_tick n s.due))) (wired.cycle_close s.bus t)
+  break_closed s t = grind arith
 
   pub next_closed : (s : At B) (t : ℕ) (a : Option Answer) → t ≤ s.due + 1 → next_state part w (closed_to w s t) a ≡ next_state part w s a
-  next_closed s t a high =
-      ap (λ (b : Bool). if b then after_break part w (closed_to w (closed_to w s t) (s.due + 1))
-      else after_step part w (next_cycle part s.cpu) (closed_to w (closed_to w s t) (s.due + 1)) a) (break_closed s t)
-      ∙ ap (λ (x : At B). if is_break part w s then after_break part w x else after_step part w (next_cycle part s.cpu) x a) (again s t (s.due + 1) high)
+  next_closed s t a high = grind arith
 
   -- what a step asks stays too
   pub asked_closed : (breaks : Bool) (c : Option Cycle) (b : B) (t : ℕ) →
       (if breaks then asks_reset w (w.close b t) else asks_by w (w.close b t) c) ≡ (if breaks then asks_reset w b else asks_by w b c)
-  asked_closed true c b t = ap (λ (has : Bool). if has then Some (access op.Reset) else None) (wired.tube_close b t)
-  asked_closed false None b t = refl
-  asked_closed false (Some (Read at)) b t = ap (λ (has : Bool). if has && w.is_tube at then Some (access (op.Read (at % 8))) else None) (wired.tube_close b t)
-  asked_closed false (Some (Write at byte)) b t = ap (λ (has : Bool). if has && w.is_tube at then Some (access (op.Write (at % 8) byte)) else None) (wired.tube_close b t)
+  asked_closed breaks c b t = grind arith
 
   pub lawful : IsLawful (moves_of part w)
   lawful = record {
@@ -79,20 +67,9 @@ module _ (part : Part) {B : Type 0} (w : Wiring B) (wired : IsWired w) where
     };
   }
 
--- a number below 8, where it asks
-may_ask : (b : Bool) (side : Side) (o : Op) → MayDo side o → MayAsk side (if b then Some (access o) else None)
-may_ask true side o may = may
-may_ask false side o may = tt
-
 module _ {B : Type 0} (w : Wiring B) where
-  permitted : (side : Side) (b : B) (c : Option Cycle) → MayAsk side (asks_by w b c)
-  permitted side b None = tt
-  permitted side b (Some (Read at)) = may_ask (w.has_tube b && w.is_tube at) side (op.Read (at % 8)) (omega arith)
-  permitted side b (Some (Write at byte)) = may_ask (w.has_tube b && w.is_tube at) side (op.Write (at % 8) byte) (omega arith)
-
   permitted_by : (breaks : Bool) (side : Side) (b : B) (c : Option Cycle) → (breaks ≡ true → MayDo side op.Reset) → MayAsk side (if breaks then asks_reset w b else asks_by w b c)
-  permitted_by true side b c may = may_ask (w.has_tube b) side op.Reset (may refl)
-  permitted_by false side b c may = permitted side b c
+  permitted_by breaks side b c may = grind arith
 
 module _ (part : Part) {B : Type 0} (w : Wiring B) where
   -- A machine may play a side that may ask for the reset operation, or any side, if no break is ever pending.

@@ -1,6 +1,6 @@
--- One step of a machine at the Tube: an access to the bus at the first tick of a cycle, or a look at the lines at the last tick of the last cycle
--- of an instruction, of a reset or of an interrupt. An access takes a cycle, or as many as the bus says. Where a break is pending, a break step
--- comes in place of the look, and at the last tick of a cycle in which the processor stays halted. (Acorn, BBC Microcomputer Advanced User Guide,
+-- One step of a machine at the Tube. An access to the bus is at the first tick of a cycle, and takes that cycle, or as many as the bus says. A look at
+-- the lines is at the last tick of the last cycle of an instruction, of a reset or of an interrupt. Where a break is pending, a break step comes in
+-- place of the look, and at the last tick of a cycle in which the processor stays halted. (Acorn, BBC Microcomputer Advanced User Guide,
 -- the 1 MHz bus and the BREAK key; 6502 Second Processor; the ticks, and what a break leaves, are this project's.)
 use Rattle.std.specs.Prelude.{ℕ, ◌+◌, ◌-◌, ◌%◌, ◌==◌, ◌&&◌, ◌||◌, min, Bool, false, Option, Some, None, is_none, if◌then◌else◌}
 use Rattle.op_table.specs.declared.names.Part.{Part}

@@ -1,5 +1,6 @@
 -- Whole instructions at a bus: which of its accesses are of plain memory, and what the looks behind them find.
-use Rattle.std.specs.Prelude.{ℕ, ◌≡◌, ◌≤◌, ◌<◌, ◌+◌, ◌*◌, ◌&&◌, Bool, true, false, not, IsSome}
+use Rattle.std.specs.Prelude.{ℕ, suc, ◌≡◌, ◌≤◌, ◌<◌, ◌+◌, ◌*◌, ◌&&◌, max, Bool, true, false, not, IsSome}
+use Rattle.std.proofs.Common.{arith}
 use Rattle.op_table.specs.declared.names.Part.{Part}
 use Rattle.cpu_alu.specs.declared.Cycle.{Cycle}
 use Rattle.cpu_alu.specs.declared.Cycle.TheVariants.{Read, Write}
@@ -23,6 +24,13 @@ reach_of w reads writes = record {
   byte = λ b at. w.answer b 0 at;
   put = λ b t n at byte. w.after (w.close b (t + w.cycle b * n + 1)) (Write at byte);
 }
+
+-- An instruction's cycles begin one after another, and each closes the bus no further than behind its first tick.
+pub later : (c t n : ℕ) → t + c * n + 1 ≤ t + c * suc n + 1
+later c t n = grind arith
+
+pub comes_later : (closed c t n k : ℕ) → closed ≤ t + max 1 (c * n) → n ≤ k → closed ≤ t + max 1 (c * k)
+comes_later closed c t n k low high = grind arith
 
 -- What holds of it: an access there is not the Tube's and takes one cycle, a read leaves the bus and shows the same at each tick, however far
 -- the devices are closed.
@@ -49,25 +57,24 @@ pub record StaysAtRest {B : Type 0} (w : Wiring B) (writes : ℕ → Bool) (rest
   pub write : (b : B) (lines : Lines) (masks : Bool) (far at byte : ℕ) → rests b lines masks far → writes at ≡ true → rests (w.after b (Write at byte)) lines masks far
   pub tube : (b : B) (lines : Lines) (masks : Bool) (far : ℕ) (c : Cycle) → rests b lines masks far → IsAtTube w b c → rests (w.after b c) lines masks far
 
--- Steps from one machine to another, up to an access: each asks nothing, or is a look below a tick, as all of them are. Cycles, breaks and plain
--- looks are as before.
-pub record IsOnward (part : Part) {B : Type 0} (w : Wiring B) (plain : B → Lines → Bool) (lines : Lines) (bound : ℕ) (old new : At B) : Type 0 where
-  pub looks : (until sure : ℕ) → bound ≤ until → bound ≤ sure → (k : ℕ) × Looks (moves_of part w) until (shown_lines lines sure) k old new
+-- What some steps leave, which lead up to an access: cycles, breaks and plain looks are as before.
+pub record GoesOnAlike (part : Part) {B : Type 0} (w : Wiring B) (plain : B → Lines → Bool) (lines : Lines) (bound : ℕ) (old new : At B) : Type 0 where
   pub goes_on : IsSome (next_cycle part new.cpu)
   pub closed : w.closed new.bus ≤ new.due + 1
   pub cycle : w.cycle old.bus ≡ w.cycle new.bus
   pub free : (far : ℕ) → bound ≤ far → ((t : ℕ) → t < far → w.pending old.bus t ≡ false) → (t : ℕ) → t < far → w.pending new.bus t ≡ false
   pub is_plain : plain new.bus lines ≡ true
 
+-- Steps from one machine to another: each asks nothing, or is a look below a tick, as all of them are.
+pub record IsOnward (part : Part) {B : Type 0} (w : Wiring B) (plain : B → Lines → Bool) (lines : Lines) (bound : ℕ) (old new : At B) : Type 0 where
+  pub looks : (until sure : ℕ) → bound ≤ until → bound ≤ sure → (k : ℕ) × Looks (moves_of part w) until (shown_lines lines sure) k old new
+  pub alike : GoesOnAlike part w plain lines bound old new
+
 -- The same, but with accesses that are answered in passing. What answers goes from d to e.
 pub record IsServed (part : Part) {B D : Type 0} (w : Wiring B) (plain : B → Lines → Bool) (answers : D → ℕ → Op → ℕ → D → Type 0) (lines : Lines) (bound : ℕ)
     (old : At B) (d : D) (new : At B) (e : D) : Type 0 where
   pub talks : (until sure : ℕ) → bound ≤ until → bound ≤ sure → (j : ℕ) × Talks (moves_of part w) answers until (shown_lines lines sure) j old d new e
-  pub goes_on : IsSome (next_cycle part new.cpu)
-  pub closed : w.closed new.bus ≤ new.due + 1
-  pub cycle : w.cycle old.bus ≡ w.cycle new.bus
-  pub free : (far : ℕ) → bound ≤ far → ((t : ℕ) → t < far → w.pending old.bus t ≡ false) → (t : ℕ) → t < far → w.pending new.bus t ≡ false
-  pub is_plain : plain new.bus lines ≡ true
+  pub alike : GoesOnAlike part w plain lines bound old new
 
 -- Looks that see these lines, with the flag I so, ask for nothing and leave the bus up to a tick or further.
 abbrev pub IsResting : {B : Type 0} → (B → Lines → Bool → ℕ → Type 0) → B → Lines → ℕ → ℕ → Type 0

@@ -31,8 +31,8 @@ pub record Wiring (B : Type 0) : Type 0 where
   pub closed : B → ℕ
   pub close : B → ℕ → B
 
--- What holds of each bus: a cycle is some ticks, accesses and looks leave what a cycle is and which breaks are pending, closing a bus so far and
--- then further is closing it further at once, and it leaves whether there is a Tube.
+-- What holds of each bus. A cycle is some ticks. Accesses and looks leave what a cycle is and which breaks are pending. Closing a bus so far and then
+-- further is closing it further at once, and it leaves whether there is a Tube.
 pub record IsWired {B : Type 0} (w : Wiring B) : Type 0 where
   pub some : (b : B) → 2 ≤ w.cycle b
   pub few : (b : B) → w.cycle b ≤ 6

@@ -180,7 +180,8 @@ pub trait TubeBus<N>: Drop {
         ensures { result ≡ peek (state self.now) at };
 
     /// Does the instruction whose first cycle is at tick `t`, whole, if all its accesses are of plain memory, and gives the number of its cycles.
-    /// Else nothing is done, and that number is 0. `L` is any type of the loop that calls it, for which it is compiled.
+    /// Else nothing is done, and that number is 0.
+    /// `L` stands for the calling loop and is used for nothing else: each loop so gets its own inlined copy.
     fn whole<L>(&mut self, part: Part, regs: &mut Regs, t: u64, notes: &mut N) -> u64
         requires closed { wiring.closed (state self.old) ≤ t + 1 }
         requires room { t < 2 ^ 40 }
@@ -192,8 +193,8 @@ pub trait TubeBus<N>: Drop {
         ensures room { room notes.old ≤ room notes.new + result }
         ensures few { result ≤ 8 };
 
-    /// The last access of the instruction at PC, where all others are reads of plain memory. Where nothing is said its `cycles` are 0. `L` is any
-    /// type of the caller, for which it is compiled.
+    /// The last access of the instruction at PC, where all others are reads of plain memory. Where nothing is said its `cycles` are 0. `L` is as in
+    /// `whole`.
     fn last_access<L>(&self, part: Part, regs: &Regs) -> LastAccess
         ensures outside { let reach = reach_of wiring reads writes in
             (t : ℕ) → 0 < result.cycles → outside.IsOutside part reach t regs.now (state self.now) result }
@@ -204,7 +205,7 @@ pub trait TubeBus<N>: Drop {
         ensures { MatchOption result (Unit {0}) (λ op. IsPassing wiring (state self.now) cycle op) };
 
     /// How many cycles the instruction at PC takes, where that is a branch which leads from these registers to those, over plain memory. Else 0. `L`
-    /// is any type of the caller, for which it is compiled.
+    /// is as in `whole`.
     fn branch_to<L>(&self, part: Part, from: &Regs, to: &Regs) -> u64
         ensures done { let reach = reach_of wiring reads writes in
             (t : ℕ) → 0 < result → whole.IsDone part reach t from.now (state self.now) result to.now (state self.now) }

@@ -1,4 +1,4 @@
-//! Whole instructions that are passed over, up to a start of one that is not.
+//! Skips instructions whose starts nobody looks for, each done whole.
 ghost use Rattle.std.specs.Prelude.{◌≡◌, ◌≢◌, ◌≤◌, ◌<◌, ◌+◌, ◌*◌, ◌^◌, ℕ, true, false};
 ghost use Rattle.cpu_alu.specs.Flags.{has_flag};
 ghost use Rattle.cpu_alu.specs.declared.flags.TheConstants.{INTERRUPT};
@@ -24,7 +24,7 @@ pub enum Passing {
     Before(u64),
     /// Those whose PC is not this address.
     Elsewhere(u16),
-    /// Those at which this byte stands at this address, or none as said.
+    /// Those at which this address has this byte, or none of memory where that is said.
     Same(u16, Option<u8>),
 }
 
@@ -53,8 +53,8 @@ fn is_over<N, B: TubeBus<N>>(passing: Passing, t: u64, pc: u16, bus: &B) -> bool
     }
 }
 
-// Does the instruction whose first cycle is at tick `t` whole, if its start is passed over and it can be done so, and gives the number of its cycles.
-// Else nothing is done, and that number is 0.
+// Does the instruction that starts at tick `t` whole, and gives the number of its cycles. 0, and nothing was done, where its start is not passed over or
+// it needs single cycles.
 #[inline(always)]
 fn whole_if_over<N, B: TubeBus<N>>(
     bus: &mut B,
@@ -81,9 +81,8 @@ fn whole_if_over<N, B: TubeBus<N>>(
     }
 }
 
-// Instructions one after another that are passed over, each done whole with the look behind it, from the first cycle of one at tick `from` on. Each ends
-// below tick `bound`: up to there a look is plain and sees these lines, and no break is pending; and below `quiet`, up to which looks ask for nothing.
-// It gives the tick of the next step.
+// The same from a start at tick `from` on, and gives the tick of the next step. Before `bound` no break is pending, and looks are plain and see these
+// lines. Before `quiet` they ask for nothing.
 #[inline(never)]
 fn pass_whole<N, P: Processor, B: TubeBus<N>>(
     cpu: &mut P,
@@ -133,8 +132,9 @@ fn pass_whole<N, P: Processor, B: TubeBus<N>>(
     due
 }
 
-/// Does instructions whole, each from a start that is passed over, with the look behind it, which sees these lines, is below `until` and `sure`, and
-/// asks for nothing. It leaves off at a start, maybe at once; elsewhere nothing is done.
+/// Skips instructions whose starts `passing` passes over. Each is done whole, with the look behind it, which sees these lines, comes before `until` and
+/// `sure`, and asks for nothing. Stops at any other start, and at one whose instruction needs single cycles or may end too late. Within an instruction it
+/// does nothing.
 #[inline(always)]
 pub fn pass_over<N, P: Processor, B: TubeBus<N>>(
     cpu: &mut P,

@@ -20,7 +20,7 @@ use tube_party::Desk;
 /// Where the steps leave off.
 #[derive(Clone, Copy, Debug, PartialEq, Eq)]
 pub(crate) enum Stop {
-    /// At a look that is not below the end of the run, or not sure of its lines, or not plain, or at a break in place of it.
+    /// At a look that is past the end of the run, is not sure of its lines or is not plain; or at a break in its place.
     Look,
     /// At an access that is not quick, or one whose cycle could end at a break, or at that break.
     Access,

@@ -1,6 +1,5 @@
 -- The same answer again and again, of a chip that is left alone.
-use Rattle.std.proofs.Common.{ℕ, zero, suc, ◌≡◌, ◌+◌, ◌*◌, ◌∙◌, refl, sym, ap, subst, arith}
-use Rattle.std.proofs.Math.Nat.{mul-add, mul-one}
+use Rattle.std.proofs.Common.{ℕ, zero, suc, ◌≡◌, ◌+◌, ◌*◌, refl, sym, subst, arith}
 use Rattle.std.specs.Prelude.{Bool}
 use Rattle.tube_chip.specs.State.{State}
 use Rattle.tube_chip.specs.declared.Op.{Op}
@@ -12,9 +11,7 @@ still-seen is_read c d same = subst (StaysSeen is_read c) (sym same) (refl, refl
 
 module _ {D : Type 0} (answers : D → ℕ → Op → ℕ → D → Type 0) (op : Op) (byte period : ℕ) where
   period-more : (k : ℕ) → period * suc k ≡ period * k + period
-  period-more k =
-      let one : suc k ≡ k + 1 = omega arith in
-      ap (λ n. period * n) one ∙ mul-add period k 1 ∙ ap (λ n. period * k + n) (mul-one period)
+  period-more k = grind arith
 
   -- once more
   again-more : (k : ℕ) (d : D) (t : ℕ) (f e : D) → IsAnsweredAgain answers op byte period k d t f → answers f (t + period * k + period) op byte e

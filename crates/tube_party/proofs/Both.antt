@@ -11,7 +11,7 @@ use Rattle.tube_trace.specs.declared.Entry.{Entry}
 use Rattle.beeb_bits.specs.declared.Side.{Side}
 use Rattle.beeb_bits.specs.declared.Side.TheVariants.{Host, Para}
 use Rattle.tube_party.specs.declared.party.Ask.{Ask}
-use Rattle.tube_party.specs.declared.party.Ask.TheVariants.{Nothing, Access, Look}
+use Rattle.tube_party.specs.declared.party.Ask.TheVariants.{Nothing}
 use Rattle.tube_party.specs.Moves.{Moves, SeesHirqAlone, IsAsk, Advances, close_leaves, shown_lines}
 use Rattle.tube_party.specs.Reference.{ticks, step_leaves, with_host}
 use Rattle.tube_party.specs.GoingOn.{IsLike, reference_from}
@@ -38,9 +38,7 @@ left_as a b c = record { host = a.state; para = b.state; chip = c; host_list = a
 
 -- an ask leaves the ticks from its own on
 ticks_are : {S : Type 0} (r : Moves S) (n : ℕ) (last s : S) (ask : Ask) → IsAsk r n last ask s → ticks_left n ask ≡ n - r.due last
-ticks_are r n last s Nothing h = omega arith
-ticks_are r n last s (Access t op) h = omega (arith, h.0)
-ticks_are r n last s (Look t) h = omega (arith, h.0)
+ticks_are r n last s ask h = grind arith
 
 -- what is left of the ticks of the parasite's ask, or of where it can be rolled back to: being rolled back leaves less
 abbrev pub rest_of : {T : Type 0} → Moves T → ℕ → Bool → T → Ask → ℕ
@@ -57,15 +55,11 @@ kept_alike {keep = keep} same k = record { list_is = k.list_is ∙ ap (take keep
 -- looks that are sure by what a party asks come at most so many ticks behind its step
 pub in_time : {S : Type 0} (r : Moves S) (n slack sure : ℕ) (s last : S) (ask : Ask) → IsAsk r n last ask s → IsSure slack ask sure → (x : ℕ) → x < n → x < sure
     → x < r.due last + slack
-in_time r n slack sure s last Nothing is told x low early = omega (arith, is.0, low)
-in_time r n slack sure s last (Access t op) is told x low early = omega (arith, is.0, told, early)
-in_time r n slack sure s last (Look t) is told x low early = omega (arith, is.0, told, early)
+in_time r n slack sure s last ask is told x low early = grind arith
 
 -- what asks is where it asks
 pub stood : {S : Type 0} (r : Moves S) (n : ℕ) (last new : S) (ask : Ask) → IsAsk r n last ask new → ask ≢ Nothing → new ≡ last
-stood r n last new Nothing asked some = absurd (some refl)
-stood r n last new (Access u op) asked some = asked.3
-stood r n last new (Look u) asked some = asked.3
+stood r n last new ask asked some = grind arith
 
 -- The host's looks below a tick see the lines as the chip shows them: by what the parasite asks they come in time, or each sees the host's request alone,
 -- and the chip enables none.

@@ -2,8 +2,8 @@
 use Rattle.std.proofs.Common.{◌≡◌, refl, ℕ, ◌+◌, ◌<◌, ◌≤◌, List, [], ◌∷◌, length, drop, get_or, Bool, true, false, ◌&&◌, nat_lt, Some, None}
 use mathlib.Core.Bool.{beq}
 use Rattle.std.specs.Prelude.{slice_get}
-use Rattle.std.proofs.Common.{eqb, sym}
-use Rattle.std.proofs.lemmas.Bool.{eqb-true}
+use Rattle.std.proofs.Common.{eqb, arith}
+use Rattle.std.proofs.lemmas.Bool.Decides.{nat_tests}
 use Rattle.tube_chip.specs.declared.Lines.{Lines}
 use Rattle.std.proofs.lemmas.List.{drop_more}
 use Rattle.std.proofs.Math.ListN.{drop_of_length-le}
@@ -55,30 +55,9 @@ chip_end trace side t at c h = rw (drop_of_length-le trace h) refl
 
 -- lines that a test finds the same
 
-same-flag : (a b : Bool) → beq a b ≡ true → a ≡ b
-same-flag true true e = refl
-same-flag true false e = sym e
-same-flag false true e = e
-same-flag false false e = refl
-
-both-of : (a b : Bool) → (a && b) ≡ true → (a ≡ true) × (b ≡ true)
-both-of true b e = (refl, e)
-both-of false b e = cc
-
 pub same-lines : (a b : Lines)
     → (beq a.prst b.prst && (eqb a.resets b.resets && (eqb a.nmis b.nmis && (beq a.pirq b.pirq && beq a.hirq b.hirq)))) ≡ true → a ≡ b
-same-lines a b e =
-    let p = both-of (beq a.prst b.prst) (eqb a.resets b.resets && (eqb a.nmis b.nmis && (beq a.pirq b.pirq && beq a.hirq b.hirq))) e in
-    let q = both-of (eqb a.resets b.resets) (eqb a.nmis b.nmis && (beq a.pirq b.pirq && beq a.hirq b.hirq)) p.1 in
-    let r = both-of (eqb a.nmis b.nmis) (beq a.pirq b.pirq && beq a.hirq b.hirq) q.1 in
-    let s = both-of (beq a.pirq b.pirq) (beq a.hirq b.hirq) r.1 in
-    λ i. record {
-      prst = same-flag a.prst b.prst p.0 i;
-      resets = eqb-true a.resets b.resets q.0 i;
-      nmis = eqb-true a.nmis b.nmis r.0 i;
-      pirq = same-flag a.pirq b.pirq s.0 i;
-      hirq = same-flag a.hirq b.hirq s.1 i;
-    }
+same-lines a b e = grind (arith, nat_tests)
 
 -- the next entry of the side
 

@@ -1,14 +1,14 @@
--- A step of the host may come early, before steps of the parasite that see the chip behind it as they see it before it: the reference goes on alike,
--- but for the order of the host's and the parasite's events in its list. So may a look of a host that sees its own request alone, while none is enabled.
+-- A step of the host may come early, before steps of the parasite that see the chip behind it as they see it before it. The reference then goes on
+-- alike, but for the order of the host's and the parasite's events in its list. So may a look of a host that sees its own request alone, while none is
+-- enabled.
 use Rattle.std.proofs.Common.{ℕ, zero, suc, ◌≡◌, ◌+◌, ◌<◌, ◌≤◌, nat_eq, inl, inr, refl, sym, ◌∙◌, ap, arith, Bool, true, false, List, [], ◌∷◌, ◌++◌, append_assoc, Option, None, Some}
-use Rattle.std.specs.Prelude.{All, ◌&&◌, not, if◌then◌else◌}
+use Rattle.std.specs.Prelude.{All, ◌&&◌, not}
 use Rattle.std.proofs.lemmas.List.{append-nil}
 use Rattle.std.proofs.lemmas.List.Elements.{All-head, All-tail}
 use Rattle.std.proofs.lemmas.Bool.{cases_lt}
 use Rattle.tube_chip.specs.State.{State, is_empty, lines_of}
-use Rattle.tube_chip.specs.declared.Op.TheVariants.{Read, Write, Reset}
 use Rattle.tube_chip.specs.declared.Answer.TheVariants.{Seen}
-use Rattle.tube_chip.specs.Act.{Query, access, look, act, is_status, register_number, read_by, written_by, with_counts}
+use Rattle.tube_chip.specs.Act.{Query, look, act}
 use Rattle.tube_chip.specs.Events.{Event, of_side}
 use Rattle.tube_chip.specs.declared.Answer.{Answer}
 use Rattle.beeb_bits.specs.declared.Side.{Side}
@@ -23,10 +23,10 @@ use Rattle.tube_party.proofs.Kept.{grows}
 use Rattle.tube_party.proofs.Ways.{IsIdle, IsBelow, glance_leaves}
 
 pub alike : {S T : Type 0} {w v : World S T} → w ≡ v → IsLike w v
-alike e = record { host = ap (λ x. x.host) e; para = ap (λ x. x.para) e; chip = ap (λ x. x.chip) e; listed = λ side. ap (λ x. accesses (of_side side x.list)) e }
+alike e = grind arith
 
 pub like_on : {S T : Type 0} {w v u : World S T} → IsLike w v → IsLike v u → IsLike w u
-like_on a b = record { host = a.host ∙ b.host; para = a.para ∙ b.para; chip = a.chip ∙ b.chip; listed = λ side. a.listed side ∙ b.listed side }
+like_on a b = grind arith
 
 -- the accesses of both sides
 abbrev pub SameAccesses : List Event → List Event → Type 0
@@ -64,14 +64,6 @@ look_moved l more t a b side =
 -- a chip that enables no request of the host makes none, and nothing that the parasite does enables one
 none_asked : (c : State) → c.flags.q ≡ false → (lines_of c).hirq ≡ false
 none_asked c off = ap (λ b. b && not (is_empty c.to_host.r4)) off
-
-para_leaves_off : (c : State) (q : Query) → c.flags.q ≡ false → (act c Para q).0.flags.q ≡ false
-para_leaves_off c look off = off
-para_leaves_off c (access (Read number)) off =
-    elim (is_status number) as (λ b. (with_counts c (if b then c else read_by Para (register_number number) c)).flags.q ≡ false) [ true ↦ off | false ↦ off ]
-para_leaves_off c (access (Write number byte)) off =
-    elim (is_status number) as (λ b. (with_counts c (if b then c else written_by Para (register_number number) byte c)).flags.q ≡ false) [ true ↦ off | false ↦ off ]
-para_leaves_off c (access Reset) off = refl
 
 -- what a step of a side does, whatever the list so far
 record Form {S : Type 0} (m : Moves S) (side : Side) (k : ℕ) (s : S) (c : State) : Type 0 where
@@ -128,9 +120,7 @@ module _ {S T : Type 0} (h : Moves S) (p : Moves T) (lh : IsLawful h) (lp : IsLa
   -- what the parasite's part of a tick leaves enables no request either
   still_off : (k : ℕ) (t : T) (c : State) (due : Bool) (o : Option Query) (d : nat_eq (p.due t) k ≡ due) (q : p.asks t ≡ o) → c.flags.q ≡ false
       → (form_of_step p Para k t c due o d q).chip.flags.q ≡ false
-  still_off k t c false o d q off = off
-  still_off k t c true None d q off = off
-  still_off k t c true (Some x) d q off = para_leaves_off c x off
+  still_off k t c due o d q off = grind arith
 
   look_at : (j k : ℕ) (s : S) (t : T) (c : State) (l : List Event) → SeesHirqAlone h → c.flags.q ≡ false → k ≤ h.due s → h.due s < k + j → h.asks s ≡ Some look
       → IsLike (ticks h p j k (world s t c l))

@@ -1,6 +1,5 @@
 -- Whose ask comes first, and what is known of it.
 use Rattle.std.proofs.Common.{ℕ, ◌≡◌, ◌≢◌, ◌+◌, ◌∙◌, ◌<◌, ◌≤◌, ◌⊎◌, inl, inr, refl, sym, ap, arith, Option, None, Some}
-use Rattle.std.proofs.lemmas.Bool.{cases_lt, lt-ltb, le-ltb}
 use Rattle.beeb_bits.specs.declared.Side.{Side}
 use Rattle.beeb_bits.specs.declared.Side.TheVariants.{Host, Para}
 use Rattle.tube_party.specs.declared.party.Ask.{Ask}
@@ -22,19 +21,11 @@ first_at (Some t) None = Some Host
 first_at (Some t) (Some u) = Some (first_due t u)
 
 first_is : (a b : Ask) → first_of a b ≡ first_at (asked_at a) (asked_at b)
-first_is Nothing Nothing = refl
-first_is Nothing (Access u po) = refl
-first_is Nothing (Look u) = refl
-first_is (Access t op) Nothing = refl
-first_is (Access t op) (Access u po) = refl
-first_is (Access t op) (Look u) = refl
-first_is (Look t) Nothing = refl
-first_is (Look t) (Access u po) = refl
-first_is (Look t) (Look u) = refl
+first_is a b = grind arith
 
 -- the host's, unless the parasite's is at a smaller tick
 due_order : (t u : ℕ) → (first_due t u ≡ Para) × (u < t) ⊎ (first_due t u ≡ Host) × (t ≤ u)
-due_order t u = elim (cases_lt u t) [ inl lt ↦ inl (rw (lt-ltb u t lt) refl, lt) | inr ge ↦ inr (rw (le-ltb u t ge) refl, ge) ]
+due_order t u = grind arith
 
 -- an ask for an access, or a look, at its own tick
 record Waits {S : Type 0} (r : Moves S) (n : ℕ) (s last : S) (ask : Ask) (x : ℕ) : Type 0 where
@@ -49,9 +40,7 @@ Told r n s last ask None = n ≤ r.due last
 Told r n s last ask (Some x) = Waits r n s last ask x
 
 told : {S : Type 0} (r : Moves S) (n : ℕ) (s last : S) (ask : Ask) → IsAsk r n last ask s → Told r n s last ask (asked_at ask)
-told r n s last Nothing a = a.0
-told r n s last (Access x op) a = record { pending = rw a.3 (a.0, a.1, a.2); here = a.3; tick = a.0; below = omega arith }
-told r n s last (Look x) a = record { pending = rw a.3 (a.0, a.1, a.2); here = a.3; tick = a.0; below = omega arith }
+told r n s last ask a = grind arith
 
 -- the ask is a pending one, and the other party's next step is at least `slack` ticks behind it
 pub record IsFirst {S T : Type 0} (r : Moves S) (other : Moves T) (n slack : ℕ) (s last : S) (last2 : T) (ask : Ask) : Type 0 where
@@ -61,9 +50,7 @@ pub record IsFirst {S T : Type 0} (r : Moves S) (other : Moves T) (n slack : ℕ
   pub first : r.due last + slack ≤ other.due last2
 
 pub tick_of_first : {S : Type 0} (r : Moves S) (n : ℕ) (s last : S) (ask : Ask) → IsPending r n s ask → s ≡ last → tick_of ask ≡ r.due last
-tick_of_first r n s last Nothing h here = absurd h
-tick_of_first r n s last (Access t op) h here = h.0 ∙ ap r.due here
-tick_of_first r n s last (Look t) h here = h.0 ∙ ap r.due here
+tick_of_first r n s last ask h here = grind arith
 
 module _ {S T : Type 0} (h : Moves S) (p : Moves T) (n : ℕ) (s hl : S) (t pl : T) (a b : Ask) (ah : IsAsk h n hl a s) (bp : IsAsk p n pl b t) where
   pub host_first : first_of a b ≡ Some Host → IsFirst h p n 0 s hl pl a
@@ -104,12 +91,4 @@ module _ {S T : Type 0} (h : Moves S) (p : Moves T) (n : ℕ) (s hl : S) (t pl :
 
 -- no ask comes first
 pub none_left : (a b : Ask) → first_of a b ≡ None → (a ≡ Nothing) × (b ≡ Nothing)
-none_left Nothing Nothing e = (refl, refl)
-none_left Nothing (Access u po) e = cc
-none_left Nothing (Look u) e = cc
-none_left (Access x op) Nothing e = cc
-none_left (Access x op) (Access u po) e = cc
-none_left (Access x op) (Look u) e = cc
-none_left (Look x) Nothing e = cc
-none_left (Look x) (Access u po) e = cc
-none_left (Look x) (Look u) e = cc
+none_left a b e = grind arith

@@ -1,5 +1,5 @@
 -- A replay that meets no difference follows the trace, and the other way round.
-use Rattle.std.proofs.Common.{ℕ, zero, suc, ◌≡◌, ◌+◌, ◌<◌, ◌≤◌, inl, inr, ◌&&◌, ◌==◌, nat_lt, refl, sym, ◌∙◌, ap, subst, arith, Bool, true, false, if◌then◌else◌, List, [], ◌∷◌, ◌++◌, length}
+use Rattle.std.proofs.Common.{ℕ, zero, suc, ◌≡◌, ◌+◌, ◌<◌, ◌≤◌, inl, inr, ◌&&◌, nat_lt, refl, sym, ◌∙◌, ap, subst, arith, Bool, true, false, if◌then◌else◌, List, [], ◌∷◌, ◌++◌, length}
 use Rattle.std.proofs.Common.{map, Option, None, Some}
 use Rattle.std.specs.Prelude.{All}
 use Rattle.std.proofs.lemmas.List.{append-nil}
@@ -7,9 +7,7 @@ use Rattle.std.proofs.lemmas.List.Elements.{All-nil, All-cons, All-head, All-tai
 use Rattle.std.proofs.lemmas.Bool.{cases_lt}
 use Rattle.std.proofs.lemmas.Bool.Decides.{nat_tests}
 use Rattle.beeb_bits.specs.declared.Side.{Side}
-use Rattle.beeb_bits.specs.declared.Side.TheVariants.{Host, Para}
 use Rattle.tube_chip.specs.declared.Op.{Op}
-use Rattle.tube_chip.specs.declared.Op.TheVariants.{Read, Write, Reset}
 use Rattle.tube_chip.specs.declared.Answer.{Answer}
 use Rattle.tube_chip.specs.declared.Answer.TheVariants.{Byte, Seen}
 use Rattle.tube_chip.specs.State.{power_on, lines_of}
@@ -23,9 +21,9 @@ use Rattle.tube_party.specs.Replay.{Numbered, Ended, own_from, same_op, is_that,
 use Rattle.tube_party.specs.CodeCursor.{Misses}
 use Rattle.tube_party.specs.ReplayLaws.{own_below, IsAnsweredBy, FollowsTrace, ReplayIsFollowing, difference, IsDifference, DiffersAt, ReplayTellsDifference}
 use Rattle.tube_party.proofs.Runs.{event, Steps, Over, Silent, Asking, steps_of, runs_of}
-use Rattle.tube_party.proofs.ReplayLemmas.{Goes, goes_all, goes_end, goes_none, goes_look, goes_access, goes_differs, at_end, step_now}
+use Rattle.tube_party.proofs.ReplayLemmas.{Goes, goes_all, goes_end, goes_none, goes_look, goes_access, at_end, step_now}
 
-abbrev entry : ℕ → Side → Op → ℕ → Entry
+abbrev pub entry : ℕ → Side → Op → ℕ → Entry
 entry t side op a = record { tick = record { 0 = t }; side = side; op = op; answer = a }
 
 -- the entries of numbered ones
@@ -36,59 +34,23 @@ entries own = map (λ x. x.entry) own
 abbrev pub AreOf : Side → List Numbered → Type 0
 AreOf side own = All (λ x. x.entry.side ≡ side) own
 
-same_side : (a b : Side) → is_side a b ≡ true → b ≡ a
-same_side Host Host e = refl
-same_side Para Para e = refl
-same_side Host Para e = cc
-same_side Para Host e = cc
-
-both_true : (a b : Bool) → (a && b) ≡ true → (a ≡ true) × (b ≡ true)
-both_true true true e = (refl, refl)
-both_true true false e = cc
-both_true false b e = cc
-
 own_by : (side : Side) (n line : ℕ) (x : Entry) (trace : List Entry) (b : Bool) → (is_side side x.side && nat_lt (x.tick).0 n) ≡ b
     → (entries (own_from side n (line + 1) trace) ≡ own_below side n trace) × AreOf side (own_from side n (line + 1) trace)
     → (entries (own_from side n line (x ∷ trace)) ≡ own_below side n (x ∷ trace)) × AreOf side (own_from side n line (x ∷ trace))
-own_by side n line x trace true is on =
-    rw is (ap (λ l. x ∷ l) on.0, All-cons (λ y. y.entry.side ≡ side) _ _ (same_side side x.side (both_true _ _ is).0) on.1)
-own_by side n line x trace false is on = rw is on
+own_by side n line x trace b is on = grind (arith, nat_tests)
 
 pub own_entries : (side : Side) (n line : ℕ) (trace : List Entry) → (entries (own_from side n line trace) ≡ own_below side n trace) × AreOf side (own_from side n line trace)
 own_entries side n line [] = (refl, All-nil (λ y. y.entry.side ≡ side))
 own_entries side n line (x ∷ trace) = own_by side n line x trace _ refl (own_entries side n (line + 1) trace)
 
-same_by_op : (a b : Op) → same_op a b ≡ true → a ≡ b
-same_by_op (Read r) (Read q) e = let same : r ≡ q = grind (arith, nat_tests) in ap (λ x. Read x) same
-same_by_op (Write r v) (Write q w) e =
-    let same = both_true (r == q) (v == w) e in
-    let one : r ≡ q = let t : (r == q) ≡ true = same.0 in grind (arith, nat_tests) in
-    let two : v ≡ w = let t : (v == w) ≡ true = same.1 in grind (arith, nat_tests) in
-    ap (λ x. Write x v) one ∙ ap (λ x. Write q x) two
-same_by_op Reset Reset e = refl
-same_by_op (Read r) (Write q w) e = cc
-same_by_op (Read r) Reset e = cc
-same_by_op (Write r v) (Read q) e = cc
-same_by_op (Write r v) Reset e = cc
-same_by_op Reset (Read q) e = cc
-same_by_op Reset (Write q w) e = cc
-
 op_same : (a : Op) → same_op a a ≡ true
-op_same (Read r) = grind (arith, nat_tests)
-op_same (Write r v) = grind (arith, nat_tests)
-op_same Reset = refl
+op_same a = grind (arith, nat_tests)
 
 -- an entry is known by its parts
 same_entry : (x : Entry) (t : ℕ) (side : Side) (op : Op) → is_that x t op ≡ true → x.side ≡ side → entry t side op x.answer ≡ x
-same_entry x t side op is on =
-    let parts = both_true ((x.tick).0 == t) (same_op x.op op) is in
-    let tick : (x.tick).0 ≡ t = let e : ((x.tick).0 == t) ≡ true = parts.0 in grind (arith, nat_tests) in
-    sym (
-    ap (λ n. entry n x.side x.op x.answer) tick
-    ∙ ap (λ y. entry t y x.op x.answer) on
-    ∙ ap (λ o. entry t side o x.answer) (same_by_op x.op op parts.1))
+same_entry x t side op is on = grind (arith, nat_tests)
 
-that_entry : (t : ℕ) (side : Side) (op : Op) (a : ℕ) → is_that (entry t side op a) t op ≡ true
+pub that_entry : (t : ℕ) (side : Side) (op : Op) (a : ℕ) → is_that (entry t side op a) t op ≡ true
 that_entry t side op a = let same : same_op op op ≡ true = op_same op in grind (arith, nat_tests)
 
 abbrev ending : {S : Type 0} → S → Ended S
@@ -102,10 +64,6 @@ told_of (Some place) = place.1
 abbrev line_of : Option (ℕ × Option Doing) → ℕ
 line_of None = 0
 line_of (Some place) = place.0
-
-nothing_told : (left : List Numbered) → told_of (next_line left) ≡ None
-nothing_told [] = refl
-nothing_told (x ∷ left) = refl
 
 no_line : (left : List Numbered) → next_line left ≡ None → left ≡ []
 no_line [] e = refl
@@ -284,15 +242,7 @@ module _ {S : Type 0} (m : Moves S) (lawful : IsLawful m) (side : Side) (trace :
   Whole last left line what stopped = IsDifference m side n (length trace) (record { last = last; left = left }) (difference line what stopped)
 
   difference_by : (last stopped : S) (left : List Numbered) (e : Ended S) (line : ℕ) (what : Option Doing) → Ending last left e → At stopped e line what → Whole last left line what stopped
-  difference_by last stopped left e line what (Finishes over same) at =
-      let place : next_line left ≡ Some (line, what) = ap (λ y. y.place) (sym same ∙ at) in
-      let nothing : what ≡ None = sym (ap told_of place) ∙ nothing_told left in
-      subst (λ w. Whole last left line w stopped) (sym nothing)
-      (over, place ∙ ap (λ w. Some (line, w)) nothing, ap (λ y. y.machine) (sym at ∙ same))
-  difference_by last stopped left e line what (Parts op l low asks misses same) at =
-      let place : Some (l, Some (doing_of (m.due last) side op)) ≡ Some (line, what) = ap (λ y. y.place) (sym same ∙ at) in
-      subst (λ w. Whole last left line w stopped) (ap told_of place)
-      (op, low, asks, refl, rw (ap line_of place) at misses, ap (λ y. y.machine) (sym at ∙ same))
+  difference_by last stopped left e line what h at = grind (arith, nat_tests)
 
   differs_of : (s stopped : S) (line : ℕ) (what : Option Doing) → At stopped (replay_of m side trace n s) line what → DiffersAt m side trace n s (difference line what stopped)
   differs_of s stopped line what at =
@@ -339,14 +289,7 @@ module _ {S : Type 0} (m : Moves S) (lawful : IsLawful m) (side : Side) (trace :
 
   place_by : (whole : Ended S) (last stopped : S) (left : List Numbered) (line : ℕ) (what : Option Doing) → Goes m side trace n whole last left → Whole last left line what stopped
       → At stopped whole line what
-  place_by whole last stopped left line None goes d =
-      goes_end goes d.0
-      ∙ ap (λ x. record { machine = x; place = next_line left }) (sym d.2)
-      ∙ ap (λ o. record { machine = stopped; place = o }) d.1
-  place_by whole last stopped left line (Some doings) goes d =
-      goes_differs goes d.0 line d.1 d.2 d.4
-      ∙ ap (λ x. record { machine = x; place = Some (line, Some (doing_of (m.due last) side d.0)) }) (sym d.5)
-      ∙ ap (λ x. record { machine = stopped; place = Some (line, Some x) }) (sym d.3)
+  place_by whole last stopped left line what goes d = grind (arith, nat_tests)
 
   place_of : (s stopped : S) (line : ℕ) (what : Option Doing) → DiffersAt m side trace n s (difference line what stopped) → At stopped (replay_of m side trace n s) line what
   place_of s stopped line what d =

@@ -1,11 +1,10 @@
 -- The turns of both parties, with the accesses that are answered in passing.
-use Rattle.std.proofs.Common.{ℕ, ◌≡◌, ◌+◌, ◌<◌, ◌≤◌, ◌⊎◌, inl, inr, Bool, true, false, refl, sym, ◌∙◌, ap, subst, arith, List, [], ◌∷◌, length, take, Some}
-use Rattle.std.proofs.lemmas.Bool.{le-ltb}
+use Rattle.std.proofs.Common.{ℕ, ◌≡◌, ◌+◌, ◌<◌, ◌≤◌, ◌⊎◌, Bool, true, false, refl, sym, ◌∙◌, ap, subst, arith, List, [], ◌∷◌, length, take, Some}
 use Rattle.tube_chip.specs.State.{State, lines_of}
 use Rattle.tube_chip.specs.declared.Lines.{Lines}
 use Rattle.tube_chip.specs.declared.Answer.TheVariants.{Byte}
 use Rattle.tube_chip.specs.declared.Op.{Op}
-use Rattle.tube_chip.specs.Act.{Query, access, look, act, answer_of}
+use Rattle.tube_chip.specs.Act.{Query, access, act, answer_of}
 use Rattle.tube_trace.specs.declared.Entry.{Entry}
 use Rattle.beeb_bits.specs.declared.Side.{Side}
 use Rattle.beeb_bits.specs.declared.Side.TheVariants.{Host, Para}
@@ -13,7 +12,7 @@ use Rattle.beeb_bits.specs.declared.Tick.{Tick}
 use Rattle.tube_party.specs.declared.log.Log.{Log}
 use Rattle.tube_party.specs.declared.log.LogMark.{LogMark}
 use Rattle.tube_party.specs.declared.party.Ask.{Ask}
-use Rattle.tube_party.specs.declared.party.Ask.TheVariants.{Nothing, Access, Look}
+use Rattle.tube_party.specs.declared.party.Ask.TheVariants.{Access}
 use Rattle.tube_party.specs.Moves.{Moves, SeesHirqAlone, IsAsk, Hears, IsAnswered, shown_lines}
 use Rattle.tube_party.specs.Turn.{IsPending, first_of, tick_of, ticks_left, IsSure, note_leaves, note_all_leaves}
 use Rattle.tube_party.specs.CodeAtWork.{Acts, at_work, own_of}
@@ -30,16 +29,12 @@ use Rattle.tube_party.proofs.Both.{rolled_back, back_smaller}
 
 -- where an access comes before a tick that is sure by what the parasite asks, the host comes first
 still_first : (t : Tick) (sure : ℕ) (op : Op) (ask_p : Ask) → t.0 < sure → IsSure 1 ask_p sure → first_of (Access t op) ask_p ≡ Some Host
-still_first t sure op Nothing early told = refl
-still_first t sure op (Access u po) early told = rw (le-ltb u.0 t.0 (omega (arith, early, told))) refl
-still_first t sure op (Look u) early told = rw (le-ltb u.0 t.0 (omega (arith, early, told))) refl
+still_first t sure op ask_p early told = grind arith
 
 -- what the host asks leaves the chip so
 behind_is : {S : Type 0} (h : Moves S) (n : ℕ) (s : S) (c : State) (ask : Ask) (q : Query) → IsPending h n s ask → h.asks s ≡ Some q
     → (act c Host q).0 ≡ chip_behind c ask
-behind_is h n s c Nothing q pending asks = absurd pending
-behind_is h n s c (Access t op) q pending asks = let is : q ≡ access op = cc (asks, pending.2) in ap (λ x. (act c Host x).0) is
-behind_is h n s c (Look t) q pending asks = let is : q ≡ look = cc (asks, pending.2) in ap (λ x. (act c Host x).0) is
+behind_is h n s c ask q pending asks = grind arith
 
 -- ---- What an access in passing leaves of both logs
 
@@ -151,14 +146,11 @@ passed_act {m = m} {at = at} {d = d} side turn kept answered =
 -- the host's looks are seen behind it as before
 still_seen : {S : Type 0} (h : Moves S) (sure : ℕ) (ask_p : Ask) {tick : ℕ} {op : Op} {byte : ℕ} {d f : Attended} → IsPassed d tick op byte f
     → IsSeen h d.chip ask_p sure → IsSeen h f.chip ask_p sure
-still_seen h sure ask_p passed (inl told) = inl told
-still_seen h sure ask_p passed (inr free) =
-    inr (free.0, ap (λ x. x.flags.q) passed.chip_is ∙ ap (λ x. x.q) passed.stays.1 ∙ free.1)
+still_seen h sure ask_p passed is = grind arith
 
 seen_so : {S : Type 0} (h : Moves S) (c : State) (ask : Ask) (until seen : Tick) → IsSure 1 ask until.0
     → (seen ≡ until) ⊎ (SeesHirqAlone h × (c.flags.q ≡ false)) → IsSeen h c ask seen.0
-seen_so h c ask until seen told (inl is) = inl (rw is told)
-seen_so h c ask until seen told (inr free) = inr free
+seen_so h c ask until seen told is = grind arith
 
 -- A side's turn goes on at the desk, and the other's log is this.
 record IsSides (keep : ℕ) (side : Side) (until : ℕ) (lines : Lines) (log : Log) (d : Attended) : Type 0 where

@@ -1,5 +1,5 @@
 -- A replay, step by step.
-use Rattle.std.proofs.Common.{◌≡◌, ◌∙◌, sym, refl, ap, subst, ℕ, zero, suc, ◌+◌, ◌<◌, ◌≤◌, ◌-◌, List, [], ◌∷◌, length, true, false, nat_lt, Option, Some, None, arith}
+use Rattle.std.proofs.Common.{◌≡◌, ◌∙◌, sym, refl, ap, subst, ℕ, zero, suc, ◌+◌, ◌<◌, ◌≤◌, ◌-◌, List, length, true, false, nat_lt, Option, Some, None, arith}
 use Rattle.std.proofs.lemmas.Bool.Decides.{nat_tests}
 use Rattle.beeb_bits.specs.declared.Tick.{Tick}
 use Rattle.beeb_bits.specs.declared.Side.{Side}
@@ -12,8 +12,8 @@ use Rattle.tube_chip.specs.Act.{Query, access, look}
 use Rattle.tube_trace.specs.declared.Entry.{Entry}
 use Rattle.tube_party.specs.declared.party.Ask.{Ask}
 use Rattle.tube_party.specs.declared.party.Ask.TheVariants.{Nothing, Access, Look}
-use Rattle.tube_party.specs.Moves.{Moves, IsLawful, Hears, IsAsk, IsAskedFor, FitsAnswer, shown_lines}
-use Rattle.tube_party.specs.Replay.{Numbered, Ended, own_from, finish_leaves, next_line, doing_of, differs, access_step, one_step, replay_from, replay_of, chip_before}
+use Rattle.tube_party.specs.Moves.{Moves, IsLawful, Hears, IsAskedFor, FitsAnswer, shown_lines}
+use Rattle.tube_party.specs.Replay.{Numbered, Ended, own_from, finish_leaves, next_line, doing_of, differs, one_step, replay_from, replay_of, chip_before}
 use Rattle.tube_party.specs.CodeCursor.{Takes, Misses, Owned, IsTaken}
 use Rattle.tube_party.proofs.Runs.{Glances, Here, Past, Seeing, glances_rise, Talking, Last, Next, talking_of}
 
@@ -39,18 +39,8 @@ module _ {S : Type 0} (m : Moves S) (side : Side) (trace : List Entry) (n : ℕ)
   pub step_now : (k : ℕ) (s : S) (own : List Numbered) → m.due s < n → replay_from m side trace n (suc k) s own ≡ one_step m side trace s own (m.asks s) (replay_from m side trace n k)
   step_now k s own low = rw (low_true (m.due s) n low) refl
 
-  step_of : (steps : ℕ) (s : S) (own : List Numbered) (q : Option Query) → m.due s < n → n ≤ m.due s + steps → m.asks s ≡ q →
-      (k : ℕ) × (n ≤ m.due s + suc k) × (replay_from m side trace n steps s own ≡ one_step m side trace s own q (replay_from m side trace n k))
-  step_of zero s own q low enough is = absurd (omega arith)
-  step_of (suc k) s own q low enough is = (k, enough, rw (low_true (m.due s) n low, is) refl)
-
   later : IsLawful m → (s : S) (a : Option Answer) (k : ℕ) → n ≤ m.due s + suc k → n ≤ m.due (m.next s a) + k
   later lawful s a k h = let rise = lawful.rises s a in omega arith
-
-  missed : (s : S) (own : List Numbered) (op : Op) (line : ℕ) (go : S → List Numbered → Ended S) → Misses own (length trace) (m.due s) op line →
-      access_step m side (length trace) s op own go ≡ differs m side s op line
-  missed s [] op line go h = ap (differs m side s op) (sym h)
-  missed s (x ∷ own) op line go h = rw (h.1, h.0) refl
 
 module _ {S : Type 0} {m : Moves S} {side : Side} {trace : List Entry} {n : ℕ} {whole : Ended S} {s : S} {own : List Numbered} (goes : Goes m side trace n whole s own) where
   pub goes_end : n ≤ m.due s → whole ≡ finish_leaves m n s own
@@ -58,31 +48,21 @@ module _ {S : Type 0} {m : Moves S} {side : Side} {trace : List Entry} {n : ℕ}
 
   -- one step that asks nothing
   pub goes_none : IsLawful m → m.due s < n → m.asks s ≡ None → Goes m side trace n whole (m.next s None) own
-  goes_none lawful low is =
-      let step = step_of m side trace n goes.steps s own None low goes.enough is in
-      record { steps = step.0; enough = later m side trace n lawful s None step.0 step.1; same = goes.same ∙ step.2 }
+  goes_none lawful low is = grind (arith, nat_tests)
 
   -- a look
   pub goes_look : IsLawful m → m.due s < n → m.asks s ≡ Some look →
       Goes m side trace n whole (m.next s (Some (Seen (lines_of (chip_before side (m.due s) power_on trace))))) own
-  goes_look lawful low is =
-      let step = step_of m side trace n goes.steps s own (Some look) low goes.enough is in
-      record { steps = step.0; enough = later m side trace n lawful s _ step.0 step.1; same = goes.same ∙ step.2 }
+  goes_look lawful low is = grind (arith, nat_tests)
 
   -- an access that is the side's next entry
   pub goes_access : IsLawful m → (others : List Numbered) (op : Op) (byte : ℕ) → m.due s < n → m.asks s ≡ Some (access op) →
       Takes own others (m.due s) op byte → Goes m side trace n whole (m.next s (Some (Byte byte))) others
-  goes_access lawful others op byte low is takes =
-      let step = step_of m side trace n goes.steps s own (Some (access op)) low goes.enough is in
-      let taken : access_step m side (length trace) s op own (replay_from m side trace n step.0) ≡ replay_from m side trace n step.0 (m.next s (Some (Byte byte))) others =
-      rw (takes.split, takes.that, takes.answer) refl in
-      record { steps = step.0; enough = later m side trace n lawful s _ step.0 step.1; same = goes.same ∙ step.2 ∙ taken }
+  goes_access lawful others op byte low is takes = grind (arith, nat_tests)
 
   -- an access that is not
   pub goes_differs : (op : Op) (line : ℕ) → m.due s < n → m.asks s ≡ Some (access op) → Misses own (length trace) (m.due s) op line → whole ≡ differs m side s op line
-  goes_differs op line low is h =
-      let step = step_of m side trace n goes.steps s own (Some (access op)) low goes.enough is in
-      goes.same ∙ step.2 ∙ missed m side trace n s own op line (replay_from m side trace n step.0) h
+  goes_differs op line low is h = grind (arith, nat_tests)
 
 -- the whole replay, before its first step
 pub goes_all : {S : Type 0} (m : Moves S) (side : Side) (trace : List Entry) (n : ℕ) (s : S) → Goes m side trace n (replay_of m side trace n s) s (own_from side n 1 trace)

@@ -1,5 +1,5 @@
 -- The replay of the reference run's own list.
-use Rattle.std.proofs.Common.{ℕ, ◌≡◌, ◌<◌, refl, sym, ◌∙◌, ap, subst, arith, Bool, true, false, ◌&&◌, nat_lt, if◌then◌else◌, List, [], ◌∷◌, ◌++◌}
+use Rattle.std.proofs.Common.{ℕ, ◌≡◌, ◌<◌, refl, sym, ◌∙◌, ap, arith, Bool, true, false, ◌&&◌, nat_lt, if◌then◌else◌, List, [], ◌∷◌, ◌++◌}
 use Rattle.std.specs.Prelude.{All, IsTrue, filter}
 use Rattle.std.proofs.lemmas.List.Elements.{All-nil, All-cons, All-head, All-tail, All-weaker, filter-append}
 use Rattle.std.proofs.lemmas.Bool.Decides.{nat_tests}
@@ -7,7 +7,7 @@ use Rattle.beeb_bits.specs.Order.{before}
 use Rattle.beeb_bits.specs.declared.Side.{Side}
 use Rattle.beeb_bits.specs.declared.Side.TheVariants.{Host, Para}
 use Rattle.tube_chip.specs.declared.Answer.{Answer}
-use Rattle.tube_chip.specs.declared.Answer.TheVariants.{Byte, Seen}
+use Rattle.tube_chip.specs.declared.Answer.TheVariants.{Seen}
 use Rattle.tube_chip.specs.State.{State, power_on, lines_of}
 use Rattle.tube_chip.specs.Act.{Query, access, look, act}
 use Rattle.tube_chip.specs.Events.{Event, IsBefore, Rises, RisesAfter, IsAnsweredFrom, IsLegal, of_side, is_side}
@@ -19,15 +19,13 @@ use Rattle.tube_party.specs.Reference.{World, reference}
 use Rattle.tube_party.specs.ReplayLaws.{own_below, IsAnsweredBy, FollowsTrace, ReferenceIsReplayed}
 use Rattle.tube_party.proofs.ReplayLemmas.{low_true}
 use Rattle.tube_party.proofs.FollowingLemmas.{replay_following}
-use Rattle.tube_party.proofs.Listed.{IsEarlier, before-then, before-not}
+use Rattle.tube_party.proofs.Listed.{IsEarlier, before-then}
 use Rattle.tube_party.proofs.Followed.{followed, all_earlier}
 
 -- what holds of the events' ticks and sides holds of their entries'
 placed_by : (P : ℕ → Side → Type 0) (t : ℕ) (side : Side) (q : Query) (a : Answer) (xs : List Entry) → P t side → All (λ (x : Entry). P (x.tick).0 x.side) xs
     → All (λ x. P (x.tick).0 x.side) (entry_of t side q a ++ xs)
-placed_by P t side (access op) (Byte b) xs h on = All-cons (λ x. P (x.tick).0 x.side) _ xs h on
-placed_by P t side (access op) (Seen l) xs h on = on
-placed_by P t side look a xs h on = on
+placed_by P t side q a xs h on = grind (arith, nat_tests)
 
 pub placed : (P : ℕ → Side → Type 0) (l : List Event) → All (λ (e : Event). P e.tick e.side) l → All (λ (x : Entry). P (x.tick).0 x.side) (accesses l)
 placed P [] h = All-nil (λ x. P (x.tick).0 x.side)
@@ -66,12 +64,7 @@ own_all side n (x ∷ trace) low =
 
 -- the accesses of a side are the side's entries
 own_by : (side : Side) (t : ℕ) (of : Side) (q : Query) (a : Answer) (b : Bool) → is_side side of ≡ b → own side (entry_of t of q a) ≡ (if b then entry_of t of q a else [])
-own_by side t of (access op) (Byte x) true is = rw is refl
-own_by side t of (access op) (Byte x) false is = rw is refl
-own_by side t of (access op) (Seen l) true is = refl
-own_by side t of (access op) (Seen l) false is = refl
-own_by side t of look a true is = refl
-own_by side t of look a false is = refl
+own_by side t of q a b is = grind arith
 
 event_by : (side : Side) (e : Event) (l : List Event) (b : Bool) → accesses
     (if b then e ∷ of_side side l else of_side side l) ≡ (if b then entry_of e.tick e.side e.query e.answer else []) ++ accesses (of_side side l)
@@ -99,9 +92,7 @@ On c trace e = IsAnsweredOn c trace e.tick e.side e.query e.answer
 -- an event after the look stops it
 stops_by : (e : Event) (c : State) (t : ℕ) (side : Side) (q : Query) (a : Answer) (more : List Entry) → IsTrue (before e.tick e.side t side) →
     chip_before e.side e.tick c more ≡ c → chip_before e.side e.tick c (entry_of t side q a ++ more) ≡ c
-stops_by e c t side (access op) (Byte b) more later on = rw (before-not e.tick t e.side side later) refl
-stops_by e c t side (access op) (Seen l) more later on = on
-stops_by e c t side look a more later on = on
+stops_by e c t side q a more later on = grind (arith, nat_tests)
 
 stops : (e : Event) (c : State) (l : List Event) → All (IsBefore e) l → chip_before e.side e.tick c (accesses l) ≡ c
 stops e c [] h = refl
@@ -110,19 +101,15 @@ stops e c (f ∷ l) h = stops_by e c f.tick f.side f.query f.answer (accesses l)
 -- an event before the look is done
 does_by : (f : Event) (c : State) (t : ℕ) (side : Side) (q : Query) (a : Answer) (more : List Entry) → IsTrue (before t side f.tick f.side) → (act c side q).1 ≡ a →
     chip_before f.side f.tick c (entry_of t side q a ++ more) ≡ chip_before f.side f.tick (act c side q).0 more
-does_by f c t side (access op) (Byte b) more first is = rw first refl
-does_by f c t side (access op) (Seen l) more first is = cc
-does_by f c t side look a more first is = refl
+does_by f c t side q a more first is = grind arith
 
 head_by : (c : State) (t : ℕ) (side : Side) (q : Query) (a : Answer) (more : List Entry) → (act c side q).1 ≡ a → chip_before side t c more ≡ c
     → IsAnsweredOn c (entry_of t side q a ++ more) t side q a
-head_by c t side (access op) a more is still = subst (FitsAnswer (access op)) is tt
-head_by c t side look a more is still = sym is ∙ ap (λ d. Seen (lines_of d)) (sym still)
+head_by c t side q a more is still = grind (arith, nat_tests)
 
 pub tail_by : (c d : State) (trace more : List Entry) (t : ℕ) (side : Side) (q : Query) (a : Answer) → chip_before side t c trace ≡ chip_before side t d more
     → IsAnsweredOn d more t side q a → IsAnsweredOn c trace t side q a
-tail_by c d trace more t side (access op) a same h = h
-tail_by c d trace more t side look a same h = h ∙ ap (λ x. Seen (lines_of x)) (sym same)
+tail_by c d trace more t side q a same h = grind (arith, nat_tests)
 
 pub all_after : (e : Event) (l : List Event) → RisesAfter e l → All (IsBefore e) l
 all_after e [] h = All-nil (IsBefore e)

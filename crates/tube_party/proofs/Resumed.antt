@@ -13,7 +13,7 @@ use Rattle.tube_party.specs.Moves.{Moves, IsLawful, close_leaves}
 use Rattle.tube_party.specs.ReplayLaws.{IsAnsweredBy, FollowsTrace}
 use Rattle.tube_party.specs.Reference.{Seat, World, step_if_due, tick, ticks, start, close_both_leaves, reference, IsTraceBelow}
 use Rattle.tube_party.specs.GoingOn.{reference_from, after_entries, IsLike, IsBroughtBack, BroughtBackIsReference}
-use Rattle.tube_party.proofs.Runs.{event, steps_of, shut_is}
+use Rattle.tube_party.proofs.Runs.{event, steps_of}
 use Rattle.tube_party.proofs.Ticks.{seat, world, rest}
 use Rattle.tube_party.proofs.Meet.{meets}
 use Rattle.tube_party.proofs.FollowingLemmas.{replay_following}
@@ -32,13 +32,11 @@ pub record IsSame {S : Type 0} (m : Moves S) (n : ℕ) (s u : S) : Type 0 where
   pub ends : n ≤ m.due s → close_leaves m s n ≡ close_leaves m u n
 
 same_self : {S : Type 0} (m : Moves S) (n : ℕ) (s u : S) → s ≡ u → IsSame m n s u
-same_self m n s u e = record { due = ap m.due e; asks = ap m.asks e; next = λ a. ap (λ x. m.next x a) e; ends = λ low. ap (λ x. close_leaves m x n) e }
+same_self m n s u e = grind arith
 
 -- a state that was closed below its next step goes on as before
 same_shut : {S : Type 0} (m : Moves S) → IsLawful m → (at n : ℕ) (s : S) → at ≤ n → at ≤ m.due s → IsSame m n s (close_leaves m s at)
-same_shut m lawful at n s le low =
-    let shut = shut_is m lawful s at low in
-    record { due = sym shut.due; asks = sym shut.asks; next = λ a. sym (shut.next a); ends = λ high. sym (shut.again n le high) }
+same_shut m lawful at n s le low = grind arith
 
 -- one party at the chip, which goes on alike
 record IsSeatAlike {S : Type 0} (m : Moves S) (n : ℕ) (x y : Seat S) : Type 0 where

@@ -28,10 +28,7 @@ SomeRuns r side n s events m = (k : ℕ) × Runs r side n k s (course events m)
 
 -- an event is known by its parts
 same_event : (e : Event) (t : ℕ) (side : Side) (q : Query) → e.tick ≡ t → e.side ≡ side → e.query ≡ q → e ≡ event t side q e.answer
-same_event e t side q et es eq =
-    ap (λ x. event x e.side e.query e.answer) et
-    ∙ ap (λ x. event t x e.query e.answer) es
-    ∙ ap (λ x. event t side x e.answer) eq
+same_event e t side q et es eq = grind arith
 
 module _ {S : Type 0} (r : Moves S) (side : Side) (n : ℕ) where
   abbrev Then : ℕ → S → List Event → S → Option Query → Type 0

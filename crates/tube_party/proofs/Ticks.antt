@@ -1,8 +1,8 @@
 -- What steps do to the reference's ticks.
-use Rattle.std.proofs.Common.{ℕ, zero, suc, ◌≡◌, ◌+◌, ◌<◌, ◌≤◌, ◌⊎◌, inl, inr, refl, sym, ◌∙◌, ap, arith, List, Option, None, Some}
+use Rattle.std.proofs.Common.{ℕ, zero, suc, ◌≡◌, ◌+◌, ◌<◌, ◌≤◌, ◌⊎◌, inl, inr, refl, sym, ◌∙◌, ap, arith, List, Option, None}
 use Rattle.std.proofs.lemmas.Bool.{ne_eqb, eq-eqb}
 use Rattle.tube_chip.specs.State.{State}
-use Rattle.tube_chip.specs.Act.{Query, act}
+use Rattle.tube_chip.specs.Act.{Query}
 use Rattle.tube_chip.specs.Events.{Event}
 use Rattle.beeb_bits.specs.declared.Side.{Side}
 use Rattle.beeb_bits.specs.declared.Side.TheVariants.{Host, Para}
@@ -25,8 +25,7 @@ pub now : {S : Type 0} (r : Moves S) (side : Side) (k : ℕ) (x : Seat S) → r.
 now r side k x e = rw (eq-eqb (r.due x.state) k e) refl
 
 later : {S : Type 0} (r : Moves S) → IsLawful r → (side : Side) (x : Seat S) (o : Option Query) → r.due x.state < r.due (step_leaves r side x o).state
-later r lr side x None = lr.rises x.state None
-later r lr side x (Some q) = lr.rises x.state (Some (act x.chip side q).1)
+later r lr side x o = grind arith
 
 pub same_or_above : (a k : ℕ) → k ≤ a → (a ≡ k) ⊎ (k < a)
 same_or_above a k h = grind arith
@@ -41,17 +40,14 @@ module _ {S T : Type 0} (h : Moves S) (p : Moves T) (lh : IsLawful h) (lp : IsLa
 
   -- neither is due at k
   idle : (k : ℕ) (s : S) (t : T) (c : State) (l : List Event) → k < h.due s → k < p.due t → tick h p k (world s t c l) ≡ world s t c l
-  idle k s t c l hs ht = ap (λ x. para_part p k x t) (still h Host k (seat s c l) hs) ∙ ap (with_host s) (still p Para k (seat t c l) ht)
+  idle k s t c l hs ht = grind arith
 
   -- two worlds in which neither is due at k go on alike if they do so from k + 1
   both_idle : (j k : ℕ) (s u : S) (t v : T) (c d : State) (l m : List Event)
       → k < h.due s → k < p.due t → k < h.due u → k < p.due v
       → ticks h p j (k + 1) (world s t c l) ≡ ticks h p j (k + 1) (world u v d m)
       → ticks h p (suc j) k (world s t c l) ≡ ticks h p (suc j) k (world u v d m)
-  both_idle j k s u t v c d l m hs ht hu hv e =
-      ap (ticks h p j (k + 1)) (idle k s t c l hs ht)
-      ∙ e
-      ∙ sym (ap (ticks h p j (k + 1)) (idle k u v d m hu hv))
+  both_idle j k s u t v c d l m hs ht hu hv e = grind arith
 
   -- neither is due below k + j
   pub rest : (j k : ℕ) (s : S) (t : T) (c : State) (l : List Event) → k + j ≤ h.due s → k + j ≤ p.due t → ticks h p j k (world s t c l) ≡ world s t c l
@@ -105,10 +101,7 @@ module _ {S T : Type 0} (h : Moves S) (p : Moves T) (lh : IsLawful h) (lp : IsLa
   -- at k, the parasite being due there, and x being what the host's part of the tick leaves
   pub para_here : (k : ℕ) (s : S) (t : T) (c : State) (l : List Event) → p.due t ≡ k
       → with_host s (step_if_due p Para k (seat t c l)) ≡ with_host s (step_if_due p Para k (para_did t c l))
-  para_here k s t c l e =
-      let rise = later p lp Para (seat t c l) (p.asks t) in
-      ap (with_host s)
-      (now p Para k (seat t c l) e ∙ sym (still p Para k (para_did t c l) (omega arith)))
+  para_here k s t c l e = grind arith
 
   -- the parasite's step is the next one
   pub para_next : (j k : ℕ) (s : S) (t : T) (c : State) (l : List Event)

@@ -49,8 +49,8 @@ part_of s log = part s log.list.items log.count
 abbrev pub seated : {S : Type 0} → Part S → State → AtWork S
 seated a c = record { state = a.state; chip = c; list = a.list; count = a.count }
 
--- The reference goes on from where the parties are, of which the host may have made looks that come later than the parasite's steps, and
--- accesses that come later than what the parasite saw ahead of it; and what was kept is what it has done.
+-- The reference goes on from where the parties are, and what was kept is what it has done. The host may already have made looks that come later than
+-- the parasite's steps, and accesses that come later than what the parasite saw ahead of it.
 pub record IsAt {S T : Type 0} (r : Run S T) (ask_h : Ask) (a : Part S) (b : Part T) (c : State) : Type 0 where
   pub host_last : S
   pub events : List Event

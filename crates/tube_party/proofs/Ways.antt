@@ -10,7 +10,6 @@ use Rattle.tube_chip.specs.State.{State, lines_of}
 use Rattle.tube_chip.specs.declared.Op.{Op}
 use Rattle.tube_chip.specs.declared.Answer.{Answer}
 use Rattle.tube_chip.specs.declared.Answer.TheVariants.{Byte, Seen}
-use Rattle.tube_chip.specs.declared.Op.TheVariants.{Read, Write, Reset}
 use Rattle.tube_chip.specs.Act.{Query, access, look, act, ShowsAlike, answer_of}
 use Rattle.tube_chip.specs.Events.{Event, of_side, is_side}
 use Rattle.tube_trace.specs.declared.Entry.{Entry}
@@ -18,7 +17,6 @@ use Rattle.tube_trace.specs.Entries.{accesses, entry_of}
 use Rattle.tube_party.specs.Moves.{Moves, IsLawful, shown_lines}
 use Rattle.tube_party.specs.Turn.{note_leaves, note_all_leaves}
 use Rattle.tube_party.specs.Logs.{accesses-append, at_most_one}
-use Rattle.tube_chip.proofs.Rises.{status_leaves}
 use Rattle.tube_party.specs.CodePassing.{IsStatusRead, passed_entry}
 use Rattle.tube_party.proofs.Runs.{event, IsOf, Steps, Over, Silent, Asking, steps_append, Glances, Here, Past, Seeing}
 
@@ -28,10 +26,7 @@ IsGlance (access op) = IsStatusRead op
 IsGlance look = Unit {0}
 
 pub glance_leaves : (c : State) (q : Query) → IsGlance q → (act c Para q).0 ≡ c
-glance_leaves c look is = refl
-glance_leaves c (access (Read number)) is = status_leaves c Para number is
-glance_leaves c (access (Write number byte)) is = absurd is
-glance_leaves c (access Reset) is = absurd is
+glance_leaves c q is = grind arith
 
 -- the event is such, and the chip answers it so
 abbrev pub IsIdle : State → Event → Type 0
@@ -89,12 +84,7 @@ all_own (e ∷ events) each =
 module _ (is_read : Bool) (c d : State) (lines : lines_of d ≡ lines_of c) (shows : is_read ≡ true → ShowsAlike Para c d) where
   one_still : (r : Bool) → is_read ≡ r → (t : ℕ) (side : Side) (q : Query) (a : Answer) (xs : List Entry) → IsGlance q → (act c Para q).1 ≡ a
       → (r ≡ false → entry_of t side q a ++ xs ≡ []) → ((act d Para q).1 ≡ a) × (r ≡ false → xs ≡ [])
-  one_still r is t side look a xs glance idle none = (ap (λ x. Seen x) lines ∙ idle, none)
-  one_still true is t side (access (Read number)) a xs glance idle none = (ap (λ b. Byte b) (shows is number glance) ∙ idle, λ no. cc)
-  one_still true is t side (access (Write number byte)) a xs glance idle none = absurd glance
-  one_still true is t side (access Reset) a xs glance idle none = absurd glance
-  one_still false is t side (access op) (Byte b) xs glance idle none = let no = none refl in cc
-  one_still false is t side (access op) (Seen l) xs glance idle none = let no : Byte (answer_of c Para op) ≡ Seen l = idle in cc
+  one_still r is t side q a xs glance idle h = grind arith
 
   pub seen_still : (events : List Event) → All (IsIdle c) events → (is_read ≡ false → accesses events ≡ []) → All (IsIdle d) events
   seen_still [] idle none = All-nil (IsIdle d)

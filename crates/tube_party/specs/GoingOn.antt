@@ -30,8 +30,8 @@ pub record IsBroughtBack {S T : Type 0} (h : Moves S) (p : Moves T) (entries : L
   pub host : replay_of h Host entries at s ≡ record { machine = u; place = None }
   pub para : replay_of p Para entries at t ≡ record { machine = v; place = None }
 
--- Two parties that were brought back, the chip after the entries, and the entries are the reference run's world at that tick, the looks in its list aside;
--- and the reference run that goes on from there is the reference run from the start.
+-- Two parties that were brought back, the chip after the entries, and the entries: but for the looks in its list this is the reference run's world at that
+-- tick. The reference run that goes on from there is, but for these, the reference run from the start.
 abbrev pub BroughtBackIsReference : {S T : Type 0} → Moves S → Moves T → Type 0
 BroughtBackIsReference {S} {T} h p =
     (s u : S) (t v : T) (entries : List Entry) (at n : ℕ) →

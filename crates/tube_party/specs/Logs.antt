@@ -4,10 +4,9 @@ use Rattle.std.proofs.Common.{sym, ◌∙◌, ap, arith, inl, inr, length-append
 use Rattle.std.proofs.lemmas.List.{append-nil, take_all, take-append-le, length-take-le}
 use Rattle.std.proofs.lemmas.Bool.{lt-ltb, le-ltb, cases_lt}
 use Rattle.beeb_bits.specs.declared.Side.{Side}
-use Rattle.tube_chip.specs.Act.{Query, access, look}
+use Rattle.tube_chip.specs.Act.{Query}
 use Rattle.tube_chip.specs.Events.{Event}
 use Rattle.tube_chip.specs.declared.Answer.{Answer}
-use Rattle.tube_chip.specs.declared.Answer.TheVariants.{Byte, Seen}
 use Rattle.tube_trace.specs.declared.Entry.{Entry}
 use Rattle.tube_trace.specs.Entries.{accesses, entry_of}
 use Rattle.tube_party.specs.declared.log.Log.{Log}
@@ -62,6 +61,4 @@ noted_all_take keep xs (y ∷ ys) =
 
 -- an event is one access at most
 pub at_most_one : (t : ℕ) (side : Side) (q : Query) (a : Answer) → length (entry_of t side q a) ≤ 1
-at_most_one t side (access op) (Byte b) = omega arith
-at_most_one t side (access op) (Seen l) = omega arith
-at_most_one t side look a = omega arith
+at_most_one t side q a = grind arith

@@ -1,5 +1,5 @@
--- A machine against its side of a trace: each access is answered by the side's next entry, each look by the lines of the chip after
--- the entries that come before it; the first place where the machine and the side differ ends it.
+-- A machine against its side of a trace. Each access is answered by the side's next entry, each look by the lines of the chip after the entries that
+-- come before it. The first place where the machine and the side differ ends it.
 use Rattle.std.specs.Prelude.{ℕ, zero, suc, ◌+◌, ◌==◌, ◌&&◌, nat_lt, Bool, Option, None, Some, List, [], ◌∷◌, length, if◌then◌else◌}
 use Rattle.beeb_bits.specs.Order.{before}
 use Rattle.beeb_bits.specs.declared.Side.{Side}
@@ -44,8 +44,8 @@ same_op Reset (Write q w) = Bool.false
 abbrev pub doing_of : ℕ → Side → Op → Doing
 doing_of t side op = record { tick = record { 0 = t }; side = side; op = op }
 
--- Where a replay ended: the machine there, and the place, if they differed: the line of the side's entry, or one past the trace
--- where it has none, and what the machine does there, if it does something.
+-- Where a replay ended: the machine there, and the place, if they differed. A place is the line of the side's entry, or one past the trace where it
+-- has none, with what the machine does there, if it does something.
 pub record Ended (S : Type 0) : Type 0 where
   pub machine : S
   pub place : Option (ℕ × Option Doing)

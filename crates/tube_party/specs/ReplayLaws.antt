@@ -52,8 +52,8 @@ pub record Difference (S : Type 0) : Type 0 where
 abbrev pub difference : {S : Type 0} → ℕ → Option Doing → S → Difference S
 difference line what machine = record { line = line; what = what; machine = machine }
 
--- What the machine does next below n and the side's entries that are left, of a trace of so many lines, differ: it makes an access that the next of them is not, or
--- none is left; or it does nothing more, and one is left.
+-- What the machine does next below n and the side's entries that are left, of a trace of so many lines, differ. Either it makes an access that is not the
+-- next of them, if one is left; or it does nothing more, and one is left.
 abbrev pub IsDifference : {S : Type 0} → Moves S → Side → ℕ → ℕ → Parting S → Difference S → Type 0
 IsDifference m side n lines at d =
     MatchOption d.what

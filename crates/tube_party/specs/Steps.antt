@@ -8,7 +8,7 @@ use Rattle.tube_chip.specs.declared.Answer.TheVariants.{Byte, Seen}
 use Rattle.tube_chip.specs.declared.Lines.{Lines}
 use Rattle.tube_chip.specs.declared.Op.{Op}
 use Rattle.tube_party.specs.declared.party.Ask.{Ask}
-use Rattle.tube_party.specs.declared.party.Ask.TheVariants.{Nothing, Access, Look}
+use Rattle.tube_party.specs.declared.party.Ask.TheVariants.{Nothing, Access}
 use Rattle.tube_party.specs.Moves.{Moves, IsLawful, IsAsk, IsAnswered, Runs, Looks, Talks, Advances, Sees, Hears, GoesHearing, Shown, shown_lines, course}
 use Rattle.tube_party.specs.Turn.{IsPending}
 
@@ -27,12 +27,11 @@ module _ {S : Type 0} (m : Moves S) (n : ℕ) (lines : Lines) (sure : ℕ) where
   -- one look in front
   pub look_first : (k : ℕ) (s last : S) → m.due s < n → m.asks s ≡ Some look → m.due s < sure → Looks m n (shown_lines lines sure) k (m.next s (Some (Seen lines))) last
       → Looks m n (shown_lines lines sure) (suc k) s last
-  look_first k s last low asks early looks = (low, subst (After k s last) (sym asks) (refl, early, looks))
+  look_first k s last low asks early looks = grind arith
 
   -- steps after the first of them
   after_by : (j k : ℕ) (s mid last : S) (o : Option Query) → ((u : S) → Looks m n (shown_lines lines sure) j u mid → Looks m n (shown_lines lines sure) k u last) → After j s mid o → After k s last o
-  after_by j k s mid last None on h = on (m.next s None) h
-  after_by j k s mid last (Some q) on h = (h.0, h.1, on (m.next s (Some (Seen lines))) h.2)
+  after_by j k s mid last o on h = grind arith
 
   -- one more step that asks nothing
   pub silent_last : (k : ℕ) (s last : S) → Looks m n (shown_lines lines sure) k s last → m.due last < n → m.asks last ≡ None → Looks m n (shown_lines lines sure) (suc k) s (m.next last None)
@@ -66,14 +65,7 @@ module _ {S : Type 0} (m : Moves S) (n : ℕ) (lines : Lines) (sure : ℕ) where
   -- the tick rises
   due_past : (k : ℕ) (s last : S) → IsLawful m → (o : Option Query) → ((u : S) → Looks m n (shown_lines lines sure) k u last → m.due u ≤ m.due last) →
       After k s last o → m.due s ≤ m.due last
-  due_past k s last lawful None on h =
-      let a : m.due s < m.due (m.next s None) = lawful.rises s None in
-      let b : m.due (m.next s None) ≤ m.due last = on (m.next s None) h in
-      omega arith
-  due_past k s last lawful (Some q) on h =
-      let a : m.due s < m.due (m.next s (Some (Seen lines))) = lawful.rises s (Some (Seen lines)) in
-      let b : m.due (m.next s (Some (Seen lines))) ≤ m.due last = on (m.next s (Some (Seen lines))) h.2 in
-      omega arith
+  due_past k s last lawful o on h = grind arith
 
   pub due_rises : (k : ℕ) (s last : S) → IsLawful m → Looks m n (shown_lines lines sure) k s last → m.due s ≤ m.due last
   due_rises zero s last lawful looks = subst (λ (x : S). m.due s ≤ m.due x) looks (let d : ℕ = m.due s in omega arith)
@@ -93,8 +85,7 @@ module _ {S : Type 0} (m : Moves S) (n : ℕ) (lines : Lines) (sure : ℕ) where
   silent_by : (j k : ℕ) (s mid last : S) (o : Option Query) →
       ((u : S) → Runs m Host n j u (course [] mid) → Looks m n (shown_lines lines sure) k u last) →
       MatchOption o (Runs m Host n j (m.next s None) (course [] mid)) (λ q. ⊥) → After k s last o
-  silent_by j k s mid last None on h = on (m.next s None) h
-  silent_by j k s mid last (Some q) on h = absurd h
+  silent_by j k s mid last o on h = grind arith
 
   pub silent_all : (k : ℕ) (s last : S) → Runs m Host n k s (course [] last) → Looks m n (shown_lines lines sure) k s last
   silent_all zero s last h = h.1
@@ -105,8 +96,7 @@ module _ {S : Type 0} (m : Moves S) (n : ℕ) (lines : Lines) where
   runs_by_looks : (k : ℕ) (s last : S) (o : Option Query) →
       ((u : S) → Looks m n (shown_lines lines 0) k u last → Runs m Host n k u (course [] last)) →
       After m n lines 0 k s last o → MatchOption o (Runs m Host n k (m.next s None) (course [] last)) (λ q. ⊥)
-  runs_by_looks k s last None on h = on (m.next s None) h
-  runs_by_looks k s last (Some q) on h = omega (arith, h.1)
+  runs_by_looks k s last o on h = grind arith
 
   pub none_seen : (k : ℕ) (s last : S) → Looks m n (shown_lines lines 0) k s last → Runs m Host n k s (course [] last)
   none_seen zero s last h = (refl, h)
@@ -121,8 +111,7 @@ module _ {S : Type 0} (m : Moves S) (n : ℕ) (lines : Lines) where
 module _ {S : Type 0} (m : Moves S) (n : ℕ) (lines : Lines) where
   wider_by : (sure far k : ℕ) (s last : S) (o : Option Query) → sure ≤ far → ((u : S) → Looks m n (shown_lines lines sure) k u last → Looks m n (shown_lines lines far) k u last) →
       After m n lines sure k s last o → After m n lines far k s last o
-  wider_by sure far k s last None low on h = on (m.next s None) h
-  wider_by sure far k s last (Some q) low on h = (h.0, omega (arith, h.1, low), on (m.next s (Some (Seen lines))) h.2)
+  wider_by sure far k s last o low on h = grind arith
 
   -- looks below a tick are below a larger one
   pub looks_wider : (sure far k : ℕ) (s last : S) → sure ≤ far → Looks m n (shown_lines lines sure) k s last → Looks m n (shown_lines lines far) k s last
@@ -132,11 +121,7 @@ module _ {S : Type 0} (m : Moves S) (n : ℕ) (lines : Lines) where
 -- where it left off, what it asked is asked by the next step
 pub left_pending : {S D : Type 0} (m : Moves S) (answers : D → ℕ → Op → ℕ → D → Type 0) (n : ℕ) (v : Shown) (s : S) (d : D) (ask : Ask) (new : S) (e : D)
     → GoesHearing m answers n v s d ask new e → ask ≢ Nothing → IsPending m n new ask
-left_pending m answers n v s d Nothing new e went some = absurd (some refl)
-left_pending m answers n v s d (Access t op) new e went some =
-    (went.asked.0 ∙ sym (ap m.due went.asked.3), went.asked.1, ap m.asks went.asked.3 ∙ went.asked.2)
-left_pending m answers n v s d (Look t) new e went some =
-    (went.asked.0 ∙ sym (ap m.due went.asked.3), went.asked.1, ap m.asks went.asked.3 ∙ went.asked.2)
+left_pending m answers n v s d ask new e went h = grind arith
 
 -- ---- Steps with accesses that are answered in passing
 
@@ -163,12 +148,6 @@ module _ {S D : Type 0} (m : Moves S) (answers : D → ℕ → Op → ℕ → D 
       let past : m.due h.0 < m.due h.1 = subst (λ (x : S). m.due h.0 < m.due x) (sym h.4.goes) (lawful.rises h.0 (Some (Byte h.4.byte))) in
       let rest : m.due h.1 ≤ m.due last = talks_rise j h.1 last h.2 e lawful h.5 in
       omega (arith, up, past, rest)
-
-  -- where nothing is answered there are only others
-  pub talks_shut : ((d : D) (t : ℕ) (op : Op) (byte : ℕ) (e : D) → answers d t op byte e → ⊥) → (j : ℕ) (s last : S) (d e : D) → Talks m answers n (shown_lines lines sure) j s d last e
-      → (k : ℕ) × Looks m n (shown_lines lines sure) k s last
-  talks_shut none zero s last d e h = h.1
-  talks_shut none (suc j) s last d e h = absurd (none d (m.due h.0) h.4.op h.4.byte h.2 h.4.answered)
 
   -- and behind them the looks up to an access that is answered, and that
   pub talks_past_access : (k : ℕ) (old s last at new : S) (d f e : D) (t : Tick) (op : Op) (byte : ℕ)
@@ -198,6 +177,4 @@ module _ {S D : Type 0} (m : Moves S) (answers : D → ℕ → Op → ℕ → D 
 
   pub hears_shut : ((d : D) (t : ℕ) (op : Op) (byte : ℕ) (e : D) → answers d t op byte e → ⊥) → (s new : S) (d e : D) (ask : Ask) → Hears m answers n (shown_lines lines sure) s d ask new e
       → Sees m n (shown_lines lines sure) s ask new
-  hears_shut none s new d e ask hears =
-      let looks = talks_shut none hears.accesses s hears.last d e hears.talks in
-      record { steps = looks.0; last = hears.last; looks = looks.1; asked = hears.asked; unsure = hears.unsure }
+  hears_shut h s new d e ask hears = grind arith

@@ -262,7 +262,7 @@ fn go_past(
     (at, Tick(MOST))
 }
 
-/// The lines at a look of the side at a tick: the entries that come before it are done, from a place on, and then others as long as they leave the
+/// The lines at a look of the side at a tick. From a place on, the entries that come before the look are done, then others as long as they leave the
 /// lines, and the first that does not. It gives the place behind that, and a tick: looks below it see the lines, and looks from there on come after
 /// all entries that are done.
 #[inline(always)]

@@ -7,7 +7,7 @@ ghost use Rattle.tube_party.specs.ReplayLaws.{ReplayIsFollowing, ReplayTellsDiff
 
 use crate::party::Party;
 
-/// A party that was closed goes on as it would have gone on before, and what it follows up to one tick and then up to another it
+/// A party that was closed goes on as it would have gone on before. What it follows up to one tick and then up to another it
 /// follows up to the second at once.
 pub fn party_goes_on<M: Party>()
     ensures shut { MayBeShut M.moves }
@@ -33,8 +33,8 @@ pub fn reference_is_trace<H: Party, P: Party>()
 {}
 
 /// A replay ends at no place that differs, with the party in some state, exactly where the party follows a list of events to that
-/// state whose accesses are the side's entries below the end of the replay and whose looks see what comes before them in the trace.
-/// It ends at a place exactly where the party and the entries differ there for the first time.
+/// state. The accesses of the list are the side's entries below the end of the replay, and its looks see what comes before them
+/// in the trace. It ends at a place exactly where the party and the entries differ there for the first time.
 pub fn replay_is_following<M: Party>()
     ensures follows { ReplayIsFollowing M.moves }
     ensures differs { ReplayTellsDifference M.moves }
@@ -46,8 +46,8 @@ pub fn reference_is_replayed<H: Party, P: Party>()
     ensures { ReferenceIsReplayed H.moves P.moves }
 {}
 
-/// Two parties that were brought back to a tick, each by its replay against a trace below it, the chip after that trace and its
-/// accesses are the reference run at that tick; and the reference run that goes on from there is the reference run.
+/// Two parties that were brought back to a tick, each by its replay against a trace below it, with the chip after that trace and
+/// its accesses, are the reference run at that tick. The reference run that goes on from there is the reference run.
 pub fn brought_back_is_reference<H: Party, P: Party>()
     ensures { BroughtBackIsReference H.moves P.moves }
 {}

@@ -233,12 +233,12 @@ const FURTHEST: u64 = 4_096;
 /// How far it has to go for its status to be read ahead.
 const TRUSTED: u64 = 64;
 
-/// Goes on with two parties at one chip for the ticks below `n`, as the reference run does that goes on from where both parties are and from the chip
-/// after these accesses, which were made before. They count among the accesses of each side, of which as many are kept as `room` has room for.
+/// Goes on with two parties at one chip for the ticks below `n`, as the reference run does from where both parties are. Before it these accesses were
+/// made: the chip is the one after them, and they count among the accesses of each side, of which as many are kept as `room` has room for.
 ///
-/// Both parties take turns: the one whose ask comes first does that step, and goes on to the other's ask, with the accesses that leave the lines; the host
-/// also past looks before which the parasite can change nothing that they see. Then the parasite goes ahead of the host, and reads its status registers
-/// as if the host left what they show: before a step of the host that may change what it saw, it is rolled back.
+/// Both parties take turns: the one whose ask comes first does that step, and goes on to the other's ask, with the accesses that leave the lines. The host
+/// goes on also past looks before which the parasite can change nothing that they see. Then the parasite goes ahead of the host, and reads its status
+/// registers as if the host left what they show. Before a step of the host that may change what it saw, it is rolled back.
 pub fn go_on_from<H: Party, P: Rewinds>(
     mut host: H,
     mut para: P,

@@ -7,7 +7,7 @@ use Rattle.beeb_bits.specs.declared.Side.{Side}
 use Rattle.beeb_bits.specs.declared.Side.TheVariants.{Para}
 use Rattle.tube_chip.specs.State.{State}
 use Rattle.tube_chip.specs.Events.{Event}
-use Rattle.tube_cell.specs.Views.{word_of, word_of_other, own_bound, past_last, below, horizon, readings_of}
+use Rattle.tube_cell.specs.Views.{word_of_other, own_bound, past_last, below, horizon, readings_of}
 use Rattle.tube_cell.specs.Rules.{Trusts}
 use Rattle.tube_cell.specs.Passes.{Carried, own_horizon, after_publish, after_entrust, Learns}
 use Rattle.tube_cell.specs.Steps.{Watches}
@@ -248,5 +248,4 @@ tried_told law {t} {p} r true side told f g = told_more law t p told (f refl)
 tried_told law {t} {p} r false side told f g = told_learned law t p side told (g refl)
 
 pub tried_seat : (q r : Carried) (done : Bool) (t : ℕ) (looks : List Event) → (IsTrue done → r ≡ after_entrust q looks t) → (IsFalse done → Learns q r) → (r.cell ≡ q.cell) × (r.side ≡ q.side)
-tried_seat q r true t looks f g = let e = f refl in (ap (λ x. x.cell) e, ap (λ x. x.side) e)
-tried_seat q r false t looks f g = let e = (g refl).rest in (ap (λ x. x.cell) e, ap (λ x. x.side) e)
+tried_seat q r done t looks f g = grind arith

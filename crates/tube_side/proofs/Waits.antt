@@ -1,12 +1,12 @@
 -- What a load and an exchange leave of a pass while its machine waits.
-use Rattle.std.proofs.Common.{ℕ, Bool, IsTrue, IsFalse, ◌≡◌, ◌+◌, ◌<◌, ◌≤◌, ◌⊎◌, inl, inr, nat_lt, true, false, refl, sym, ◌∙◌, ap, subst, arith, List, [], ◌++◌, append-nil}
+use Rattle.std.proofs.Common.{ℕ, Bool, IsTrue, IsFalse, ◌≡◌, ◌+◌, ◌<◌, ◌≤◌, ◌⊎◌, inl, inr, true, false, refl, sym, ◌∙◌, ap, subst, arith, List, [], ◌++◌, append-nil}
 use Rattle.std.proofs.lemmas.Bool.{cases_lt}
 use Rattle.std.proofs.lemmas.Bool.Decides.{nat_tests}
 use Rattle.beeb_bits.specs.declared.Side.{Side}
 use Rattle.beeb_bits.specs.declared.Side.TheVariants.{Para}
 use Rattle.tube_chip.specs.Events.{Event, after_from}
 use Rattle.tube_cell.specs.declared.local.Readings.{Readings}
-use Rattle.tube_cell.specs.Views.{Known, one_side, other_bound, slack, Admits}
+use Rattle.tube_cell.specs.Views.{Known, one_side, other_bound, Admits}
 use Rattle.tube_cell.specs.Views.{readings_of}
 use Rattle.tube_cell.specs.Rules.{rise, Trusts}
 use Rattle.tube_cell.specs.Passes.{Carried, own_horizon, here, bound_here, after_publish, after_entrust, Learns}
@@ -18,15 +18,10 @@ pub waits : (p : Carried) → p.trusted ≡ [] → HasWaited p p
 waits p none = record { same = record { cell = refl; side = refl; trusted = none }; events = refl }
 
 pub waited_on : {p q r : Carried} → HasWaited p q → HasWaited q r → HasWaited p r
-waited_on a b = record {
-  same = record { cell = b.same.cell ∙ a.same.cell; side = b.same.side ∙ a.same.side; trusted = b.same.trusted };
-  events = b.events ∙ a.events;
-}
+waited_on a b = grind (arith, nat_tests)
 
 pub learned : {p q : Carried} → p.trusted ≡ [] → Learns p q → HasWaited p q
-learned none l =
-    let e = l.plain none in
-    record { same = record { cell = ap (λ x. x.cell) e; side = ap (λ x. x.side) e; trusted = ap (λ x. x.trusted) e ∙ none }; events = ap all_events e }
+learned h l = grind (arith, nat_tests)
 
 pub told : (p : Carried) {q : Carried} (h : ℕ) → p.trusted ≡ [] → q ≡ after_publish p h → HasWaited p q
 told p h none e = record {
@@ -41,14 +36,8 @@ learned_paid {p} {q} l =
     let e : q.higher ≡ p.higher + rise (one_side p.side) p.known q.known = ap (λ x. x.higher) l.rest in
     (ap (λ x. x.commits) l.rest, omega arith)
 
-lt_by : (a b t : ℕ) → ¬ (t ≤ a) → t ≤ b → a < b
-lt_by a b t f g = grind (arith, nat_tests)
-
 rise_one : (s : Side) (k j : Known) (t : ℕ) → ¬ Admits s (other_bound s k) t → Admits s (other_bound s j) t → rise (one_side s) k j ≡ 1
-rise_one s k j t not_yet now_is =
-    let lt : other_bound s k < other_bound s j = lt_by (other_bound s k) (other_bound s j) (t + slack s) not_yet now_is in
-    let is : nat_lt (other_bound s k) (other_bound s j) ≡ true = grind (arith, nat_tests) in
-    rw is refl
+rise_one s k j t not_yet now_is = grind (arith, nat_tests)
 
 -- a step that was not admitted is so by a risen bound
 pub rose : {p q : Carried} (t : ℕ) → p.ahead ≡ [] → p.trusted ≡ [] → Learns p q → ¬ Admits p.side (bound_here p) t → Admits q.side (bound_here q) t → q.higher ≡ p.higher + 1
@@ -75,23 +64,11 @@ here_bare p bare is = is ∙ ap (λ events. readings_of (after_from p.known.chip
 
 -- ---- what is paid on trust
 
--- where the host's word rose, so did its bound
-host_rose : {q r : Carried} → q.side ≡ Para → Learns q r → q.known.host < r.known.host → r.higher ≡ q.higher + 1
-host_rose {q} {r} side l lt =
-    ap (λ z. z.higher) l.rest ∙ ap (λ n. q.higher + n) (ap (λ z. rise (one_side z) q.known r.known) side
-    ∙ rise_one Para q.known r.known q.known.host (λ h. omega arith) (omega arith))
-
 pub learned_on_trust : (p : Carried) {q r : Carried} → q.side ≡ Para → Learns q r → IsPaidOnTrust p q → IsPaidOnTrust p r
 learned_on_trust p {q} {r} side l paid = go paid (cases_lt q.known.host r.known.host) (rw side at l.trust)
   where
-    paid_so : (r.commits ≡ q.commits) × (q.higher ≤ r.higher)
-    paid_so = learned_paid l
-
     go : IsPaidOnTrust p q → (q.known.host < r.known.host) ⊎ (r.known.host ≤ q.known.host) → Trusts Para q.known r.known → IsPaidOnTrust p r
-    go (inl x) side_of t = let y = paid_so in inl (omega arith)
-    go (inr x) (inl lt) t = let y = paid_so in let e = host_rose side l lt in inl (omega arith)
-    go (inr x) (inr le) (inl same) = let y = paid_so in inr (omega arith)
-    go (inr x) (inr le) (inr cut) = absurd (omega arith)
+    go h side_of t = grind (arith, nat_tests)
 
 -- an exchange that entrusts, or the words that it found
 pub tried_on_trust : (p : Carried) {q r : Carried} (t : ℕ) (looks : List Event) (done : Bool) → q.side ≡ Para → q.known.trust ≤ t → (IsTrue done → r ≡ after_entrust q looks t)
@@ -112,11 +89,6 @@ passed_paid p q le (inr x) = absurd (omega arith)
 pub still_learnt : (p : Carried) {q r : Carried} (t : ℕ) → q.side ≡ Para → HasOnlyLearnt t p q → Learns q r → HasOnlyLearnt t p r
 still_learnt p {q} {r} t side learnt l = ((learned_paid l).0 ∙ learnt.0, go learnt.1 (cases_lt q.known.host r.known.host))
   where
-    up : q.higher ≤ r.higher
-    up = (learned_paid l).1
-
     go : (p.higher < q.higher) ⊎ ((p.higher ≤ q.higher) × (q.known.host < t)) → (q.known.host < r.known.host) ⊎ (r.known.host ≤ q.known.host)
         → (p.higher < r.higher) ⊎ ((p.higher ≤ r.higher) × (r.known.host < t))
-    go (inl lt) side_of = let y = up in inl (omega arith)
-    go (inr z) (inl lt) = let e = host_rose side l lt in let a = z.0 in inl (omega arith)
-    go (inr z) (inr le) = let y = up in inr (omega arith)
+    go h side_of = grind (arith, nat_tests)

@@ -30,8 +30,8 @@ pub record HasTrusted (w : Way) (t : ℕ) (p q : Carried) : Type 0 where
   pub base : past_last (all_events p) ≤ w.tick
   pub trusting : IsTrusting w (all_events p) q
 
--- And the host has passed the trust that stands: what lies below it is on the list for good, nothing is on trust, and the pass's horizon is no later than the trust, or
--- the tick where the way began.
+-- And the host has passed the trust that stands. What lies below it is on the list for good, nothing is on trust, and the pass's horizon is no later than
+-- the trust, or the tick where the way began.
 pub record HasPassed (w : Way) (t : ℕ) (p q : Carried) : Type 0 where
   pub told : HasTrusted w t p q
   pub trusted : q.trusted ≡ []

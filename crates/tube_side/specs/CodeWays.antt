@@ -13,7 +13,7 @@ pub record Way : Type 0 where
   pub readings : Readings
   pub until : ℕ → List Event
 
--- What is observed below a tick lies below it, and is the beginning of what is observed below a later one; before the way begins there is nothing; and all are
+-- What is observed below a tick lies below it, and is the beginning of what is observed below a later one. Before the way begins there is nothing. All are
 -- observations of each chip that shows the same.
 pub record IsWay (w : Way) : Type 0 where
   pub low : (t : ℕ) → AllBelow t (w.until t)

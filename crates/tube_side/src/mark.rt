@@ -12,7 +12,7 @@ pub struct Mark {
     pub readings: Readings,
 }
 
-/// The way ahead of a run. Each call picks it.
+/// The way ahead of a run. No value of it exists: the proof of a call says which way it is. `Brand` is what the call's code writes for it.
 pub trait Ahead {
     ghost use Rattle.tube_side.specs.CodeWays.{Way};
 

@@ -4,14 +4,14 @@ use std::hint;
 use std::sync::Wait;
 use tube_cell::{Bell, TubeCell};
 
-// How often a side looks at its bell before it sleeps, some tenths of a millisecond, and where the other side was let on and did not go on yet: it may be
-// about to wake. It does not give its processor to another thread awake: beside other work that takes it away for milliseconds.
+// How often a side looks at its bell before it sleeps: some tenths of a millisecond, and longer where the other side may go on and did not yet, since it
+// may be about to wake. Between its looks it does not yield its processor to another thread: beside other work that would cost milliseconds.
 const LOOKS: u32 = 8_000;
 
 const PATIENT_LOOKS: u32 = 30_000;
 
-// Where so many waits in turn were too long for all looks, both sides may have one processor: then so many waits do not look, and twice as many as the last
-// time where the wait after them is too long again.
+// After so many waits in turn that were too long for all looks, both sides may share one processor. Then so many waits sleep without a look, and twice as
+// many as the last time where the wait after them is too long again.
 const TOO_LONG: u32 = 3;
 
 const FEWEST_BLIND: u32 = 8;

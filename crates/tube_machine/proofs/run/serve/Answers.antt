@@ -31,7 +31,7 @@ loop-due-preserved g c =
       noted = c.go_whole.ensures.noted ∙ c.ask_whole-asked.ensures.noted c.loop-due.notes ∙ c.loop-due.invariant.noted;
       spent = λ sure high. spent-on
           (spent-whole 0 (c.loop-due.invariant.spent sure high) (omega arith) (omega (arith, c.ask_whole-asked.ensures.low)) (omega (arith, c.ask_whole-asked.ensures.high, high)))
-          (rw (← asked.cycle) at (c.go_whole.ensures.spends sure high));
+          (rw (← asked.alike.cycle) at (c.go_whole.ensures.spends sure high));
     }
 
 pub returns-clause-served : goal.returns-clause-served
