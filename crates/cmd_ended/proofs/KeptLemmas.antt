@@ -16,6 +16,7 @@ use Rattle.tube_chip.specs.State.{State}
 use Rattle.tube_chip.specs.Act.{Query, access, act}
 use Rattle.tube_chip.specs.Events.{Event, IsBefore, Rises, RisesAfter, IsAnsweredFrom, merge, of_side, is_side}
 use Rattle.tube_chip.specs.Laws.{RisingListIsMerge}
+use Rattle.tube_chip.proofs.Merged.{rises_tail}
 use Rattle.tube_trace.specs.declared.Entry.{Entry}
 use Rattle.tube_trace.specs.Entries.{IsEntry, entry_of, event_of, events_of, accesses}
 use Rattle.tube_trace.specs.Merge.{IsOfSide, of_both}
@@ -97,12 +98,8 @@ own_rises_after s x [] rises = tt
 own_rises_after s x (e ∷ es) rises =
     after_one (is_side s e.side) x e (of_side s es) rises.0 (own_rises_after s e es rises.1) (own_rises_after s x es (past x e es rises.0 rises.1))
 
-pub rest_rises : (x : Event) (es : List Event) → RisesAfter x es → Rises es
-rest_rises x [] rises = tt
-rest_rises x (e ∷ es) rises = rises.1
-
 from_one : (t : Bool) (e : Event) (own : List Event) → RisesAfter e own → Rises (cond t (e ∷ own) own)
-from_one t e own rises = grind (arith, rest_rises)
+from_one t e own rises = grind (arith, rises_tail)
 
 own_rises : (s : Side) (es : List Event) → Rises es → Rises (of_side s es)
 own_rises s [] rises = tt

@@ -9,6 +9,7 @@ use Rattle.beeb_bits.specs.declared.Side.{Side}
 use Rattle.tube_chip.specs.State.{State, power_on}
 use Rattle.tube_chip.specs.Act.{act, access}
 use Rattle.tube_chip.specs.Events.{Rises, RisesAfter, IsAnsweredFrom}
+use Rattle.tube_chip.proofs.Merged.{rises_tail}
 use Rattle.tube_trace.specs.declared.Entry.{Entry}
 use Rattle.tube_trace.specs.Entries.{IsEntry, event_of, events_of}
 use Rattle.tube_trace.specs.Text.{HasLine}
@@ -19,7 +20,7 @@ use Rattle.save_state.specs.Saved.{Session}
 use Rattle.save_state.specs.File.{IsSession}
 use Rattle.save_state.proofs.Again.{keeps_rules}
 use Rattle.cmd_ended.specs.Save.{saved_tick, saved_of}
-use Rattle.cmd_ended.proofs.KeptLemmas.{Below, rest_rises, events_take, all_lines}
+use Rattle.cmd_ended.proofs.KeptLemmas.{Below, events_take, all_lines}
 
 -- ---- of entries, each before the next, those below a tick are the first
 
@@ -29,7 +30,7 @@ not_sooner a b x y h = grind (arith, nat_tests)
 drop_rises : (i : ℕ) (xs : List Entry) → Rises (events_of xs) → Rises (events_of (drop i xs))
 drop_rises zero xs rises = rises
 drop_rises (suc i) [] rises = tt
-drop_rises (suc i) (x ∷ xs) rises = drop_rises i xs (rest_rises (event_of x) (events_of xs) rises)
+drop_rises (suc i) (x ∷ xs) rises = drop_rises i xs (rises_tail (event_of x) (events_of xs) rises)
 
 none_after : (t : ℕ) (x : Entry) (xs : List Entry) → t ≤ (x.tick).0 → RisesAfter (event_of x) (events_of xs) → entries_below t xs ≡ []
 none_after t x [] late rises = refl

@@ -8,6 +8,7 @@ use Rattle.std.proofs.lemmas.Bool.Decides.{nat_tests}
 use Rattle.beeb_bits.specs.Order.{before}
 use Rattle.beeb_bits.specs.declared.Side.{Side}
 use Rattle.tube_chip.specs.Events.{Rises, RisesAfter}
+use Rattle.tube_chip.proofs.Merged.{rises_tail}
 use Rattle.tube_trace.specs.declared.Entry.{Entry}
 use Rattle.tube_trace.specs.Entries.{accesses, event_of, events_of}
 use Rattle.tube_trace.specs.Text.{HasLine}
@@ -16,7 +17,6 @@ use Rattle.tube_party.specs.Reference.{reference, IsTraceBelow, ReferenceIsTrace
 use Rattle.tube_party.specs.ReplayLaws.{ReferenceIsReplayed}
 use Rattle.tube_party.specs.GoingOn.{entries_below, ShorterRunIsBeginning}
 use Rattle.tube_party.proofs.Begun.{below_none}
-use Rattle.tube_party.proofs.Replayed.{rises_tail}
 use Rattle.save_state.specs.Saved.{Session}
 use Rattle.save_state.specs.File.{IsSession}
 use Rattle.save_state.specs.Resume.{last_tick, moment_of, IsResumed, SavedRunIsResumed}

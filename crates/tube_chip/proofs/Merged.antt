@@ -34,9 +34,9 @@ RisesAfter-first e (f ∷ events) rises =
     let here : first_tick e.side e.tick ≤ f.tick = before-first e.tick f.tick e.side f.side rises.0 in
     (here, AllFrom-lower _ _ events (first-le f.side _ f.tick here) (RisesAfter-first f events rises.1))
 
-RisesAfter-Rises : (e : Event) (events : List Event) → RisesAfter e events → Rises events
-RisesAfter-Rises e [] rises = tt
-RisesAfter-Rises e (f ∷ events) rises = rises.1
+pub rises_tail : (e : Event) (events : List Event) → RisesAfter e events → Rises events
+rises_tail e [] rises = tt
+rises_tail e (f ∷ events) rises = rises.1
 
 AllFrom-side : (n : ℕ) (side : Side) (events : List Event) → AllFrom n events → AllFrom n (of_side side events)
 AllFrom-side n side [] all = tt
@@ -69,4 +69,4 @@ pub merge-sides : RisingListIsMerge
 merge-sides [] rises = refl
 merge-sides (e ∷ events) rises =
     merge-cons e e.side events (RisesAfter-first e events rises)
-    ∙ ap (λ rest. e ∷ rest) (merge-sides events (RisesAfter-Rises e events rises))
+    ∙ ap (λ rest. e ∷ rest) (merge-sides events (rises_tail e events rises))

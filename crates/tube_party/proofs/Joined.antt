@@ -12,14 +12,16 @@ use Rattle.tube_chip.specs.declared.Op.{Op}
 use Rattle.tube_chip.specs.State.{State, lines_of}
 use Rattle.tube_chip.specs.Act.{Query, access, look, act}
 use Rattle.tube_chip.specs.Events.{Event, IsBefore, Rises, RisesAfter, IsAnsweredFrom, after_from, merge, is_side}
+use Rattle.tube_chip.proofs.Merged.{rises_tail}
 use Rattle.tube_trace.specs.declared.Entry.{Entry}
 use Rattle.tube_trace.specs.Entries.{entry_of, accesses, event_of, events_of}
+use Rattle.tube_trace.proofs.MergeLemmas.{accesses_back}
 use Rattle.tube_party.specs.Moves.{Moves, IsLawful}
 use Rattle.tube_party.specs.Replay.{chip_before}
 use Rattle.tube_party.proofs.Runs.{event, IsOf, Steps, Over, Silent, Asking}
 use Rattle.tube_party.proofs.Listed.{before-then}
 use Rattle.tube_party.proofs.Followed.{side_self}
-use Rattle.tube_party.proofs.Replayed.{own, On, tail_by, all_after, rises_tail}
+use Rattle.tube_party.proofs.Replayed.{own, On, tail_by, all_after}
 use Rattle.tube_party.proofs.Replayed.{placed}
 use Rattle.tube_party.proofs.Meet.{merge_first, merge_second}
 
@@ -28,10 +30,6 @@ own_first side x trace is = rw (ap (is_side side) is ∙ side_self side) refl
 
 own_other : (side : Side) (x : Entry) (trace : List Entry) → is_side side x.side ≡ false → own side (x ∷ trace) ≡ own side trace
 own_other side x trace is = rw is refl
-
-pub accesses_events : (xs : List Entry) → accesses (events_of xs) ≡ xs
-accesses_events [] = refl
-accesses_events (x ∷ xs) = ap (λ l. x ∷ l) (accesses_events xs)
 
 -- Events of one side, each before the next, whose accesses are the side's entries of a trace, and whose looks it answers, from chip c on.
 pub record IsPart (side : Side) (c : State) (trace : List Entry) (l : List Event) : Type 0 where
@@ -60,7 +58,7 @@ ahead_of_accesses x l all = placed (λ t side. IsTrue (before x.tick x.side t si
 -- an entry comes before all that stand behind it
 behind_entry : (e : Entry) (trace : List Entry) → RisesAfter (event_of e) (events_of trace) → All (IsAhead (event_of e)) trace
 behind_entry e trace rises =
-    rw (accesses_events trace) at (ahead_of_accesses (event_of e) (events_of trace) (all_after (event_of e) (events_of trace) rises))
+    rw (accesses_back trace) at (ahead_of_accesses (event_of e) (events_of trace) (all_after (event_of e) (events_of trace) rises))
 
 -- a look before all entries sees the chip as it is
 chip_stays : (x : Event) (c : State) (trace : List Entry) → IsAheadOf x trace → chip_before x.side x.tick c trace ≡ c

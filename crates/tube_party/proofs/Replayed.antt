@@ -11,6 +11,7 @@ use Rattle.tube_chip.specs.declared.Answer.TheVariants.{Seen}
 use Rattle.tube_chip.specs.State.{State, power_on, lines_of}
 use Rattle.tube_chip.specs.Act.{Query, access, look, act}
 use Rattle.tube_chip.specs.Events.{Event, IsBefore, Rises, RisesAfter, IsAnsweredFrom, IsLegal, of_side, is_side}
+use Rattle.tube_chip.proofs.Merged.{rises_tail}
 use Rattle.tube_trace.specs.declared.Entry.{Entry}
 use Rattle.tube_trace.specs.Entries.{entry_of, accesses}
 use Rattle.tube_party.specs.Moves.{Moves, IsLawful, Follows, FitsAnswer}
@@ -115,10 +116,6 @@ pub all_after : (e : Event) (l : List Event) → RisesAfter e l → All (IsBefor
 all_after e [] h = All-nil (IsBefore e)
 all_after e (f ∷ l) h =
     All-cons (IsBefore e) f l h.0 (All-weaker (IsBefore f) (IsBefore e) (λ g on. before-then e.tick f.tick g.tick e.side f.side g.side h.0 on) l (all_after f l h.1))
-
-pub rises_tail : (e : Event) (l : List Event) → RisesAfter e l → Rises l
-rises_tail e [] h = tt
-rises_tail e (f ∷ l) h = h.1
 
 looks : (c : State) (l : List Event) → Rises l → IsAnsweredFrom c l → All (On c (accesses l)) l
 looks c [] rises is = All-nil (On c [])

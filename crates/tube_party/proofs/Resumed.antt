@@ -9,6 +9,7 @@ use Rattle.tube_chip.specs.Act.{Query, access, look, act}
 use Rattle.tube_chip.specs.Events.{Event, merge, after}
 use Rattle.tube_trace.specs.declared.Entry.{Entry}
 use Rattle.tube_trace.specs.Entries.{accesses, events_of}
+use Rattle.tube_trace.proofs.MergeLemmas.{accesses_back}
 use Rattle.tube_party.specs.Moves.{Moves, IsLawful, close_leaves}
 use Rattle.tube_party.specs.ReplayLaws.{IsAnsweredBy, FollowsTrace}
 use Rattle.tube_party.specs.Reference.{Seat, World, step_if_due, tick, ticks, start, close_both_leaves, reference, IsTraceBelow}
@@ -20,7 +21,7 @@ use Rattle.tube_party.proofs.FollowingLemmas.{replay_following}
 use Rattle.tube_party.proofs.Followed.{so_far}
 use Rattle.tube_party.proofs.Replayed.{own, own_all, own_of_accesses, On, IsAnsweredOn}
 use Rattle.tube_party.proofs.Early.{SameAccesses, same_after, alike, like_on}
-use Rattle.tube_party.proofs.Joined.{accesses_events, IsPart, IsJoined, joined, line_of_runs}
+use Rattle.tube_party.proofs.Joined.{IsPart, IsJoined, joined, line_of_runs}
 
 -- ---- States that go on alike
 
@@ -126,7 +127,7 @@ part_of m lawful side trace at s u legal f =
 
 same_by_accesses : (l : List Event) (trace : List Entry) → accesses l ≡ trace → SameAccesses l (events_of trace)
 same_by_accesses l trace same side =
-    own_of_accesses side l ∙ ap (own side) (same ∙ sym (accesses_events trace)) ∙ sym (own_of_accesses side (events_of trace))
+    own_of_accesses side l ∙ ap (own side) (same ∙ sym (accesses_back trace)) ∙ sym (own_of_accesses side (events_of trace))
 
 module _ {S T : Type 0} (h : Moves S) (p : Moves T) (lh : IsLawful h) (lp : IsLawful p) (s u : S) (t v : T) (entries : List Entry) (at : ℕ) (is : IsBroughtBack h p entries at s u t v) where
   host_follows : FollowsTrace h Host entries at s u

@@ -10,13 +10,14 @@ use Rattle.tube_chip.specs.declared.Answer.TheVariants.{Byte, Seen}
 use Rattle.tube_chip.specs.State.{State, power_on}
 use Rattle.tube_chip.specs.Act.{Query, access, look, act}
 use Rattle.tube_chip.specs.Events.{Event, Rises, RisesAfter, IsAnsweredFrom, of_side, is_side}
+use Rattle.tube_chip.proofs.Merged.{rises_tail}
 use Rattle.tube_trace.specs.declared.Entry.{Entry}
 use Rattle.tube_trace.specs.Entries.{IsEntry, entry_of, accesses, events_of}
 use Rattle.tube_party.specs.Moves.{Moves, IsLawful, MayAsk}
 use Rattle.tube_party.specs.Reference.{World, reference, ReferenceIsTrace}
 use Rattle.tube_party.proofs.Runs.{event, Steps, Over, Silent, Asking, steps_of}
 use Rattle.tube_party.proofs.Followed.{followed, all_earlier}
-use Rattle.tube_party.proofs.Replayed.{placed, all_below, all_after, rises_tail}
+use Rattle.tube_party.proofs.Replayed.{placed, all_below, all_after}
 
 -- the side of the event may ask for it
 abbrev May : Event → Type 0
