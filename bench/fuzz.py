@@ -9,8 +9,8 @@ they say which status and text has to come, and which files have to stand; sessi
 listings. Besides: no signal, no call above 20 seconds, nothing written with the statuses 1 to 4, 6 and 8; `check` of what `solo` wrote says `ok` and
 its number of accesses; both replays of it do the same; `run` writes the same files; a session that was saved has the bytes that it has to, and is
 taken up again below, at and above its moment, and once more from there; `resume` says what `check` and both replays say of the entries (where `solo`
-makes just these, they are asked of a share only), and writes what `solo` writes; `follow` says what the replay says, and its lines are what replays
-that end there tell; `asm` of what `dis` wrote gives its bytes; the same words twice give the same bytes. The program is loaded once and goes on in
+makes just these, they are asked of a share only), and writes what `solo` writes; `follow` says what the replay says, its lines are what replays
+that end there tell, and its counts are those of the whole listing; `asm` of what `dis` wrote gives its bytes; the same words twice give the same bytes. The program is loaded once and goes on in
 copies (calls.py), but for the second time of the same words, which loads it anew; what is asked besides an input goes on in the copy of that input.
 
 What differs is printed with its number, made smaller, and put into a folder of --finds (./finds) with its files and a script `again` that calls
@@ -66,6 +66,7 @@ OPTIONS = {
     "--disc0": (HOSTS, "file"),
     "--disc1": (HOSTS, "file"),
     "--keys": (HOSTS, "file"),
+    "--points": (LISTS, "file"),
     "--plugs": (HOSTS, (0, 8)),
     "--keep": (RUNS, (0, 4194304)),
     "--speed": (MACHINES, ("3", "4")),
@@ -75,9 +76,10 @@ OPTIONS = {
     "--watch": (LISTS, "address"),
     "--from": (LISTS, (0, MOST_TICKS)),
     "--no-tube": (ALONE, "flag"),
+    "--counts": (LISTS, "flag"),
 }
-CHOICES = ("--at", "--watch", "--from")  # the options of `follow` that `replay` does not take
-CAPS = {"trace": 100663296, "source": 4194304, "state": 33554432}
+CHOICES = ("--at", "--points", "--watch", "--from", "--counts")  # the options of `follow` that `replay` does not take
+CAPS = {"trace": 100663296, "source": 4194304, "state": 33554432, "--points": 327680}
 CAP = 1048576
 NAMED = ("--wav", "--save")  # the options that name an output, in its order
 NEEDED = {taker: tuple(option for option, takers in (("--os", HOSTS), ("--tube", PARAS)) if taker in takers) for taker in MACHINES + RUNS}
@@ -102,6 +104,11 @@ def is_name(word):
 
 def is_address(word):
     return ADDRESS.fullmatch(word) is not None
+
+
+def is_there(choices, pc):
+    """Whether an address is chosen."""
+    return choices.get("--at", pc) == pc and pc in choices.get("--points", (pc,))
 
 
 class Words:
@@ -157,7 +164,7 @@ class Words:
                 if not fits:
                     return
                 self.values[option] = value
-            if any(option not in self.values for option in NEEDED[self.taker]):
+            if any(option not in self.values for option in NEEDED[self.taker]) or {"--at", "--points"} <= set(self.values):
                 return
         self.good = True
 
@@ -244,6 +251,16 @@ def script_of(text):
     return None, shots
 
 
+def points_of(text):
+    """The addresses of a file, or the number of its first line that is outside the form or does not rise."""
+    points = []
+    for place, line in enumerate(re.findall(rb"[^\n]*\n|[^\n]+", text), 1):
+        if not re.fullmatch(rb"[0-9A-F]{4}\n", line) or (points and int(line, 16) <= points[-1]):
+            return place
+        points.append(int(line, 16))
+    return points
+
+
 def content(name, cap):
     """The bytes of a file, of one that is longer than `cap` one more, or nothing where it cannot be read."""
     try:
@@ -328,6 +345,9 @@ def expected(words, laid):
     line, shots = script_of(session.parts.get("--keys", b""))
     if line is not None:
         return Expected((4, b"bad script %d" % line))
+    points = points_of(files.get("--points", b""))
+    if isinstance(points, int):
+        return Expected((4, b"bad points %d" % points))
     may = []
     if words.command in ("check", "replay", "follow", "resume"):
         may.append((8, None))
@@ -357,7 +377,7 @@ def outputs_of(words, session, shots):
     if words.command in ("asm", "dis"):
         return [out]
     if words.command == "follow":
-        return [out + b".list"]
+        return [out + b".list"] + [out + b".counts"] * ("--counts" in words.values)
     ends = [b".report"]
     if words.taker != "replay para":
         ends.append(b".host")
@@ -672,6 +692,12 @@ class Judge:
         choices = {option: int(words.values[option], 16) for option in ("--at", "--watch") if option in words.values}
         if "--from" in words.values:
             choices["--from"] = int(words.values["--from"])
+        if "--points" in words.values:
+            choices["--points"] = set(points_of(files[words.values["--points"]]))
+        if "--counts" in words.values and len(every) < listing.MOST_LINES:
+            counted = listing.counts_text(every, words.alone["ticks"], choices.get("--from", 0))
+            if content(outputs[1], 2**30) != counted:
+                raise Differs("counts: other than those of the listing")
         if choices:
             self.look_at_choice(words, found, every, choices, played)
         elif found != every:
@@ -708,17 +734,17 @@ class Judge:
         """The lines are those of all that are chosen: by their tick, by their address, and by a byte of memory that changed since the start before."""
         early = choices.get("--from", 0)
         if "--watch" not in choices:
-            if found != tuple(line for line in every if line[0] >= early and choices.get("--at", line[1].pc) == line[1].pc):
+            if found != tuple(line for line in every if line[0] >= early and is_there(choices, line[1].pc)):
                 raise Differs("choice: other lines")
             return
-        if any(tick < early or start.pc != choices.get("--at", start.pc) for tick, start in found):
+        if any(tick < early or not is_there(choices, start.pc) for tick, start in found):
             raise Differs("choice: a line at another address or tick")
         if not set(found) <= set(every) or (every and every[0] in found):
             raise Differs("choice: lines that are not of the listing, or the first")
         known = choices["--watch"] < (0x8000 if words.alone["side"] == b"host" else 0xF800)
         places = {every.index(line) for line in found[:1]} | {len(every) // 2, len(every) - 1}
         for place in places if known else []:
-            if place > 0 and every[place][0] >= early and choices.get("--at", every[place][1].pc) == every[place][1].pc:
+            if place > 0 and every[place][0] >= early and is_there(choices, every[place][1].pc):
                 before, here = (self.at(played, every[n][0])[2][choices["--watch"]] for n in (place - 1, place))
                 if (before != here) != (every[place] in found):
                     raise Differs("choice: at %010X the byte was %02X and is %02X" % (every[place][0], before, here))
@@ -1123,12 +1149,26 @@ def of_replay(r, base, command=b"replay", whole=0.3):
     return put_options(r, words, options), files
 
 
+def some_points(r, low):
+    """A file of addresses, sometimes with a line that is outside the form or does not rise."""
+    points = sorted(r.sample(range(low, low + 0x100), r.choice((0, 1, 5, 100, 200))) + r.sample(range(low), r.randrange(20)))
+    lines = [b"%04X\n" % point for point in points]
+    if lines and r.random() < 0.1:
+        lines[r.randrange(len(lines))] = r.choice((b"", b"\n", b"%04x\n" % 0xABCD, b"C000", b"0C000\n", b"C000\r\n", lines[0], b"G000\n", b"\xff"))
+    return b"".join(lines)
+
+
 def of_follow(r, base):
     words, files = of_replay(r, base, b"follow", 0.8)
     low = 0xC000 if b"--os" in words else 0xF800
     options = []
     if r.random() < 0.3:
         options.append((b"--at", b"%04X" % r.choice((low, low + r.randrange(0x40), low + r.randrange(0x100), 0xFEF8, 0, r.randrange(65536)))))
+    if r.random() < (0.02 if options else 0.3):
+        options.append((b"--points", b"points"))
+        files[b"points"] = some_points(r, low)
+    if r.random() < 0.5:
+        options.append((b"--counts",))
     if r.random() < 0.3:
         options.append((b"--watch", b"%04X" % r.choice((0x70, 0x71, 0x80, 0x100 + r.randrange(256), low, 0x7C00 + r.randrange(1000), 0xFC00, 0xFEF8, 0xFF00, 0xFFFF, r.randrange(65536)))))
     if r.random() < 0.3:

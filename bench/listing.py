@@ -40,6 +40,30 @@ def lines_of(text):
     return tuple(zip([int(line[:10], 16) for line in lines], starts))
 
 
+# The opcodes of the conditional branches, and the bit of P and its value where the condition holds.
+BRANCHES = {"BPL": (0x10, 0x80, 0), "BMI": (0x30, 0x80, 0x80), "BVC": (0x50, 0x40, 0), "BVS": (0x70, 0x40, 0x40),
+            "BCC": (0x90, 0x01, 0), "BCS": (0xB0, 0x01, 0x01), "BNE": (0xD0, 0x02, 0), "BEQ": (0xF0, 0x02, 0x02)}
+CONDITIONS = {**{name: flag[1:] for name, flag in BRANCHES.items()}, **{"byte &%02X" % flag[0]: flag[1:] for flag in BRANCHES.values()}}
+
+
+def counts_text(lines, ticks, early):
+    """What `--counts` counts of the starts of a whole listing from a tick on, in a run of so many ticks."""
+    found = {}
+    for (tick, start), after in zip(lines, [tick for tick, _ in lines[1:]] + [ticks]):
+        if tick < early:
+            continue
+        count = found.setdefault(start.pc, [0, 0])
+        count[0] += 1
+        count[1] += after - tick
+        name = start.text if start.text.startswith("byte") else start.text.partition(" ")[0]
+        if name in CONDITIONS:
+            bit, value = CONDITIONS[name]
+            if len(count) < 3:
+                count.append(0)
+            count[2] += int(start.registers[-2:], 16) & bit == value
+    return b"".join(b"%04X %s\n" % (pc, b" ".join(b"%d" % number for number in count)) for pc, count in sorted(found.items()))
+
+
 def form_fault(lines, ticks):
     """What is wrong with the ticks of lines, or nothing: they rise, and are below those of the run; no instruction starts before a reset is over."""
     found = [2 * SEQUENCE - 1] + [tick for tick, _ in lines] + [ticks]

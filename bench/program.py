@@ -13,7 +13,7 @@ ERRORS = {
     1: rb"usage\n",
     2: rb"(cannot read|too long) .+\n",
     3: rb"bad image (image|os|tube|rom([0-9]|1[0-5])|font|disc[01]) [0-9]+\n",
-    4: rb"bad ((script|trace|source) [1-9][0-9]*|state (0|[1-9][0-9]*))\n",
+    4: rb"bad ((script|points|trace|source) [1-9][0-9]*|state (0|[1-9][0-9]*))\n",
     5: rb"cannot write .+\n",
     6: rb"no thread\n",
     7: rb"no memory\n",

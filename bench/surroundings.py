@@ -8,7 +8,7 @@ bytes of it are there (SIGXFSZ of a file's longest length), and fifty times by S
 was as before, was the new one, and was neither; the last differs.
 
 Prints a line for each case that differs, one for each that is known to, one for each that was skipped, and the counts; --all prints every case,
-and --page the tables of docs/FILES.md. The exit status is 1 where a case differs. As root it calls the program as another user too (setpriv) and mounts a small disk; else
+and --page the tables of docs/FILES-CASES.md. The exit status is 1 where a case differs. As root it calls the program as another user too (setpriv) and mounts a small disk; else
 those cases are skipped."""
 import os
 import re
@@ -146,7 +146,7 @@ def tell_cases():
     add(group, "a device with nothing", ["check", "/dev/null"], 0, out="ok 0\n")
     add(group, "a device without an end", ["dis", "6502", "/dev/zero", "0000", "text"], 2, "too long /dev/zero")
     add(group, "a socket", ["check", "socket"], 2, "cannot read socket", before=a_socket)
-    add(group, "a file of which the system tells no length", ["asm", "6502", "/proc/version", "image"], 4, "bad source 1")
+    add(group, "a file whose length the system does not give", ["asm", "6502", "/proc/version", "image"], 4, "bad source 1")
 
     group = "Empty and long inputs"
     add(group, "an empty trace", ["check", "empty"], 0, out="ok 0\n")
@@ -190,7 +190,7 @@ def tell_cases():
     add(group, "a missing name with a line feed", ["check", "two\nlines"], 2, "cannot read two\nlines")
     add(group, "a name with blanks", ["asm", "6502", "small.asm", "a b "], 0, changed={"a b ": "small"})
     add(group, "a name that begins with `-`", ["asm", "6502", "small.asm", "-out"], 1, "usage")
-    add(group, "the same behind `./`", ["asm", "6502", "small.asm", "./-out"], 0, changed={"-out": "small"})
+    add(group, "the same after `./`", ["asm", "6502", "small.asm", "./-out"], 0, changed={"-out": "small"})
     add(group, "a name of 255 bytes", ["asm", "6502", "small.asm", "n" * 255], 0, changed={"n" * 255: "small"}, page="asm 6502 small.asm NAME")
     add(group, "one byte more", ["asm", "6502", "small.asm", "n" * 256], 5, "cannot write " + "n" * 256, page="asm 6502 small.asm NAME")
     add(group, "outputs whose names are too long", solo("n" * 249), 5, "cannot write " + "n" * 249 + ".report", page="solo 2000 NAME --os os --tube tube")
@@ -357,11 +357,28 @@ def tell_session_cases():
         page="follow host good.trace 2000 NAME --os os")
     add(group, "more lines than it may have", ("follow", "para", "empty", "6291471", "out", "--tube", "loop"), 0, out="listed 1048576 of 1048577\n",
         changed={"out.list": lambda text: text.count(b"\n") == 1048576 and text.endswith(b"\n0000600008 F800 A=00 X=00 Y=00 S=FD P=24 JMP &F800\n")}, memory=600)
+    add(group, "what is counted, over a longer file", follow("good.trace", "--counts"), 0, out=told, changed={**listed, "out.counts": is_counted},
+        before=put("out.counts", b"\xaa" * 100000))
+    add(group, "what is counted, where that is a folder", follow("good.trace", "--counts"), 5, "cannot write out.counts", changed=listed,
+        before=lambda: os.mkdir("out.counts"))
+    add(group, "all addresses", follow("good.trace", "--points", "points"), 0, out=told, changed=listed, before=put("points", ALL_POINTS))
+    add(group, "one byte more", follow("good.trace", "--points", "points"), 2, "too long points", before=put("points", ALL_POINTS + b"0"))
+    add(group, "no addresses", follow("good.trace", "--points", "empty"), 0, out="listed 0 of 0\n", changed={"out.list": b""})
+    add(group, "addresses without a last line feed", follow("good.trace", "--points", "points"), 4, "bad points 2", before=put("points", b"C000\nC001"))
     add(group, "20 GB of 00 as the trace", follow("long"), 2, "too long long", before=put("long", length=BIG), memory=250)
 
 
 def resume(state, *options, out="out", ticks="2000"):
     return ("resume", state, ticks, out) + options
+
+
+ALL_POINTS = b"".join(b"%04X\n" % point for point in range(65536))
+
+
+def is_counted(text):
+    """The starts of 207 lines, and the ticks from the first of them to the end."""
+    counts = [line.split() for line in text.split(b"\n")[:-1]]
+    return [sum(int(count[place]) for count in counts) for place in (1, 2)] == [207, 2000 - 21]
 
 
 def follow(trace, *options, out="out"):
@@ -604,7 +621,7 @@ class Moments:
 
     def told(self):
         beside = ", ".join("`%s`" % name for name in sorted(self.beside)) or "nothing"
-        return "%d moments: %s; beside it was left: %s" % (2 * MOMENTS, ", ".join("%s %d" % (what, count) for what, count in self.counts.items()), beside)
+        return "%d moments: %s;\nbeside it was left: %s" % (2 * MOMENTS, ", ".join("%s %d" % (what, count) for what, count in self.counts.items()), beside)
 
 
 def try_moments(path, work):
@@ -672,7 +689,7 @@ def main():
             if page:
                 if case.group != group:
                     group = case.group
-                    print("\n### %s\n\n| What | Words | Promised | Changed | Done |\n|---|---|---|---|---|" % group)
+                    print("\n### %s\n\n| What | Arguments | Promised | Changed | Done |\n|---|---|---|---|---|" % group)
                 promised = case.page if case.status is None else end_of(case.status, case.err) + (", `%s`" % case.out.decode().strip() if case.out else "")
                 done = "; ".join(faults) if faults else "the same"
                 if case.known and not faults:
@@ -689,7 +706,7 @@ def main():
         if page:
             print("\n### Ended in the midst of it\n\nA session that is saved over itself, %s." % moments.told())
         elif moments.counts["neither"] or show:
-            print("%s: a session that is saved over itself, %s" % ("differs" if moments.counts["neither"] else "as wanted", moments.told()))
+            print("%s: a session that is saved over itself, %s" % ("differs" if moments.counts["neither"] else "as wanted", moments.told().replace("\n", " ")))
     finally:
         os.chdir("/")
         if os.path.ismount(work + "/at/disk"):

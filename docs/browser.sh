@@ -17,7 +17,7 @@ if [ -z "$browser" ]; then
     exit 77
 fi
 [ -z "$folder" ] || { mkdir -p "$folder" && folder=$(cd "$folder" && pwd); } || exit 1
-work=$(mktemp -d)
+work=$(mktemp -d) || exit 1
 trap 'rm -rf "$work"' EXIT
 cd "$work" || exit 1
 passed=0 failed=0
@@ -229,7 +229,7 @@ compare 'the sheet: with and without frames differ' yes "$(cmp -s sheet.png shee
 link=$(grep -o 'href="runs/[0-9a-f]*.html">typed' results/index.html | cut -d'"' -f2)
 opened "results/$link" 'shot-on'
 whole 'a page of the sheet'
-compare 'its name' typed "$(inside title | cut -d: -f1)"
+compare 'its name' Run "$(inside title | cut -d' ' -f1)"
 wants 'its shot' shot-told 'Screen of shot 1, at 0.800 s; down: SHIFT'
 
 # --- Pictures ---

@@ -28,6 +28,7 @@ TEXTS = {
     "--disc0": ("IMAGE", "the disc in drive 0: a DSD where the name ends in .dsd, else an SSD"),
     "--disc1": ("IMAGE", "the disc in drive 1"),
     "--keys": ("SCRIPT", "the key script: keys, shots, BREAK and the converter's levels"),
+    "--points": ("FILE", "only instructions at the addresses of this file: on each line four upper-case hexadecimal digits, rising"),
     "--plugs": ("N", "the first N devices on the 1 MHz bus: with 1 a RAM card, with 2 a printer's latch too"),
     "--keep": ("K", "how many accesses to the Tube the trace has at most; 1,048,576 without it"),
     "--speed": ("MHZ", "the second processor's clock; 3 without it"),
@@ -39,6 +40,8 @@ TEXTS = {
                        "listed or not"),
     "--no-tube": (None, "nothing answers at FEE0 to FEFF: a read there gives FE, a write does nothing, BREAK makes no access; the trace "
                         "must be empty (bad trace 1 otherwise): a Model B alone"),
+    "--counts": (None, "writes OUT.counts too: for each address how many instructions start there, their ticks, and how often the condition "
+                       "of a branch holds"),
 }
 
 COMMANDS = [
@@ -67,6 +70,7 @@ OUTPUTS = [
     ("the FILE of --wav", "the sound: one channel of 16 bits, 31,250 samples a second"),
     ("the FILE of --save", "the session: all images, the script, and the accesses to the Tube that are kept"),
     ("OUT.list", "the listing, of follow: a line for each instruction, at most 1,048,576"),
+    ("OUT.counts", "what --counts counts, of follow: a line for each address"),
 ]
 
 STATUSES = [
@@ -74,7 +78,7 @@ STATUSES = [
     (1, "usage: the words spell no command"),
     (2, "a file could not be read, or is too long"),
     (3, "an image has a wrong length"),
-    (4, "a trace, script, source or session file is outside its form; the line, or the byte, is said"),
+    (4, "a trace, script, source, session file or file of addresses is outside its form; the line, or the byte, is said"),
     (5, "a file could not be written"),
     (6, "no thread could be started"),
     (7, "no memory"),

@@ -10,7 +10,7 @@ case $#$how in
     *) echo "docs/pictures.sh: the words are none, or check" >&2; exit 2 ;;
 esac
 top=$(cd "$(dirname "$0")/.." && pwd)
-work=$(mktemp -d)
+work=$(mktemp -d) || exit 1
 trap 'rm -rf "$work"' EXIT
 cd "$work"
 

@@ -9,7 +9,7 @@ case $#${1:-} in
     *) echo "docs/waveform.sh: the words are none, or check" >&2; exit 2 ;;
 esac
 top=$(cd "$(dirname "$0")/.." && pwd)
-work=$(mktemp -d)
+work=$(mktemp -d) || exit 1
 trap 'rm -rf "$work"' EXIT
 cd "$work"
 

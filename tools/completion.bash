@@ -27,9 +27,9 @@ _beebtube() {
                 --keep --speed --wav --save' ;;
             'resume') words='--keep --wav --save' ;;
             'follow host') words='--os --rom0 --rom1 --rom2 --rom3 --rom4 --rom5 --rom6 --rom7 --rom8 --rom9 --rom10
-                --rom11 --rom12 --rom13 --rom14 --rom15 --font --disc0 --disc1 --keys --plugs --speed
-                --at --watch --from --no-tube' ;;
-            'follow para') words='--tube --speed --at --watch --from' ;;
+                --rom11 --rom12 --rom13 --rom14 --rom15 --font --disc0 --disc1 --keys --points --plugs
+                --speed --at --watch --from --no-tube --counts' ;;
+            'follow para') words='--tube --points --speed --at --watch --from --counts' ;;
         esac
     fi
     if [ -n "$words" ]; then
@@ -51,7 +51,7 @@ complete -o filenames -F _beebtube_debug debug tools/debug
 _beebtube_differs() {
     local word=${COMP_WORDS[COMP_CWORD]}
     if [ "${word:0:1}" = - ]; then
-        mapfile -t COMPREPLY < <(compgen -W '--help --pictures --mame' -- "$word")
+        mapfile -t COMPREPLY < <(compgen -W '--help --pictures --order --mame --within' -- "$word")
     else
         mapfile -t COMPREPLY < <(compgen -f -- "$word")
     fi
@@ -60,7 +60,7 @@ complete -o filenames -F _beebtube_differs differs tools/differs
 _beebtube_execute() {
     local word=${COMP_WORDS[COMP_CWORD]}
     if [ "${word:0:1}" = - ]; then
-        mapfile -t COMPREPLY < <(compgen -W '--help --at --start --host --both --host-at --host-start --cpu --speed --limit --time --save --trace --listing' -- "$word")
+        mapfile -t COMPREPLY < <(compgen -W '--help --at --start --host --both --host-at --host-start --host-labels --labels --cpu --speed --limit --time --keys --font --shots --save --trace --listing' -- "$word")
     else
         mapfile -t COMPREPLY < <(compgen -f -- "$word")
     fi
@@ -87,7 +87,7 @@ complete -o filenames -F _beebtube_play play tools/play
 _beebtube_suite() {
     local word=${COMP_WORDS[COMP_CWORD]}
     if [ "${word:0:1}" = - ]; then
-        mapfile -t COMPREPLY < <(compgen -W '--help --jobs --gather --ticks --shot --against --keep --pages -j' -- "$word")
+        mapfile -t COMPREPLY < <(compgen -W '--help --jobs --gather --clear --text --both --ticks --seconds --recursive --shot --against --only --keep --pages --batch -j' -- "$word")
     else
         mapfile -t COMPREPLY < <(compgen -f -- "$word")
     fi

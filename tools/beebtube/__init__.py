@@ -10,28 +10,36 @@
     for access in run.accesses: ...                    # the Tube's accesses, one after another
     run.screen()[0]                                    # the first line of a teletext page
 
-What the program refuses is `Refused`, with `status`, `text` and `why`; what else is wrong is `Fault`. Python 3.9 and its standard
-library are all that it needs. docs/TOOLS.md has more.
+What the program refuses is `Refused`, with `status`, `text` and `why`; what else is wrong is `Fault`. It needs Python 3.9 and
+its standard library. docs/PYTHON.md has more.
 """
 from __future__ import annotations
 
+import os as _os
+
+from .calling import Called, call
 from .disc import Catalogue, Disc
+from .execution import Executed, build, execute
 from .explain import explain
 from .faults import Fault, Refused
-from .files import inside, read_file, sum_of, write_beside
+from .files import inside, read_file, read_text, sum_of, write_beside
 from .frame import Frame, picture_of
 from .labels import Labels
-from .program import Ended, Program, Run, Version, screen_of, version
+from .program import TOP as _TOP
+from .program import Ended, Program, Run, Source, Version, screen_of, version
 from .report import Registers, Report
-from .script import Event, Script, key, pressed, typed
+from .script import Event, Script, Typed, key, pressed, typed
 from .trace import Access, Trace
 
 __all__ = [
-    "Access", "Catalogue", "Disc", "Ended", "Event", "Fault", "Frame", "Labels", "Program", "Refused", "Registers", "Report", "Run",
-    "Script", "Trace", "Version", "asm", "check", "dis", "explain", "follow", "gen", "host", "inside", "key", "labels_of", "picture_of", "pressed",
-    "read_file", "replay", "resume", "run", "screen_of", "solo", "sum_of", "typed", "version", "write_beside",
+    "Access", "Called", "Catalogue", "Disc", "Ended", "Event", "Executed", "Fault", "Frame", "Labels", "Program", "Refused", "Registers",
+    "Report", "Run", "Script", "Source", "Trace", "Typed", "Version", "asm", "build", "call", "check", "dis", "execute", "explain", "follow", "gen",
+    "host", "inside", "key", "labels_of", "picture_of", "pressed", "read_file", "replay", "resume", "run", "screen_of",
+    "solo", "sum_of", "typed", "version", "write_beside",
 ]
 
+_VERSION = _os.path.join(_TOP, "VERSION")
+__version__ = read_text(_VERSION).strip() if _os.path.exists(_VERSION) else "unknown"
 _program = Program()
 run = _program.run
 solo = _program.solo

@@ -12,7 +12,7 @@ from typing import TYPE_CHECKING, List, NamedTuple, Optional, Tuple
 from .frame import HEIGHT
 
 if TYPE_CHECKING:
-    from .past import Start
+    from .listings import Start
 
 ABOVE = 40  # lines of vertical sync and above the frame, by the picture's profile
 STORE = re.compile(r"ST([AXY]) &(FE[0-9A-F]{2})(?:,([XY]))?")

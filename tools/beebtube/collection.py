@@ -14,23 +14,23 @@ import re
 import shlex
 from typing import Dict, Iterator, List, NamedTuple, Optional, Sequence, Set, Tuple
 
-from .disc import is_double
+from .archives import Folder, bare, folders_in, is_disc, place_in, read_disc
 from .faults import Fault
-from .files import IMAGE_CAP, SESSION_CAP, TRACE_CAP, Sum, is_plain, read_file, read_text, sum_of
+from .files import IMAGE_CAP, SESSION_CAP, TEXT_CAP, TRACE_CAP, Sum, read_text, sum_of
 from .program import version
-from .script import BadScript, Event, Script
-from .sets import read_set
+from .script import BadScript, Event, Script, typed
+from .sets import input_name, read_set
 from .words import COMMANDS, OPTIONS, number_of, shown
 
-DISC = re.compile(r".+\.(ssd|dsd)", re.IGNORECASE)
 SET = ".set"
 # Commands whose words have TICKS and OUT.
 RUNS = tuple(command for command, alone in COMMANDS.items() if "TICKS" in alone and "OUT" in alone)
 CAPS = {"TRACE": TRACE_CAP, "STATE": SESSION_CAP}
 NAMES = {"TRACE": "trace", "STATE": "session"}
+TEXT = "--text"  # a text that is typed, in the place of --keys
 VALUED = ("file", "output", "address", "number", "choice")
 SHOOTERS = ("solo", "run", "replay host")
-LONGEST_NAME = 200  # bytes: with what is put behind it, it is the name of a file
+LONGEST_NAME = 255  # bytes of each part of a name between `/`: each is the name of a folder
 
 
 # --- The words of a run ---
@@ -65,10 +65,14 @@ class Order:
         """Adds an option; the name of a file is one from `folder` on. Fault where it stands twice."""
         if option in self.options:
             raise Fault("%s stands twice" % option)
-        kind = OPTIONS[option].kind if option in OPTIONS else ""
+        kind = _kind_of(option)
         if not kind and value is not None and "/" in value:
             raise Fault("%s is no option of beebtube" % shown(option))
         self.options[option] = None if kind == "output" or value is None else place_of(folder, value) if kind == "file" else value
+
+
+def _kind_of(option: str) -> str:
+    return "file" if option == TEXT else OPTIONS[option].kind if option in OPTIONS else ""
 
 
 def place_of(folder: str, name: str) -> str:
@@ -119,42 +123,60 @@ class Entry(NamedTuple):
 
 def name_fault(name: str) -> Optional[str]:
     """What is wrong with the name of a run, which is that of a folder of files, too; None where nothing is."""
-    if not name or name in (".", "..") or "/" in name:
-        return "%s: a run has a name without `/`" % shown(name)
-    if not name.isprintable() or len(os.fsencode(name)) > LONGEST_NAME:
-        return "%s: a name has signs that can be shown, and %d bytes at most" % (shown(name), LONGEST_NAME)
+    parts = name.split("/")
+    if not name or any(part in ("", ".", "..") for part in parts):
+        return "%s: each part of a run's name between `/` is a name, and no `..`" % shown(name)
+    if any(len(os.fsencode(part)) > LONGEST_NAME for part in parts) or "\0" in name:
+        return "%s: a name has %d bytes at most between `/`" % (shown(name), LONGEST_NAME)
     return None
 
 
-def entries_of(name: str, common: Order) -> List[Entry]:
-    """The runs of a table, or of a folder of discs. `common` are words that each run has where it says nothing else."""
-    return _of_folder(name, common) if os.path.isdir(name) else _of_table(name, common)
+class Listing(NamedTuple):
+    """The runs of a list, and what is to be said of files and folders that are none."""
+
+    entries: List[Entry]
+    notes: List[str]
 
 
-def _of_folder(folder: str, common: Order) -> List[Entry]:
+def listing_of(name: str, common: Order, recursive: bool = False, texts: bool = False) -> Listing:
+    """The runs of a table, or of a folder of discs.
+
+    common     words that each run has where it says nothing else
+    recursive  discs of folders in the folder are runs, too
+    texts      NAME.txt beside a disc is typed, if there is no NAME.keys
+    """
+    if not os.path.isdir(name):
+        return Listing(_of_table(name, common), [])
+    found = Listing([], [])
+    for folder in folders_in(name, recursive, found.notes):
+        stems = {_stem(disc) for disc in folder.discs}
+        sets = [it for it in folder.names if it.endswith(SET) and it != SET and it[: -len(SET)] not in stems]
+        for it in sorted([*folder.discs, *sets, *folder.bad]):
+            fault = folder.bad.get(it)
+            found.entries.append(Entry(folder.begin + it, Order(), fault) if fault else _of_file(folder, it, common, texts))
+    if not found.entries:
+        raise Fault("%s has no run: no file whose name ends in .ssd, .dsd, .zip, .gz or %s" % (name, SET))
+    return found
+
+
+def _stem(name: str) -> str:
+    return bare(name)[:-4]
+
+
+# The run of a disc or of a set; `name` is from the folder on.
+def _of_file(folder: Folder, name: str, common: Order, texts: bool) -> Entry:
+    whole, stem, order = folder.begin + name, _stem(name), Order()
+    fault = name_fault(whole)
     try:
-        names = sorted(os.listdir(folder))
-    except OSError as error:
-        raise Fault("cannot read %s: %s" % (folder, error.strerror)) from None
-    discs = [name for name in names if DISC.fullmatch(name)]
-    stems = {name[:-4] for name in discs}
-    found = [name for name in names if name in discs or name.endswith(SET) and name != SET and name[: -len(SET)] not in stems]
-    if not found:
-        raise Fault("%s has no run: no file whose name ends in .ssd, .dsd or %s" % (folder, SET))
-    return [_of_file(folder, name, name in discs, set(names), common) for name in found]
-
-
-def _of_file(folder: str, name: str, is_disc: bool, names: Set[str], common: Order) -> Entry:
-    fault = name_fault(name)
-    stem, order = name[:-4], Order()
-    try:
-        if is_disc:
-            order.take("--disc0", name, folder)
-        if stem + ".keys" in names:
-            order.take("--keys", stem + ".keys", folder)
-        return Entry(name, order.over(_with_set(stem + SET if stem + SET in names else "", folder, common)), fault)
+        if is_disc(name):
+            order.take("--disc0", name, folder.path)
+        if stem + ".keys" in folder.names:
+            order.take("--keys", stem + ".keys", folder.path)
+        elif texts and is_disc(name) and stem + ".txt" in folder.names:
+            order.take(TEXT, stem + ".txt", folder.path)
+        return Entry(whole, order.over(_with_set(stem + SET if stem + SET in folder.names else "", folder.path, common)), fault)
     except Fault as wrong:
-        return Entry(name, Order(), fault or str(wrong))
+        return Entry(whole, Order(), fault or str(wrong))
 
 
 # The common words below those of a set.
@@ -244,23 +266,32 @@ def _named_by(cells: Dict[str, str], folder: str) -> Order:
 
 
 class Input(NamedTuple):
-    """A file that a run reads: its name there, its path here, its most bytes, and the tick of a shot that is put into it as a script
-    (a script of that shot alone where there is no path)."""
+    """A file that a run reads: its name there, its path here, its most bytes, the tick of a shot that is put into it as a script (a
+    script of that shot alone where there is no path), and of a text that is typed the speed of the machine."""
 
     name: str
     path: Optional[str]
     most: int
     shot: Optional[int] = None
+    speed: Optional[int] = None
+
+    @property
+    def is_made(self) -> bool:
+        """The run reads other bytes than those of the file."""
+        return self.path is None or self.path == os.devnull or self.shot is not None or self.speed is not None
 
     def data(self) -> bytes:
         """The bytes that the run reads; Fault where they cannot be had."""
-        given = b"" if self.path is None or self.path == os.devnull else self._read(self.path)
+        given = b"" if self.path is None or self.path == os.devnull else read_disc(self.path, self.most)
+        if self.speed is not None:
+            given = self._typed(given)
         return given if self.shot is None else _with_shot(given, self.shot)
 
-    def _read(self, path: str) -> bytes:
-        if os.path.exists(path) and not is_plain(path):
-            raise Fault("%s is no plain file" % shown(path))
-        return read_file(path, self.most)
+    def _typed(self, text: bytes) -> bytes:
+        try:
+            return typed(text.decode("utf-8"), speed=self.speed or 3).text().encode()
+        except (Fault, ValueError) as fault:
+            raise Fault("%s: %s" % (shown(self.path or ""), fault if isinstance(fault, Fault) else "it is no text")) from None
 
 
 def _with_shot(script: bytes, tick: int) -> bytes:
@@ -281,17 +312,16 @@ class Sums:
         self._known: Dict[Tuple[object, ...], Sum] = {}
 
     def of(self, given: Input) -> Sum:
-        if given.path is None or given.path == os.devnull or given.shot is not None:
+        if given.is_made or given.path is None:
             return Sum([given.data()])
+        file, member = place_in(given.path)
         try:
-            state = os.stat(given.path)
+            state = os.stat(file)
         except (OSError, ValueError):
             raise Fault("cannot read %s" % shown(given.path)) from None
         mark = (given.path, state.st_size, state.st_mtime_ns, state.st_ino)
         if mark not in self._known:
-            if not is_plain(given.path):
-                raise Fault("%s is no plain file" % shown(given.path))
-            self._known[mark] = sum_of(given.path, given.most)
+            self._known[mark] = Sum([given.data()])
         return self._known[mark]
 
 
@@ -327,6 +357,10 @@ def plan_of(entry: Entry, program: str, shot: bool, sums: Sums) -> Plan:
         else:
             inputs[inputs.index(script)] = script._replace(shot=tick)
     found = [sums.of(it) for it in inputs]
+    for it in inputs:
+        last = Script.parse(it.data()).events[-1:] if it.speed is not None else []
+        if last and last[0].tick >= (number_of(entry.order.alone["TICKS"]) or 0):
+            raise Fault("%s types up to tick %s: the run is too short" % (shown(it.path or ""), "{:,}".format(last[0].tick)))
     return Plan(words, inputs, found, key_of(program, words, inputs, found))
 
 
@@ -345,7 +379,13 @@ def _named(order: Order) -> Tuple[List[str], List[Input]]:
     known = [option for option in OPTIONS if option in order.options]
     for option in known + [option for option in order.options if option not in OPTIONS]:
         value = order.options[option]
-        kind = OPTIONS[option].kind if option in OPTIONS else ""
+        kind = _kind_of(option)
+        if option == "--keys" and TEXT in order.options:
+            continue
+        if option == TEXT and value is not None:
+            words += ["--keys", "keys"]
+            inputs.append(Input("keys", value, TEXT_CAP, speed=4 if order.options.get("--speed") == "4" else 3))
+            continue
         words.append(option)
         if kind == "file" and value is not None:
             inputs.append(Input(input_name(option, value), value, IMAGE_CAP))
@@ -358,19 +398,6 @@ def _named(order: Order) -> Tuple[List[str], List[Input]]:
         if not word.isprintable():
             raise Fault("%s: a word has a letter that cannot be shown" % shown(word))
     return words, inputs
-
-
-def input_name(option: str, value: str) -> str:
-    """The name that a file of an option has for the run."""
-    return option[2:] + ("" if not option.startswith("--disc") else ".dsd" if is_double(value) else ".ssd")
-
-
-def with_names_of_list(text: str, order: Order) -> str:
-    """What was said of a run, in which its files have names of its own, with the names of the list."""
-    for option, value in order.options.items():
-        if value is not None and option in OPTIONS and OPTIONS[option].kind == "file":
-            text = text.replace("%s %s " % (option, input_name(option, value)), "%s %s " % (option, shown(value)))
-    return text
 
 
 def words_sum(words: Sequence[str]) -> str:
@@ -391,20 +418,34 @@ def program_sum() -> str:
     return sum_of(os.path.realpath(given)).digits if given else version().sources
 
 
-def words_for_shell(order: Order) -> List[str]:
-    """The words of a run with whole paths, as `order_of` takes them."""
+def words_for_job(order: Order) -> List[str]:
+    """The words of a run with whole paths, as `order_of` takes them once its values are unpacked."""
     words = [order.command]
     for kind in COMMANDS[order.command]:
         if kind in order.alone:
-            words.append(os.path.abspath(order.alone[kind]) if kind in NAMES else order.alone[kind])
+            words.append(packed(os.path.abspath(order.alone[kind]) if kind in NAMES else order.alone[kind]))
     for option, value in order.options.items():
         words.append(option)
-        kind = OPTIONS[option].kind if option in OPTIONS else ""
+        kind = _kind_of(option)
         if kind == "output":
             words.append("out." + option[2:])
         elif value is not None:
-            words.append(os.path.abspath(value) if kind == "file" else value)
+            words.append(packed(os.path.abspath(value) if kind == "file" else value))
     return words
+
+
+def packed(word: str) -> str:
+    """A word as it stands in the command of a job: bytes that a shell, an engine or a list of lines may take for others are `%XX`, and
+    so is a `-` that it begins with."""
+    found = re.sub(rb"[^\w./@+,:=-]", lambda match: b"%%%02X" % match.group()[0], os.fsencode(word)).decode("ascii")
+    return "%2D" + found[1:] if found.startswith("-") else found
+
+
+def unpacked(word: str) -> str:
+    """The word that was packed; Fault if it was not."""
+    if re.search("%(?![0-9A-F]{2})", word):
+        raise Fault("%s is no word of a job" % shown(word))
+    return os.fsdecode(re.sub(b"%([0-9A-F]{2})", lambda match: bytes([int(match.group(1), 16)]), os.fsencode(word)))
 
 
 def words_of_list(order: Order) -> str:

@@ -183,8 +183,10 @@ class Waits:
             self.at_end[side, register] = Wait(orders[first] // 2, columns.orders[-1] // 2, looks)
 
 
-def _empty(columns: Columns) -> Dict[int, List[int]]:
-    """The reads that take no byte, since their register is empty: by the code without its status, their places in the trace."""
+def _empty(columns: Columns) -> Tuple[Dict[int, List[int]], Dict[int, int]]:
+    """The reads that take no byte, since their register is empty: by the code without its status,
+    their places in the trace. And how many bytes were lost, by the code of the reads that would
+    have taken them."""
     counts: Dict[int, int] = {}
 
     def clear() -> None:
@@ -192,6 +194,7 @@ def _empty(columns: Columns) -> Dict[int, List[int]]:
 
     clear()
     found: Dict[int, List[int]] = {}
+    lost: Dict[int, int] = {}
     is_two = False
     mask = columns.codes.translate(_table(lambda code: code & 1 or code & 63 in (WRITE, BREAK)))
     for at in compress(range(len(mask)), mask):
@@ -204,7 +207,9 @@ def _empty(columns: Columns) -> Dict[int, List[int]]:
         elif code & 1:
             to = code & 15 ^ PARA
             room = 24 if to == 1 else 2 if is_two and code & 7 == 5 else 1
-            counts[to] = 1 if room == 1 else counts[to] + (counts[to] < room)
+            before = counts[to]
+            counts[to] = 1 if room == 1 else before + (before < room)
+            lost[to] = lost.get(to, 0) + before + 1 - counts[to]
         elif code == BREAK:
             is_two = False
             clear()
@@ -213,7 +218,7 @@ def _empty(columns: Columns) -> Dict[int, List[int]]:
             is_two = value & 128 != 0 if value & 16 else is_two
             if value & 192 == 192:
                 clear()
-    return found
+    return found, lost
 
 
 def told(columns: Columns, waits: Waits) -> List[str]:
@@ -232,7 +237,7 @@ def told(columns: Columns, waits: Waits) -> List[str]:
     lines.append("from %s to %s" % (us(orders[0] // 2), us(orders[-1] // 2)))
     if count[BREAK]:
         lines.append("BREAK %d" % count[BREAK])
-    empty = _empty(columns)
+    empty, lost = _empty(columns)
     for place in (1, 3, 5, 7):
         for side in (0, 1):
             is_it = _table(lambda code: code & 63 == place | PARA * side)  # noqa: B023 # used at once
@@ -244,6 +249,11 @@ def told(columns: Columns, waits: Waits) -> List[str]:
                 first, last = orders[taken.find(1)] // 2, orders[taken.rfind(1)] // 2
                 rate = "%d bytes a second" % round((number - 1) * second / (last - first)) if last > first else "at once"
                 lines.append("register %d to %s: %d bytes, %s" % (place // 2 + 1, SIDES[side], number, rate))
+    for code, number in sorted(lost.items(), key=lambda item: (item[0] & 7, item[0])):
+        if number:
+            whose = SIDES[code // PARA]
+            what = "%d byte%s lost, written while full" % (number, "" if number == 1 else "s")
+            lines.append("register %d to %s: %s" % (code // 2 % 4 + 1, whose, what))
     for code, places in sorted(empty.items(), key=lambda item: (item[0] & 7, item[0])):
         lines.append("%s reads register %d while it is empty: %d" % (SHORT[code // PARA], code // 2 % 4 + 1, len(places)))
     for (side, register, kind), found in sorted(waits.waits.items()):

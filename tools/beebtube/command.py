@@ -12,6 +12,7 @@ A tool is `main(function, __doc__)`, where the function takes the words and may 
 from __future__ import annotations
 
 import argparse
+import ast
 import errno
 import io
 import os
@@ -20,6 +21,7 @@ import sys
 from typing import Callable, IO, List, NoReturn, Optional, Sequence
 
 from .faults import Fault
+from .files import STOPS
 
 
 class Usage(Fault):
@@ -35,6 +37,15 @@ class Reader(argparse.ArgumentParser):
 
     def error(self, message: str) -> NoReturn:
         raise Usage(message)
+
+    def parse_known_args(self, args=None, namespace=None):  # type: ignore[no-untyped-def]
+        for word in args or ():
+            name = word.split("=")[0]
+            if word == "--":
+                break
+            if word[:1] == "-" and word[1:2].isalpha() and name not in self._option_string_actions and name[:2] not in self._option_string_actions:
+                raise Usage("%s: no such option; a name that begins with `-` is written ./%s" % (word[:60], word[:60]))
+        return super().parse_known_args(args, namespace)
 
     def _print_message(self, message: str, file: Optional[IO[str]] = None) -> None:
         # argparse passes over a help that cannot be written.
@@ -60,7 +71,10 @@ def seconds(word: str) -> float:
     return value
 
 
+# The first signal ends a tool, which then clears away what it made for itself; later ones are not heard.
 def _stop(number: int, _frame: object) -> NoReturn:
+    for it in STOPS:
+        signal.signal(it, signal.SIG_IGN)
     raise SystemExit(128 + number)
 
 
@@ -81,7 +95,8 @@ def _hold_streams() -> None:
     if sys.stderr is None:
         sys.stderr = open(2, "w", closefd=False, encoding="utf-8")
     for stream in (sys.stdout, sys.stderr):
-        stream.reconfigure(encoding="utf-8", errors="surrogateescape")  # type: ignore[union-attr]
+        if isinstance(stream, io.TextIOWrapper):
+            stream.reconfigure(encoding="utf-8", errors="surrogateescape")
 
 
 def read_standard_input(most: int) -> bytes:
@@ -98,27 +113,41 @@ def read_standard_input(most: int) -> bytes:
     raise Fault("too long -: it has more than %s bytes" % "{:,}".format(most))
 
 
-def _tell(text: str) -> None:
+def tell(text: str) -> None:
+    """Writes a line, or a few, to standard error. Nothing fails if it is closed or full."""
     try:
         sys.stderr.write(text + "\n")
         sys.stderr.flush()
     except (OSError, ValueError):
-        pass
+        _give_up(2)
 
 
-# Standard output goes nowhere from here on, so that nothing fails once more when Python ends.
-def _give_up_output() -> None:
+# A stream goes nowhere from here on, so that nothing fails once more when Python ends.
+def _give_up(number: int) -> None:
     nothing = os.open(os.devnull, os.O_WRONLY)
-    os.dup2(nothing, 1)
+    os.dup2(nothing, number)
     os.close(nothing)
 
 
-def main(function: Callable[[List[str]], Optional[int]], doc: str, words: Optional[Sequence[str]] = None) -> NoReturn:
+# The tool's own text. Python leaves it out under PYTHONOPTIMIZE=2; it is read from the tool's file then.
+def _doc_of_tool() -> str:
+    file = getattr(sys.modules["__main__"], "__file__", None)
+    if not file:
+        return ""
+    with open(file, encoding="utf-8") as source:
+        return ast.get_docstring(ast.parse(source.read()), clean=False) or ""
+
+
+def main(function: Callable[[List[str]], Optional[int]], doc: Optional[str], words: Optional[Sequence[str]] = None) -> NoReturn:
     """Calls a tool with its words, and ends as the table above says; `--help` as the first word prints `doc`."""
     for number in (signal.SIGTERM, signal.SIGHUP):
         if signal.getsignal(number) is not signal.SIG_IGN:
             signal.signal(number, _stop)
+    if signal.getsignal(signal.SIGINT) is signal.SIG_DFL:
+        signal.signal(signal.SIGINT, signal.default_int_handler)
     _hold_streams()
+    if doc is None:
+        doc = sys.modules["__main__"].__doc__ = _doc_of_tool()
     given = list(sys.argv[1:] if words is None else words)
     name = tool_name()
     status: object = 0
@@ -129,14 +158,14 @@ def main(function: Callable[[List[str]], Optional[int]], doc: str, words: Option
             status = function(given) or 0
         sys.stdout.flush()
     except Usage as fault:
-        _tell("%s: %s\n\n%s" % (name, fault, doc.strip()))
+        tell("%s: %s\n\n%s" % (name, fault, doc.strip()))
         status = 2
     except Fault as fault:
         try:
             sys.stdout.flush()
         except (OSError, ValueError):
             pass
-        _tell("%s: %s" % (name, fault))
+        tell("%s: %s" % (name, fault))
         status = 1
     except SystemExit as ended:
         status = ended.code
@@ -147,12 +176,12 @@ def main(function: Callable[[List[str]], Optional[int]], doc: str, words: Option
     except OSError as error:
         status = 141 if error.errno == errno.EPIPE else 1
         if status == 1:
-            _tell("%s: cannot write -" % name if error.filename is None else "%s: %s: %s" % (name, os.fsdecode(error.filename), error.strerror))
+            tell("%s: cannot write -" % name if error.filename is None else "%s: %s: %s" % (name, os.fsdecode(error.filename), error.strerror))
     except MemoryError:
         status = 1
-        _tell("%s: no memory" % name)
+        tell("%s: no memory" % name)
     except Exception as error:  # noqa: BLE001 # the last resort: a fault of the tool is told in a line
-        _tell("%s: a fault of this tool: %s: %s" % (name, type(error).__name__, error))
+        tell("%s: a fault of this tool: %s: %s" % (name, type(error).__name__, error))
         status = 70
     try:
         sys.stdout.flush()
@@ -160,6 +189,10 @@ def main(function: Callable[[List[str]], Optional[int]], doc: str, words: Option
         if not status:
             status = 141 if isinstance(error, BrokenPipeError) else 1
             if status == 1:
-                _tell("%s: cannot write -" % name)
-        _give_up_output()
+                tell("%s: cannot write -" % name)
+        _give_up(1)
+    # All is cleared away: from here on a signal ends Python without a traceback.
+    for it in STOPS:
+        if signal.getsignal(it) in (_stop, signal.default_int_handler):
+            signal.signal(it, signal.SIG_DFL)
     sys.exit(status if isinstance(status, int) else 1)

@@ -1,62 +1,53 @@
-"""The words of `tools/debug`: a moment of a run, what is there, and the ways from it to others."""
+"""The commands of `tools/debug`: a moment of a run, what is there, and the ways to others."""
 from __future__ import annotations
 
-import contextlib
 import re
-import shlex
 import sys
-import time
-from typing import Callable, Dict, Iterator, List, Optional, Sequence, TextIO
+from typing import Callable, Dict, List, NamedTuple, Optional, TextIO, Tuple
 
 from .accesses import words_of
-from .command import Usage
+from .conditions import Condition, condition, range_of
+from .engine import FULL, Engine
 from .faults import Fault
-from .files import LONGEST, write_beside
+from .files import write_beside
 from .frame import look_at_place
+from .listings import Change, Start
 from .naming import Names
-from .naming import read as naming_read
-from .past import LETTERS, LINE, MOST_ACCESSES, SIDES, Machine, Past, Start, parting
-from .program import Program, screen_of
+from .parting import parting
+from .past import Past
+from .program import screen_of
 from .report import Registers
+from .trace import LENGTH, Access
 
-FULL = {"host": "the host", "para": "the second processor"}
 
-# Each word: what stands behind it, and what it does.
-WORDS: Dict[str, List[str]] = {
-    "where": ["", "the tick, registers, next instructions, and last accesses to the Tube"],
-    "host": ["", "looks at the host: words are of the side that is looked at"],
-    "para": ["", "looks at the second processor"],
-    "step": ["[N]", "N instructions on, 1 if none is said"],
-    "back": ["[N]", "N instructions back"],
-    "next": ["", "an instruction on; from a JSR to where it comes back"],
-    "return": ["", "to where the subroutine comes back to, by the stack"],
-    "go": ["TICK", "to a tick; +N and -N are from here, `end` is the run's last"],
-    "until": ["AAAA", "to the next time that the instruction at an address begins"],
-    "before": ["AAAA", "to the last time before now"],
-    "at": ["LABEL", "as until"],
-    "change": ["AAAA", "to where the byte at an address has become another"],
-    "who": ["AAAA", "back to the instruction that changed the byte last"],
-    "access": ["H|P R|W N [back]", "to the next access of a side to address N of the Tube, or back"],
-    "sender": ["", "back to where the other side gave the byte that was taken last"],
-    "memory": ["AAAA [LEN]", "bytes of the memory, 64 if no length is said"],
-    "list": ["[AAAA [N]]", "instructions, from the next one on if no address is said"],
-    "stack": ["", "what is on the stack, the top first"],
-    "tube": ["[N]", "accesses to the Tube, N before and N from now on; 5 if none is said"],
-    "screen": ["[AAAA]", "a page of teletext as text, from 7C00 if no address is said"],
-    "beam": ["", "where the beam is, by the 6845; from then on `where` tells it"],
-    "frame": ["FILE.png", "writes the last whole frame of the screen as a picture"],
-    "other": ["", "with --against: goes over to the other run, at the same tick"],
-    "help": ["[WORD]", "these words, or one of them"],
-    "quit": ["", "ends"],
-}
-# Letters that begin several words.
-SHORT = {"s": "step", "b": "back", "n": "next", "r": "return", "g": "go", "u": "until", "a": "access", "c": "change", "w": "where",
-         "h": "help", "l": "list", "m": "memory", "o": "other"}
+class Word(NamedTuple):
+    """A command: its arguments, what it does, and the method that does it. An argument in brackets
+    may be left out, and `..` stands for any number."""
+
+    form: str
+    text: str
+    method: Callable[..., None]
+
+
+WORDS: Dict[str, Word] = {}
+# Letters that begin several commands.
+SHORT = {"s": "step", "b": "back", "n": "next", "r": "return", "g": "go", "u": "until",
+         "a": "access", "c": "change", "w": "where", "h": "help", "l": "list", "m": "memory",
+         "o": "other", "p": "para", "bt": "backtrace"}
+
+
+def word(form: str, text: str) -> Callable[[Callable[..., None]], Callable[..., None]]:
+    """Makes a method `do_NAME` the command NAME."""
+    def noted(method: Callable[..., None]) -> Callable[..., None]:
+        WORDS[method.__name__[3:]] = Word(form, text, method)
+        return method
+    return noted
 
 
 def flags_of(registers: Registers) -> str:
     """The flags by their letters, `-` for each that is clear."""
-    return "".join(letter if registers.p >> 7 - bit & 1 else "-" for bit, letter in enumerate("NV1BDIZC"))
+    return "".join(letter if registers.p >> 7 - bit & 1 else "-"
+                   for bit, letter in enumerate("NV1BDIZC"))
 
 
 def registers_of(registers: Registers) -> str:
@@ -64,25 +55,30 @@ def registers_of(registers: Registers) -> str:
     return "%04X A=%02X X=%02X Y=%02X S=%02X P=%02X" % registers[:6]
 
 
-class Debugger:
-    """A moment of a run, from which words lead to others.
+def said(access: Access) -> str:
+    """An access in words, after its tick."""
+    return f"{access.tick} {words_of(*access[1:])}"
 
-    tick, side   the moment, and the side that is looked at: what is done by then are all ticks below this one
-    wrong        how many words were wrong
+
+class Debugger(Engine):
+    """A moment of a run, from which commands lead to others.
+
+    wrong  how many commands were wrong
     """
 
-    def __init__(self, past: Past, names: Dict[str, Names], other: Optional[Past] = None, out: Optional[TextIO] = None):
-        self.past, self.names, self._other = past, names, other
-        self.out = out or sys.stdout
-        self.tick, self.side = past.end, "host"
+    def __init__(self, past: Past, names: Dict[str, Names], other: Optional[Past] = None,
+                 out: Optional[TextIO] = None):
+        super().__init__(past)
+        self.names, self._other, self.out = names, other, out or sys.stdout
         self.wrong = 0
         self.ended = False
         self._before = ""
 
-    # --- Words ---
+    # --- Commands ---
 
     def do(self, line: str) -> None:
-        """Carries out words with `;` between them; an empty line repeats the one before. Fault at the first that is wrong."""
+        """Carries out commands with `;` between them; an empty line repeats the one before. Fault
+        at the first that is wrong."""
         for words in self._parts(line):
             self._one(words)
 
@@ -93,54 +89,77 @@ class Debugger:
         return [part.split() for part in line.split(";") if part.strip()]
 
     def try_to(self, line: str) -> None:
-        """The same, where what is wrong is told on standard error, and the words behind it are carried out."""
+        """The same, but what is wrong goes to standard error, and the rest is carried out."""
         for words in self._parts(line):
             try:
                 self._one(words)
             except Fault as fault:
                 self.wrong += 1
                 self.out.flush()
-                sys.stderr.write("debug: %s\n" % fault)
+                sys.stderr.write(f"debug: {fault}\n")
                 sys.stderr.flush()
 
     def _one(self, words: List[str]) -> None:
         if self.ended:
             return
         name = self._word(words[0])
-        form, given = WORDS[name][0], words[1:]
-        least = len([word for word in form.split() if not word.startswith("[") and not word.endswith("]")])
-        if not least <= len(given) <= len(form.split()):
-            raise Fault(("%s %s: %s" % (name, form, WORDS[name][1])).replace(" :", ":"))
-        getattr(self, "do_" + name)(*given)
+        form, given = WORDS[name].form, words[1:]
+        least = len(re.sub(r"(^| )(\.\. )?\[.*\]$", "", form).split())
+        most = len(words) if " .. " in form else len(form.split())
+        if not least <= len(given) <= most:
+            raise Fault(f"{name} {form}: {WORDS[name].text}".replace(" :", ":"))
+        WORDS[name].method(self, *given)
 
     @staticmethod
-    def _word(word: str) -> str:
-        if word in WORDS:
-            return word
-        if word in SHORT:
-            return SHORT[word]
-        near = [name for name in WORDS if name.startswith(word)]
+    def _word(name: str) -> str:
+        name = SHORT.get(name, name)
+        if name in WORDS:
+            return name
+        near = [it for it in WORDS if it.startswith(name)]
         if len(near) == 1:
             return near[0]
-        raise Fault("%s: %s" % (word[:40], "it may be " + " or ".join(near) if near else "there is no such word; `help` has all"))
+        raise Fault(f"{name[:40]}: " + (f"it may be {' or '.join(near)}" if near
+                                        else "no such command; `help` lists them"))
 
     @staticmethod
-    def _count(word: str, most: int) -> int:
-        if not word.isascii() or not word.isdigit() or len(word) > 10 or not 1 <= int(word) <= most:
-            raise Fault("%s: a number from 1 to %s is wanted" % (word[:40], "{:,}".format(most)))
-        return int(word)
+    def _count(text: str, most: int) -> int:
+        if not text.isascii() or not text.isdigit() or len(text) > 10 or not 1 <= int(text) <= most:
+            raise Fault(f"{text[:40]}: it takes a number from 1 to {most:,}")
+        return int(text)
 
-    def _address(self, word: str) -> int:
-        known = self.names[self.side].address(word)
+    def _address(self, text: str) -> int:
+        known = self.names[self.side].address(text)
         if known is not None:
             return known
-        bare = word.lstrip("&$")
+        bare = text.lstrip("&$")
         if not re.fullmatch("[0-9A-Fa-f]{1,4}", bare):
-            raise Fault("%s: an address has up to four hexadecimal digits, and no label of %s is called that" % (word[:40], FULL[self.side]))
+            raise Fault(f"{text[:40]}: an address has up to four hexadecimal digits, and no label"
+                        f" of {FULL[self.side]} is called that")
         return int(bare, 16)
 
+    def _range(self, text: str) -> Tuple[int, int]:
+        if self.names[self.side].address(text) is not None or ".." not in text:
+            return self._address(text), self._address(text)
+        return range_of(text, self._address)
+
+    # The addresses and the condition of `AAAA .. [if CONDITION]`.
+    def _places(self, given: Tuple[str, ...]) -> Tuple[List[int], Optional[Condition]]:
+        words = list(given)
+        at = words.index("if") if "if" in words else len(words)
+        text = " ".join(words[at + 1 :])
+        if not words or at < len(words) and not text:
+            raise Fault("an address, or `if` and a condition")
+        test = condition(text, self._address, self.byte) if text else None
+        return [self._address(it) for it in words[:at]], test
+
+    @staticmethod
+    def _is_back(given: str) -> bool:
+        if given not in ("", "back"):
+            raise Fault(f"{given[:40]}: only `back` may follow")
+        return given == "back"
+
     def forget(self) -> None:
-        """An empty line does nothing until there are words again."""
+        """An empty line does nothing until there are commands again."""
         self._before = ""
 
     # --- What is shown ---
@@ -153,228 +172,246 @@ class Debugger:
         text, name = names.text(text), names.of(address)
         return "%-18s; %s" % (text, name) if name else text
 
-    def _line(self, start: Start) -> str:
-        return "%d %s %s %s" % (start.tick, start.side, registers_of(start.registers), self._text(start.side, start.registers.pc, start.text))
+    def _line(self, tick: int, side: str, registers: Registers, text: str) -> str:
+        text = self._text(side, registers.pc, text)
+        return f"{tick} {side} {registers_of(registers)} {text}"
 
-    @property
-    def _machine(self) -> Machine:
-        return self.past.machines[self.side]
+    def _show(self, start: Start) -> None:
+        self._say(self._line(start.tick, start.side, start.registers, start.text))
 
+    def _show_here(self) -> None:
+        machine = self.machine
+        registers, text = machine.state(self.tick).registers, machine.view.text(self.tick)
+        self._say(self._line(self.tick, self.side, registers, text))
+
+    @word("", "the tick, registers, instructions, last accesses, and the Tube")
     def do_where(self) -> None:
         past = self.past
         states = past.states(self.tick)
-        self._say("tick %d of %d, %.3f us; %s" % (self.tick, past.end, self.tick * 1e6 / past.second, self.side))
-        self._say("     " + self._beam())
+        time = self.tick * 1e6 / past.second
+        self._say(f"tick {self.tick} of {past.end}, {time:.3f} us; {self.side}")
+        self._say("     " + self.beam_text())
         for side in past.sides:
             registers = states[side].registers
-            text = self._text(side, registers.pc, past.machines[side].text_at(self.tick, registers.pc))
-            halted = " halted" if registers.halted else ""
-            self._say("%s %s %s%s %s" % (side, registers_of(registers), flags_of(registers), halted, text))
+            text = self._text(side, registers.pc, past.machines[side].view.text(self.tick))
+            self._say(f"{side} {registers_of(registers)} {flags_of(registers)} {text}")
             if past.has_tube:
                 self._say("     " + self._last_access(side))
+        if past.has_tube and self.tick <= past.held:
+            self._say("tube " + past.traffic.tube(past.line_at(self.tick)).text())
 
-    def _beam(self) -> str:
+    def beam_text(self) -> str:
+        """Where the beam is, as far as that is found at once."""
         if self.tick > self.past.held:
-            return "where the beam is cannot be told behind tick %d" % self.past.held
+            return f"where the beam is cannot be found after tick {self.past.held}"
         found = self.past.position(self.tick, at_once=True)
         if found is not None:
             return found.text()
-        second = self.past.second // 1000000
-        return "line %d of 312 by the clock, 64 us each from tick 0: `beam` counts it by the 6845" % (self.tick // (64 * second) % 312)
-
-    def do_beam(self) -> None:
-        found = self.past.position(self.tick)
-        assert found is not None
-        self._say(found.text())
+        line = self.tick // (64 * self.past.second // 1000000) % 312
+        return (f"line {line} of 312 by the clock, 64 us each from tick 0:"
+                " `beam` counts it by the 6845")
 
     def _last_access(self, side: str) -> str:
-        if self.tick > self.past.held:
-            return "accesses to the Tube are at hand up to tick %d" % self.past.held
-        place = self.past.trace.rfind((" %s " % LETTERS[side]).encode(), 0, LINE * self.past.lines_below(self.tick))
-        return self._access_of(place - 10) if place >= 0 else "%s has not accessed the Tube" % FULL[side]
-
-    def _access_of(self, place: int) -> str:
-        line = self.past.trace[place : place + LINE - 1].decode()
-        tick, side, way, register, byte = line.split(" ")
-        return "%d %s" % (int(tick, 16), words_of(side, way, int(register), int(byte, 16)))
-
-    def _to(self, tick: int, start: Optional[Start] = None) -> None:
-        self.tick = tick
-        if start is not None:
-            self._say(self._line(start))
-
-    def _found(self, start: Optional[Start], what: str) -> Start:
-        if start is None:
-            raise Fault(what)
-        return start
+        past = self.past
+        if self.tick > past.held:
+            return f"accesses to the Tube are at hand up to tick {past.held}"
+        form = f" {side[0].upper()} ".encode()
+        place = past.traffic.last([form], past.line_at(self.tick))
+        if place < 0:
+            return f"{FULL[side]} has not accessed the Tube"
+        return past.traffic.words(place)
 
     # --- Ways ---
 
+    @word("", "select the host for the commands that follow")
     def do_host(self) -> None:
         self.side = "host"
 
+    @word("", "select the second processor")
     def do_para(self) -> None:
-        self._need_tube()
+        self.need_tube()
         self.side = "para"
 
-    def _need_tube(self) -> None:
-        if not self.past.has_tube:
-            raise Fault("the host is alone: there is no second processor, and no Tube")
+    @word("[N]", "N instructions on; 1 without a number")
+    def do_step(self, number: str = "1") -> None:
+        self._show(self.step(self._count(number, 1 << 30)))
 
-    def do_step(self, word: str = "1") -> None:
-        count = self._count(word, 1 << 30)
-        start = self._found(self._machine.following(self.tick, count), "the run ends at tick %d, before that many instructions" % self.past.end)
-        self._to(start.tick, start)
+    @word("[N]", "N instructions back")
+    def do_back(self, number: str = "1") -> None:
+        self._show(self.back(self._count(number, 1 << 30)))
 
-    def do_back(self, word: str = "1") -> None:
-        count = self._count(word, 1 << 30)
-        start = self._found(self._machine.preceding(self.tick, count), "there are not that many instructions before")
-        self._to(start.tick, start)
-
+    @word("", "an instruction on, past what a JSR or an interrupt does")
     def do_next(self) -> None:
-        registers = self._machine.state(self.tick).registers
-        if not self._machine.text_at(self.tick, registers.pc).startswith("JSR"):
-            return self.do_step()
-        start = self._machine.next_of("at", (registers.pc + 3) & 65535, self.tick, registers.s)
-        self._to_start(start, "the subroutine does not come back before the run ends")
-        return None
+        self._show(self.next())
 
-    def _to_start(self, start: Optional[Start], what: str) -> None:
-        found = self._found(start, what)
-        self._to(found.tick, found)
+    @word("", "the way back of next")
+    def do_previous(self) -> None:
+        self._show(self.previous())
 
+    @word("", "to where the call or the interrupt comes back")
     def do_return(self) -> None:
-        stack = self._machine.state(self.tick).registers.s
-        self._to_start(self._machine.leaving(self.tick, stack), "the subroutine does not come back before the run ends")
+        self._show(self.back_out())
 
-    def do_go(self, word: str) -> None:
-        if word == "end":
-            tick = self.past.end
-        elif re.fullmatch("[+-]?[0-9]{1,10}", word):
-            tick = int(word) + (self.tick if word[0] in "+-" else 0)
-        else:
-            raise Fault("%s: a tick is a whole number, +N or -N from here, or `end`" % word[:40])
-        if not 0 <= tick <= self.past.end:
-            raise Fault("tick %d is not within the run, which is from 0 to %d" % (tick, self.past.end))
-        self.tick = tick
-        registers = self._machine.state(tick).registers
-        text = self._machine.text_at(tick, registers.pc)
-        self._say("%d %s %s %s" % (tick, self.side, registers_of(registers), self._text(self.side, registers.pc, text)))
+    @word("", "back to the JSR of the call, or to what was interrupted")
+    def do_caller(self) -> None:
+        self._show(self.caller())
 
-    def do_until(self, word: str) -> None:
-        address = self._address(word)
-        self._to_start(self._machine.next_of("at", address, self.tick), "%s does not come to %04X before the run ends" % (FULL[self.side], address))
+    @word("[N]", "the calls that are open, the innermost first; at most N, else 32")
+    def do_backtrace(self, number: str = "32") -> None:
+        self._show_here()
+        for count, frame in zip(range(self._count(number, 256)), self.frames()):
+            line = self._line(frame.start.tick, self.side, frame.start.registers, frame.start.text)
+            self._say(line if frame.kind == "call" else f"{line} ({frame.kind} after it)")
 
-    do_at = do_until
+    @word("TICK", "to a tick; +N and -N count from here, `end` is the run's last")
+    def do_go(self, text: str) -> None:
+        if text != "end" and not re.fullmatch("[+-]?[0-9]{1,10}", text):
+            raise Fault(f"{text[:40]}: a tick is a whole number, +N or -N from here, or `end`")
+        self.go(self.past.end if text == "end"
+                else int(text) + (self.tick if text[0] in "+-" else 0))
+        self._show_here()
 
-    def do_before(self, word: str) -> None:
-        address = self._address(word)
-        self._to_start(self._machine.last_of("at", address, self.tick), "%s was not at %04X before" % (FULL[self.side], address))
+    @word("AAAA .. [if CONDITION]", "to the next instruction there, or where it holds")
+    def do_until(self, *given: str) -> None:
+        self._show(self.until(*self._places(given)))
 
-    def _watched(self, word: str) -> int:
-        address = self._address(word)
-        if self.side == "host" and address >= 0x8000:
-            raise Fault("there is no memory of the host at %04X: it ends at 7FFF" % address)
-        return address
+    @word("AAAA .. [if CONDITION]", "to the last one before now")
+    def do_before(self, *given: str) -> None:
+        self._show(self.until(*self._places(given), back=True))
 
-    def do_change(self, word: str) -> None:
-        address = self._watched(word)
-        start = self._found(self._machine.next_of("watch", address, self.tick), "the byte at %04X does not change before the run ends" % address)
-        self._say("%04X: %02X to %02X" % (address, *self._bytes(address, [self.tick, start.tick])))
-        self._to(start.tick, start)
+    @word("LABEL", "as until")
+    def do_at(self, text: str) -> None:
+        self.do_until(text)
 
-    def do_who(self, word: str) -> None:
-        address = self._watched(word)
-        behind = self._found(self._machine.last_of("watch", address, self.tick + 1), "the byte at %04X did not change before" % address)
-        start = self._found(self._machine.preceding(behind.tick), "the byte at %04X did not change before" % address)
-        self._say("%04X: %02X to %02X" % (address, *self._bytes(address, [start.tick, behind.tick])))
-        self._to(start.tick, start)
+    def _changed(self, at: int, change: Change) -> None:
+        self._say(f"{at:04X}: {change.old:02X} to {change.new:02X}")
 
-    def _bytes(self, address: int, ticks: List[int]) -> List[int]:
-        return [state.memory[address] for state in self._machine.states_at(ticks)]
+    @word("AAAA[..BBBB]", "to where a byte has become another")
+    def do_change(self, text: str) -> None:
+        found = self.change(*self._range(text))
+        self._changed(*found)
+        self._show_here()
 
+    @word("AAAA[..BBBB]", "back to the instruction that changed a byte last")
+    def do_who(self, text: str) -> None:
+        found = self.who(*self._range(text))
+        self._changed(*found)
+        self._show(found[1].start)
+
+    @word("AAAA[..BBBB]", "to the next instruction that reads a byte")
+    def do_readers(self, text: str) -> None:
+        found = self.find_reader(*self._range(text))
+        self._show(self._to(found, "no instruction reads it before the run ends"))
+
+    @word("AAAA", "back along the way by which a byte came")
+    def do_origin(self, text: str) -> None:
+        for start, told in self.origin(self._address(text)):
+            if start is None:
+                self._say(told)
+            else:
+                line = self._line(start.tick, start.side, start.registers, start.text)
+                self._say(f"{line} ({told})")
+
+    @word("H|P R|W N [back]", "to an access to address N of the Tube, or r1 to r4, s1 to s4")
     def do_access(self, side: str, way: str, register: str, back: str = "") -> None:
-        if side not in "HP" or way not in "RW" or register not in "01234567" or back not in ("", "back") or len(side + way + register) != 3:
-            raise Fault("access H|P R|W N [back]: a side, a way, the number of the address from 0 to 7, as in `access H R 1`")
-        self._need_tube()
-        form = (" %s %s %s " % (side, way, register)).encode()
-        trace, here = self.past.trace, LINE * self.past.lines_below(self.tick)
-        if back:
-            place = trace.rfind(form, 0, here)
-        else:
-            # From the accesses on that are behind this tick.
-            place = trace.find(form, LINE * self.past.lines_below(self.tick + 1))
-        if place < 0:
-            ends = "before tick %d, up to which accesses are at hand" % self.past.held if self.past.held < self.past.end else "before the run ends"
-            raise Fault("there is no such access %s" % ("before" if back else ends))
-        self.side = SIDES["HP".index(side)]
-        tick = int(trace[place - 10 : place], 16)
-        self._say(self._access_of(place - 10))
-        start = self._machine.current(tick)
-        self._to(tick, start)
+        number = register if re.fullmatch("[0-7]", register) else ""
+        if re.fullmatch("[rs][1-4]", register):
+            number = str(2 * int(register[1]) - 2 + (register[0] == "r"))
+        if side not in ("H", "P") or way not in ("R", "W") or not number:
+            raise Fault("access H|P R|W N [back]: a side, a way, and an address from 0 to 7 or a"
+                        " register, as in `access H R 1` or `access H R r1`")
+        access = self.access(f" {side} {way} {number} ".encode(), self._is_back(back))
+        self._say(said(access))
+        self._show_start()
 
+    def _show_start(self) -> None:
+        start = self.machine.current(self.tick)
+        if start is not None:
+            self._show(start)
+
+    @word("", "back to where the other side gave the byte that was taken last")
     def do_sender(self) -> None:
-        self._need_tube()
-        self._need_accesses()
-        here = LINE * self.past.lines_below(self.tick + 1)
-        place, giver = self.past.sender(LETTERS[self.side], here)
-        self._say(self._access_of(place))
-        self._say(self._access_of(giver))
-        self.side = "para" if self.side == "host" else "host"
-        tick = int(self.past.trace[giver : giver + 10], 16)
-        self._to(tick, self._machine.current(tick))
+        for access in self.sender():
+            self._say(said(access))
+        self._show_start()
+
+    @word("[back]", "to the next byte that is lost in a full register of the Tube")
+    def do_lost(self, back: str = "") -> None:
+        self._say(said(self.loss(self._is_back(back))))
+        self._show_start()
+
+    @word("[back]", "to the first instruction of the next interrupt")
+    def do_interrupt(self, back: str = "") -> None:
+        self._show(self.interrupt(self._is_back(back)))
+
+    @word("[back]", "to the first instruction after the next reset or BREAK")
+    def do_reset(self, back: str = "") -> None:
+        self._show(self.reset(self._is_back(back)))
 
     # --- What is there ---
 
-    def do_memory(self, word: str, length: str = "64") -> None:
-        address, count = self._address(word), self._count(length, 65536)
-        data = self._machine.bytes_at(self.tick, address, count)
+    @word("AAAA [LEN]", "bytes of the memory, 64 without a length")
+    def do_memory(self, text: str, length: str = "64") -> None:
+        address = self._address(text)
+        data = self.machine.view.bytes_at(self.tick, address, self._count(length, 65536))
         for at in range(0, len(data), 16):
             row = data[at : at + 16]
             letters = "".join(chr(byte) if 32 <= byte < 127 else "." for byte in row)
-            self._say("%04X  %-47s  %s" % (address + at, " ".join("%02X" % byte for byte in row), letters))
+            self._say("%04X  %-47s  %s" % (address + at, row.hex(" ").upper(), letters))
 
-    def do_list(self, word: str = "", count: str = "8") -> None:
-        address = self._address(word) if word else self._machine.state(self.tick).registers.pc
-        for at, text in self._machine.list_at(self.tick, address, self._count(count, 4096)):
-            self._say("%04X %s" % (at, self._text(self.side, at, text)))
+    @word("[AAAA [N]]", "instructions, from the next one on without an address")
+    def do_list(self, text: str = "", count: str = "8") -> None:
+        address = self._address(text) if text else self.machine.state(self.tick).registers.pc
+        view, number = self.machine.view, self._count(count, 4096)
+        for at, told in view.list_at(self.tick, address, number):
+            self._say("%04X %s" % (at, self._text(self.side, at, told)))
 
+    @word("", "what is on the stack, the top first")
     def do_stack(self) -> None:
-        state = self._machine.state(self.tick)
-        data = state.memory[0x101 + state.registers.s : 0x200]
+        state = self.machine.state(self.tick)
+        top = 0x101 + state.registers.s
+        data = state.memory[top:0x200]
         self._say("S=%02X, %d bytes" % (state.registers.s, len(data)))
         for at in range(0, len(data), 16):
-            self._say("%04X  %s" % (0x101 + state.registers.s + at, " ".join("%02X" % byte for byte in data[at : at + 16])))
+            self._say("%04X  %s" % (top + at, data[at : at + 16].hex(" ").upper()))
 
-    def _need_accesses(self) -> None:
-        if self.tick > self.past.held:
-            raise Fault("accesses to the Tube are at hand up to tick %d" % self.past.held)
+    @word("[N]", "accesses to the Tube, N before and N from now on; else 5")
+    def do_tube(self, number: str = "5") -> None:
+        self.need_tube()
+        self.need_accesses()
+        traffic, count = self.past.traffic, LENGTH * self._count(number, 1000)
+        here = traffic.place(self.tick)
+        for place in range(max(0, here - count), min(traffic.end, here + count), LENGTH):
+            if place == here:
+                self._say(f"now {self.tick}")
+            self._say(traffic.words(place))
 
-    def do_tube(self, word: str = "5") -> None:
-        self._need_tube()
-        self._need_accesses()
-        count, here = self._count(word, 1000), self.past.lines_below(self.tick)
-        for number in range(max(0, here - count), min(len(self.past.trace) // LINE, here + count)):
-            if number == here:
-                self._say("now %d" % self.tick)
-            self._say(self._access_of(LINE * number))
-
-    def do_screen(self, word: str = "7C00") -> None:
-        lines = screen_of(self.past.machines["host"].state(self.tick).memory, self._address(word))
+    @word("[AAAA]", "a page of teletext as text, from 7C00 without an address")
+    def do_screen(self, text: str = "7C00") -> None:
+        memory = self.past.machines["host"].state(self.tick).memory
+        lines = screen_of(memory, self._address(text))
         while lines and not lines[-1]:
             lines.pop()
         for line in lines:
             self._say(line)
 
+    @word("", "where the beam is, by the 6845; from then on `where` shows it")
+    def do_beam(self) -> None:
+        found = self.past.position(self.tick)
+        assert found is not None
+        self._say(found.text())
+
+    @word("FILE.png", "writes the last whole frame of the screen as a picture")
     def do_frame(self, name: str) -> None:
         look_at_place(name)
         write_beside(name, self.past.frame(self.tick).png())
 
     # --- Two runs, and the rest ---
 
+    @word("", "with --against: goes over to the other run, at the same tick")
     def do_other(self) -> None:
         if self._other is None:
-            raise Fault("there is one run alone: --against has another")
+            raise Fault("there is one run alone: --against names another")
         self.past, self._other = self._other, self.past
         self.tick = min(self.tick, self.past.end)
         if not self.past.has_tube:
@@ -382,180 +419,35 @@ class Debugger:
         self._say(self.past.name)
 
     def compare(self) -> None:
-        """Goes to where the two runs part, and shows both."""
+        """Goes to where the two runs begin to differ, and shows both."""
         if self._other is None:
             return
         found = parting(self.past, self._other)
         if found is None:
-            self._say("the same to tick %d, where the shorter run ends" % min(self.past.end, self._other.end))
+            end = min(self.past.end, self._other.end)
+            self._say(f"the same to tick {end}, where the shorter run ends")
             return
         self.tick, self.side = found.tick, found.sides[0]
-        self._say("the same to tick %d; then %s" % (found.tick, " and ".join(FULL[side] for side in found.sides)))
-        ticks = [found.tick, found.tick + 1]
+        sides = " and ".join(FULL[side] for side in found.sides)
+        self._say(f"the same to tick {found.tick}; then {sides}")
         for past in (self.past, self._other):
-            self._say("- %s" % past.name)
-            for tick in ticks:
+            self._say(f"- {past.name}")
+            for tick in (found.tick, found.tick + 1):
                 for side in found.sides:
-                    state = past.machines[side].state(tick)
-                    text = past.machines[side].text_at(tick, state.registers.pc)
-                    self._say("%d %s %s %s" % (tick, side, registers_of(state.registers), self._text(side, state.registers.pc, text)))
+                    machine = past.machines[side]
+                    registers = machine.state(tick).registers
+                    self._say(self._line(tick, side, registers, machine.view.text(tick)))
         for side in found.sides:
-            one, other = (past.machines[side].state(found.tick + 1).memory for past in (self.past, self._other))
+            one, other = (past.machines[side].state(found.tick + 1).memory
+                          for past in (self.past, self._other))
             for at in [at for at in range(len(one)) if one[at] != other[at]][:8]:
-                self._say("%s memory %04X: %02X, %02X" % (side, at, one[at], other[at]))
+                self._say(f"{side} memory {at:04X}: {one[at]:02X}, {other[at]:02X}")
 
-    def do_help(self, word: str = "") -> None:
-        names = [self._word(word)] if word else list(WORDS)
-        for name in names:
-            self._say("%-26s %s" % ((name + " " + WORDS[name][0]).strip(), WORDS[name][1]))
+    @word("[WORD]", "these commands, or one of them")
+    def do_help(self, name: str = "") -> None:
+        for it in [self._word(name)] if name else list(WORDS):
+            self._say("%-30s %s" % ((it + " " + WORDS[it].form).strip(), WORDS[it].text))
 
+    @word("", "ends")
     def do_quit(self) -> None:
         self.ended = True
-
-
-# --- The tool ---
-
-OPTIONS = ("-c", "--against", "--host-labels", "--para-labels")
-
-
-class Asked:
-    """The tool's words: those of the run or the session, and its own options. Usage where they are none."""
-
-    def __init__(self, words: Sequence[str]):
-        self.rest: List[str] = []
-        self.options: Dict[str, List[str]] = {option: [] for option in OPTIONS}
-        left = list(words)
-        while left:
-            word = left.pop(0)
-            if word not in OPTIONS:
-                self.rest.append(word)
-            elif not left:
-                raise Usage("%s: its value is wanted behind it" % word)
-            else:
-                self.options[word].append(left.pop(0))
-        if not self.rest:
-            raise Usage("the words of `run` or `solo` are wanted, those of a host behind `host`, or a session file")
-        if len(self.options["--against"]) > 1:
-            raise Usage("--against: it stands twice")
-
-
-def past_of(program: Program, words: Sequence[str], progress: Callable[[str], None]) -> Past:
-    """The past of the words of a run, or of a session file."""
-    if len(words) == 1 and words[0] not in ("run", "solo", "host"):
-        return Past.of_session(program, words[0], progress)
-    return Past.of_words(program, words, progress)
-
-
-class Progress:
-    """How far a word is that takes longer than half a second, on a line of the terminal that is written over."""
-
-    def __init__(self) -> None:
-        self.begin()
-
-    def begin(self) -> None:
-        """A word begins."""
-        self._from, self._shown = time.monotonic(), False
-
-    def __call__(self, text: str) -> None:
-        if sys.stderr.isatty() and time.monotonic() - self._from > 0.5:
-            sys.stderr.write("\r%-40s" % text)
-            sys.stderr.flush()
-            self._shown = True
-
-    def end(self) -> None:
-        """The word is done."""
-        if self._shown:
-            sys.stderr.write("\r%-40s\r" % "")
-            sys.stderr.flush()
-
-
-def limit_of(past: Past) -> str:
-    """What of a run cannot be reached; nothing where all can."""
-    if past.end <= past.held:
-        return ""
-    return ("a session holds {:,} accesses to the Tube at most, which are those up to tick {}: behind it, up to tick {}, states can be told, "
-            "but no instructions".format(MOST_ACCESSES, past.held, past.end))
-
-
-def ask(debugger: Debugger, progress: Progress) -> None:
-    """Words of a person, line by line, with a history."""
-    try:
-        import readline
-        readline.set_completer(lambda text, number: ([word + " " for word in WORDS if word.startswith(text)] + [None])[number])  # type: ignore[list-item]
-        readline.parse_and_bind("tab: complete")
-    except ImportError:
-        pass
-    debugger.try_to("where")
-    debugger.forget()
-    while not debugger.ended:
-        try:
-            line = input("%s %d> " % (debugger.side, debugger.tick))
-        except EOFError:
-            print()
-            return
-        except KeyboardInterrupt:
-            print()
-            continue
-        progress.begin()
-        try:
-            debugger.try_to(line)
-        except KeyboardInterrupt:
-            print()
-        progress.end()
-
-
-def _words_in(text: str) -> List[str]:
-    try:
-        return shlex.split(text)
-    except ValueError as error:
-        raise Usage("--against: %s" % error) from None
-
-
-def debug(words: Sequence[str]) -> int:
-    """The tool: 0, or 1 where a word of a script was wrong."""
-    asked, program, progress = Asked(words), Program(), Progress()
-    names = {side: Names([naming_read(name) for name in asked.options["--%s-labels" % side]]) for side in SIDES}
-    with contextlib.ExitStack() as stack:
-        past = past_of(program, asked.rest, progress)
-        stack.callback(past.close)
-        other = past_of(program, _words_in(asked.options["--against"][0]), progress) if asked.options["--against"] else None
-        if other is not None:
-            stack.callback(other.close)
-        return _debugged(asked, Debugger(past, names, other), progress, [one for one in (past, other) if one is not None])
-
-
-# The lines of standard input, as they come.
-def _given() -> Iterator[str]:
-    if sys.stdin is None:
-        raise Fault("cannot read -")
-    sys.stdin.reconfigure(errors="surrogateescape")  # type: ignore[union-attr]
-    while True:
-        try:
-            line = sys.stdin.readline(LONGEST)
-        except (OSError, ValueError):
-            raise Fault("cannot read -") from None
-        if not line:
-            return
-        if len(line) == LONGEST:
-            raise Fault("a line of standard input has {:,} letters or more".format(LONGEST))
-        yield line
-
-
-def _debugged(asked: Asked, debugger: Debugger, progress: Progress, pasts: List[Past]) -> int:
-    for one in pasts:
-        if limit_of(one):
-            sys.stderr.write("debug: %s\n" % limit_of(one))
-    debugger.compare()
-    progress.end()
-    if asked.options["-c"]:
-        for line in asked.options["-c"]:
-            debugger.try_to(line)
-    elif sys.stdin is not None and sys.stdin.isatty():
-        ask(debugger, progress)
-        return 0
-    else:
-        for line in _given():
-            if line.strip() and not debugger.ended:
-                debugger.try_to(line)
-    debugger.do_where()
-    return 1 if debugger.wrong else 0

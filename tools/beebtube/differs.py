@@ -141,6 +141,8 @@ def _of_traces(one: Trace, other: Trace) -> List[str]:
         lines += ["  both   %s" % line_of(access, one.second) for access in before]
         lines.append("  first  %s" % (line_of(here, one.second) if here is not None else "             nothing more"))
         lines.append("  second %s" % (line_of(there, one.second) if there is not None else "             nothing more"))
+        if here is not None and there is not None and here[1:] == there[1:]:
+            lines.append("  the ticks alone differ here: --order compares without times")
         return lines
 
 

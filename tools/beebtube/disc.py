@@ -11,18 +11,19 @@ from .files import IMAGE_CAP, Name, read_file
 SECTOR, TRACK = 256, 10
 LARGEST = {False: 204800, True: 409600}
 MOST_FILES = 31
+WATFORD = b"\xaa" * 8
 BOOTS = ("none", "load", "run", "exec")
 
 
 def is_double(name: Name) -> bool:
-    """A name is that of a DSD: it ends in .dsd, in capitals too."""
-    return os.fspath(name).lower().endswith(".dsd")
+    """A name is that of a DSD: it ends in .dsd, in capitals too, or in .dsd.gz."""
+    return os.fspath(name).lower().endswith((".dsd", ".dsd.gz"))
 
 
 def note_of(name: Name) -> Optional[str]:
     """What is to be said of a name that the program takes otherwise than the tools do; None where it does not."""
     shown = os.fspath(name)
-    if is_double(name) and not shown.endswith(".dsd"):
+    if shown.lower().endswith(".dsd") and not shown.endswith(".dsd"):
         return "beebtube takes %s as an SSD: with it the name of a DSD ends in .dsd" % shown
     return None
 
@@ -33,6 +34,9 @@ class Disc:
     def __init__(self, image: bytes, double: bool = False):
         self.image = bytes(image)
         self.double = double
+
+    def __repr__(self) -> str:
+        return f"<Disc: {'DSD' if self.double else 'SSD'}, {len(self.image):,} bytes>"
 
     @staticmethod
     def read(name: Name) -> "Disc":
@@ -72,6 +76,25 @@ class Disc:
         sectors = range(start, start + (length + SECTOR - 1) // SECTOR)
         return b"".join(self.sector(number, side) for number in sectors)[:length]
 
+    def lacking(self, start: int, length: int, side: int = 0) -> int:
+        """How many of these bytes from the first of a sector on lie past the end of the image."""
+        there = 0
+        for at in range(0, length, SECTOR):
+            there += max(0, min(SECTOR, length - at, len(self.image) - self._place(start + at // SECTOR, side)))
+        return length - there
+
+    @property
+    def is_sequential(self) -> bool:
+        """A DSD whose second side seems to stand behind the first one, and not in turn with it: there is its catalogue."""
+        def has_catalogue(disc: "Disc", side: int) -> bool:
+            try:
+                return bool(disc.catalogue(side).files)
+            except Fault:
+                return False
+
+        halves = [Disc(self.image[at:]) for at in (LARGEST[False] // 2, LARGEST[False]) if at < len(self.image)]
+        return self.double and not has_catalogue(self, 1) and any(has_catalogue(half, 0) for half in halves)
+
     def catalogue(self, side: int = 0) -> "Catalogue":
         """What stands on a side; Fault where there is no catalogue of the DFS."""
         return Catalogue(self, side)
@@ -110,6 +133,10 @@ def _file_of(names: bytes, places: bytes) -> File:
     )
 
 
+def _files_of(names: bytes, places: bytes) -> List[File]:
+    return [_file_of(names[at : at + 8], places[at : at + 8]) for at in range(8, places[5] + 1, 8)]
+
+
 class Catalogue:
     """A catalogue of the DFS.
 
@@ -117,6 +144,7 @@ class Catalogue:
     sectors        how many the side has
     option         what is done at boot: 0 nothing, 1 *LOAD, 2 *RUN, 3 *EXEC
     files          in the catalogue's order
+    is_long        it is of Watford's DFS, with room for 62 files
     """
 
     def __init__(self, disc: Disc, side: int = 0):
@@ -129,7 +157,12 @@ class Catalogue:
         self.title = _text_of(names[:8] + places[:4])
         self.cycle = places[4]
         self.option = places[6] >> 4 & 3
-        self.files: List[File] = [_file_of(names[at : at + 8], places[at : at + 8]) for at in range(8, count + 1, 8)]
+        self.files: List[File] = _files_of(names, places)
+        names, places = disc.sector(2, side), disc.sector(3, side)
+        # Watford's DFS has 31 files more in the next two sectors, which no file of the first part has then.
+        self.is_long = names[:8] == WATFORD and places[5] % 8 == 0 and places[5] <= 248 and all(it.sector > 3 for it in self.files if it.length)
+        if self.is_long:
+            self.files += _files_of(names, places)
 
     def find(self, name: str) -> File:
         """The file of a name, `$.NAME` or `NAME`, in either case; Fault where there is none."""
@@ -140,8 +173,12 @@ class Catalogue:
         raise Fault("no file is called %s.%s" % (folder, name))
 
     def bytes_of(self, file: File) -> bytes:
-        """The bytes of a file."""
+        """The bytes of a file; those past the end of the image are 00."""
         return self.disc.span(file.sector, file.length, self.side)
+
+    def lacking(self, file: File) -> int:
+        """How many of a file's bytes lie past the end of the image."""
+        return self.disc.lacking(file.sector, file.length, self.side)
 
 
 # --- Discs that are made ---
@@ -194,22 +231,30 @@ def parse_inf(text: str) -> Tuple[str, str, bool, int, int]:
     return folder, short, any(word.upper() in ("L", "LOCKED") for word in words[2:]), _address(numbers[0]), _address(numbers[1])
 
 
+def shown_address(address: int) -> str:
+    """An address of 18 bits, six digits: those from 30000 on are of the host, as FF0000 and on."""
+    return "%06X" % (address | (0xFC0000 if address >> 16 == 3 else 0))
+
+
+def file_name(file: File) -> str:
+    """The name of a catalogue's file as one of a folder: what is no letter of a name there is `%XX`, and so is a blank."""
+    return re.sub(r"[^!-~]|[%/]|^[.]", lambda match: "%%%02X" % (ord(match.group()) & 255), file.whole_name)
+
+
 def text_of_inf(file: File) -> str:
     """The text of an .inf file for a file of a catalogue."""
-    def whole(address: int) -> int:
-        return address | (0xFC0000 if address >> 16 == 3 else 0)
-
-    return "%s %06X %06X %06X%s\n" % (file.whole_name, whole(file.load), whole(file.start), file.length, " L" if file.locked else "")
+    name = '"%s"' % file.whole_name if " " in file.whole_name else file.whole_name
+    return "%s %s %s %06X%s\n" % (name, shown_address(file.load), shown_address(file.start), file.length, " L" if file.locked else "")
 
 
 def read_new_file(name: Name) -> NewFile:
     """A file for a disc, with what NAME.inf beside it says; where there is none, its own name is the name, and the addresses are 0."""
-    data, beside = read_file(name, LARGEST[False]), os.fspath(name) + ".inf"
+    data, beside = read_file(name, LARGEST[False], plain=True), os.fspath(name) + ".inf"
     if not os.path.exists(beside) and os.path.exists(os.fspath(name) + ".INF"):
         beside = os.fspath(name) + ".INF"
     try:
         if os.path.exists(beside):
-            return NewFile(*parse_inf(read_file(beside, 4096).decode("latin-1")), data=data)
+            return NewFile(*parse_inf(read_file(beside, 4096, plain=True).decode("latin-1")), data=data)
         return NewFile(*split_name(os.path.basename(os.fspath(name))), locked=False, load=0, start=0, data=data)
     except Fault as fault:
         raise Fault("%s: %s" % (beside if os.path.exists(beside) else os.fspath(name), fault)) from None
@@ -253,7 +298,8 @@ def _same_name(file: File, folder: str, name: str) -> bool:
 # The first sector of the first gap that has so many; Fault where none has.
 def _gap(files: List[File], sectors: int, wanted: int) -> int:
     at, largest = 2, 0
-    for file in sorted(files, key=lambda file: file.sector) + [None]:  # type: ignore[list-item]
+    by_sector: List[Optional[File]] = [*sorted(files, key=lambda file: file.sector), None]
+    for file in by_sector:
         room = (sectors if file is None else file.sector) - at
         if room >= wanted:
             return at
@@ -263,9 +309,16 @@ def _gap(files: List[File], sectors: int, wanted: int) -> int:
     raise Fault("it wants %d sectors, and the largest gap of the disc has %d" % (wanted, largest))
 
 
+def _to_change(disc: Disc, side: int) -> Catalogue:
+    catalogue = disc.catalogue(side)
+    if catalogue.is_long:
+        raise Fault("a catalogue of Watford's DFS, with room for 62 files, is read and not written")
+    return catalogue
+
+
 def with_file(disc: Disc, new: NewFile, side: int = 0) -> Disc:
     """The disc with a file put in, in the place of one of the same name. Fault where that one is locked, or there is no room."""
-    old = disc.catalogue(side)
+    old = _to_change(disc, side)
     files = [file for file in old.files if not _same_name(file, new.folder, new.name)]
     if any(file.locked for file in old.files if file not in files):
         raise Fault("%s is locked" % new.whole_name)
@@ -282,7 +335,7 @@ def with_file(disc: Disc, new: NewFile, side: int = 0) -> Disc:
 
 def without_file(disc: Disc, name: str, side: int = 0) -> Disc:
     """The disc with a file taken out of its catalogue; its bytes stay where they were. Fault where there is none, or it is locked."""
-    old = disc.catalogue(side)
+    old = _to_change(disc, side)
     file = old.find(name)
     if file.locked:
         raise Fault("%s is locked" % file.whole_name)
@@ -291,5 +344,5 @@ def without_file(disc: Disc, name: str, side: int = 0) -> Disc:
 
 def with_option(disc: Disc, option: int, title: Optional[str] = None, side: int = 0) -> Disc:
     """The disc with another option at boot, and another title, if one is said."""
-    old = disc.catalogue(side)
+    old = _to_change(disc, side)
     return _with_catalogue(disc, side, old.title if title is None else title, old.cycle, old.sectors, option, old.files)

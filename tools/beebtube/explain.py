@@ -4,6 +4,7 @@ The launcher calls this as `python3 explain.py STATUS TEXT WORD ..` and prints i
 """
 from __future__ import annotations
 
+import io
 import os
 import re
 import sys
@@ -12,7 +13,7 @@ from typing import Dict, List, Optional, Sequence, Tuple
 if __package__:
     from .disc import LARGEST
     from .faults import Fault
-    from .files import IMAGE_CAP, SESSION_CAP, SOURCE_CAP, TRACE_CAP, Name, open_file, read_file
+    from .files import IMAGE_CAP, SESSION_CAP, SOURCE_CAP, Name, is_plain, open_file, read_file
     from .script import BadScript, Script
     from .words import Call, WrongWord
     from .words import shown as shown_word
@@ -39,7 +40,8 @@ def explain(status: int, text: str, words: Sequence[str], folder: "Name" = ".") 
         name = {what: os.path.join(os.fspath(folder), name) for what, name in call.reads()}
         if status == 3:
             return _of_image(text, call, name)
-        if status == 4:
+        # What came through a pipe is gone: opening it again would wait for another writer.
+        if status == 4 and all(is_plain(it) for it in name.values()):
             return _of_text(text, call, name)
     except Exception:  # noqa: BLE001 # what is said besides is never worth a failure
         pass
@@ -325,8 +327,8 @@ if __name__ == "__main__":
     sys.path[0] = os.path.dirname(os.path.dirname(os.path.realpath(__file__)))
     from beebtube.explain import _main as _run
 
-    for _stream in (sys.stdout,):
-        _stream.reconfigure(encoding="utf-8", errors="surrogateescape")  # type: ignore[union-attr]
+    if isinstance(sys.stdout, io.TextIOWrapper):
+        sys.stdout.reconfigure(encoding="utf-8", errors="surrogateescape")
     try:
         _run(sys.argv[1:])
         sys.stdout.flush()

@@ -1,11 +1,15 @@
 """What a tool or a test is told where something is wrong."""
 from __future__ import annotations
 
-from typing import Iterable, List
+from typing import Iterable, List, Tuple
 
 
 class Fault(Exception):
     """Something is wrong outside of this package: a file, a word, an input. Its text is for a person, in one line or a few."""
+
+
+class NoRoom(Fault):
+    """A disk is full: what comes next cannot be written either."""
 
 
 class Refused(Fault):
@@ -21,3 +25,6 @@ class Refused(Fault):
         self.text = text
         self.why: List[str] = list(why)
         super().__init__("\n".join(["status %d: %s" % (status, text or "nothing was said")] + self.why))
+
+    def __reduce__(self) -> "Tuple[type, Tuple[int, str, List[str]]]":
+        return type(self), (self.status, self.text, self.why)

@@ -1,6 +1,7 @@
 """Frames, the pixmaps that shots write, and pictures (PNG, and animated ones, APNG) of them."""
 from __future__ import annotations
 
+import functools
 import os
 import struct
 import zlib
@@ -39,12 +40,53 @@ class Frame:
         if not pixmap.startswith(HEADER) or len(pixmap) != LENGTH:
             raise Fault("%s is no frame of 640 by 256" % name)
         self.pixmap = pixmap
-        self.colours = either(*(pixmap[len(HEADER) + part :: 3].translate(_BITS[part]) for part in range(3)))
+        self.colours = _colours_of(pixmap)
 
     @staticmethod
     def read(name: Name) -> "Frame":
         """The frame of a file; Fault where it is none."""
         return Frame(read_file(name), str(name))
+
+    @staticmethod
+    def of_colours(colours: bytes) -> "Frame":
+        """The frame of 640 by 256 colours, row by row."""
+        parts = bytearray(3 * len(colours))
+        for part in range(3):
+            parts[part::3] = colours.translate(bytes(255 * (colour >> part & 1) for colour in range(256)))
+        return Frame(HEADER + bytes(parts))
+
+    @staticmethod
+    def of_png(picture: bytes, name: str = "the picture") -> "Frame":
+        """The frame of a PNG that `png` made; Fault if it is none."""
+        lines = lines_in(picture, name)
+        if len(lines) != 1:
+            raise Fault("%s has %d frames" % (name, len(lines)))
+        pairs = b"".join(lines[0][at + 1 : at + 1 + WIDTH // 2] for at in range(0, LINES, 2 + WIDTH))
+        colours = bytearray(WIDTH * HEIGHT)
+        colours[::2] = pairs.translate(bytes(byte >> 4 & 7 for byte in range(256)))
+        colours[1::2] = pairs.translate(bytes(byte & 7 for byte in range(256)))
+        return Frame.of_colours(bytes(colours))
+
+    def __repr__(self) -> str:
+        return f"<Frame: colours {''.join(map(str, sorted(set(self.colours))))}, crc {zlib.crc32(self.colours):08X}>"
+
+    def box(self, other: "Frame") -> Optional[Tuple[int, int, int, int]]:
+        """The smallest box that holds every pixel in which this frame and another differ: its left, top, right and bottom
+        pixel, each inside it. None if they are equal."""
+        rows = [y for y in range(HEIGHT) if self.row(y) != other.row(y)]
+        if not rows:
+            return None
+        columns = 0
+        for y in rows:
+            columns |= int.from_bytes(self.row(y), "big") ^ int.from_bytes(other.row(y), "big")
+        places = [x for x, byte in enumerate(columns.to_bytes(WIDTH, "big")) if byte]
+        return places[0], rows[0], places[-1], rows[-1]
+
+    def difference(self, other: "Frame") -> "Frame":
+        """A frame that is white where this one and another differ, and black elsewhere."""
+        size = len(self.colours)
+        apart = (int.from_bytes(self.colours, "big") ^ int.from_bytes(other.colours, "big")).to_bytes(size, "big")
+        return Frame.of_colours(apart.translate(bytes([0]) + bytes([7]) * 255))
 
     def pixel(self, x: int, y: int) -> int:
         """The colour of a pixel; x from 0 to 639 to the right, y from 0 to 255 down."""
@@ -69,7 +111,18 @@ class Frame:
 
     def png(self) -> bytes:
         """The frame as a PNG of 640 by 512."""
-        return picture_of([self])
+        return _png_of(self)
+
+
+# A suite makes a picture and a page of one frame.
+@functools.lru_cache(maxsize=2)
+def _colours_of(pixmap: bytes) -> bytes:
+    return either(*(pixmap[len(HEADER) + part :: 3].translate(_BITS[part]) for part in range(3)))
+
+
+@functools.lru_cache(maxsize=2)
+def _png_of(frame: Frame) -> bytes:
+    return picture_of([frame])
 
 
 def _part(name: bytes, data: bytes) -> bytes:
@@ -97,12 +150,15 @@ def picture_of(frames: Sequence[Frame], delay: Optional[int] = None) -> bytes:
 
 
 def look_at_place(name: Name) -> None:
-    """Fault where a file of another kind stands under the name of a picture that is to be written: the name came there by a mistake."""
+    """Fault where a file that is no picture of frames stands under the name of one that is to be written: the name came there by a
+    mistake, or the picture is somebody's own."""
     if is_plain(name):
+        begin, palette = SIGNATURE + _part(b"IHDR", SIZE), _part(b"PLTE", PALETTE)
         with open_file(name) as file:
-            begin = file.read(len(SIGNATURE))
-        if begin not in (b"", SIGNATURE):
-            raise Fault("%s is there, and is no picture: it is not written over" % os.fspath(name))
+            found = file.read(len(begin) + 20 + len(palette))
+        # The part `acTL` of a moving picture, 20 bytes, may stand before its colours.
+        if found and not (found.startswith(begin) and found[len(begin) :].startswith((palette, b"\0\0\0\10acTL"))):
+            raise Fault("%s is there, and is no picture that was made here: it is not written over" % os.fspath(name))
 
 
 # The parts of a picture, by their names; Fault where it ends inside one, or a part has another sum.
@@ -145,3 +201,15 @@ def lines_in(picture: bytes, name: str = "the picture") -> List[bytes]:
     if kinds[:1] != [b"IHDR"] or kinds.count(b"IHDR") != 1 or kinds.count(b"PLTE") != 1 or kinds[-1:] != [b"IEND"]:
         raise Fault("%s is no picture that was made here" % name)
     return frames
+
+
+def box_of(one: bytes, other: bytes) -> Optional[Tuple[int, int, int, int]]:
+    """The box of pixels that differ in the lines of two frames: x from, x to, y from, y to, as a frame has them; None where none does."""
+    long = 1 + WIDTH // 2
+    rows, columns = [], []
+    for y in range(HEIGHT):
+        first, second = one[2 * y * long : (2 * y + 1) * long], other[2 * y * long : (2 * y + 1) * long]
+        if first != second:
+            rows.append(y)
+            columns += [2 * at + right for at, (a, b) in enumerate(zip(first[1:], second[1:])) for right in (0, 1) if (a ^ b) >> 4 * (1 - right) & 15]
+    return (min(columns), max(columns), rows[0], rows[-1]) if rows else None

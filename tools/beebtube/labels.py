@@ -6,12 +6,12 @@ import re
 from typing import TYPE_CHECKING, Dict, Iterator, List, Optional, Tuple
 
 from .faults import Fault, Refused
+from .files import Name
 
 if TYPE_CHECKING:
-    from .program import Program
+    from .program import Part, Program
 
 LABEL = re.compile(rb"[ \t]*([A-Za-z_][A-Za-z0-9_]*)[ \t]*:")
-LINE = re.compile(r"([0-9A-F]{4}) ([A-Za-z_][A-Za-z0-9_]*)")
 FIRST = re.compile(rb"[ \t]*(?:[A-Za-z_][A-Za-z0-9_]*[ \t]*:)?[ \t]*(?:([A-Za-z_0-9]+)[ \t]*(&?[0-9A-Fa-f]+)?)?")
 
 
@@ -29,6 +29,13 @@ class Labels:
     def __len__(self) -> int:
         return len(self._sorted)
 
+    def __contains__(self, name: object) -> bool:
+        """There is a label of this name."""
+        return name in self.addresses
+
+    def __repr__(self) -> str:
+        return f"Labels({self.addresses!r})"
+
     def __getitem__(self, name: str) -> int:
         """The address of a label; Fault where there is none."""
         if name not in self.addresses:
@@ -37,8 +44,15 @@ class Labels:
 
     def names_at(self, address: int) -> List[str]:
         """The labels at an address."""
-        first = bisect.bisect_left(self._sorted, (address, ""))
-        return [name for at, name in self._sorted[first : first + len(self._sorted)] if at == address] if first < len(self) else []
+        first, last = (bisect.bisect_left(self._sorted, (at, "")) for at in (address, address + 1))
+        return [self._sorted[at][1] for at in range(first, last)]
+
+    def place(self, address: int) -> str:
+        """An address as a person reads it: `loop+2 (0802)`, or `0802` if no label is at or below it."""
+        found = self.near(address, 4095)
+        if found is None:
+            return "%04X" % address
+        return f"{found[0]}{'+%d' % found[1] if found[1] else ''} ({address:04X})"
 
     def near(self, address: int, most: int = 65535) -> Optional[Tuple[str, int]]:
         """The last label at or below an address, and how far it is behind it; None where there is none within `most` bytes."""
@@ -54,17 +68,18 @@ class Labels:
 
     @staticmethod
     def parse(text: str) -> "Labels":
-        """The labels of such a text; Fault at a line outside the form."""
-        found: Dict[str, int] = {}
-        for number, line in enumerate(text.splitlines(), 1):
-            match = LINE.fullmatch(line)
-            if not match or match.group(2) in found:
-                raise Fault("bad labels %d: a line has four upper-case hexadecimal digits and a label that no line before has" % number)
-            found[match.group(2)] = int(match.group(1), 16)
-        return Labels(found)
+        """The labels of a text: plain lines, those of ld65's `-Ln`, or a dump of BeebAsm; Fault if it has none of these forms."""
+        from .naming import parse
+        return parse(text)
 
     @staticmethod
-    def of_source(program: "Program", part: str, source: bytes) -> "Labels":
+    def read(name: Name) -> "Labels":
+        """The labels of a file of one of these forms."""
+        from .naming import read
+        return read(name)
+
+    @staticmethod
+    def of_source(program: "Program", part: "Part", source: bytes) -> "Labels":
         """The labels of a source text, which the program's own assembler tells: it assembles the text with words of all labels in
         front of it, or behind it where there is no room in front. Refused where it refuses the text; Fault where neither has room.
 
@@ -98,7 +113,7 @@ def _origin_of(source: bytes) -> int:
 
 
 # The addresses of some labels: the words of them are put before the source, or behind it.
-def _told(program: "Program", part: str, source: bytes, names: List[str], origin: int, length: int, before: bool) -> Dict[str, int]:
+def _told(program: "Program", part: "Part", source: bytes, names: List[str], origin: int, length: int, before: bool) -> Dict[str, int]:
     wanted, told = list(names), {}
     while wanted:
         words = b"".join(b"word %s\n" % name.encode() for name in wanted)

@@ -1,4 +1,5 @@
-"""A listing of `follow` beside what MAME's debugger wrote of the same program with its command `trace`.
+"""A listing of `follow` beside what MAME's debugger wrote of the same program with its command `trace`, of the host
+(`trace FILE,maincpu`) or of the second processor (`trace FILE,:tube:6502:maincpu`).
 
 A line of MAME's is `C000: ldx #$ff`, with what `tracelog` printed in front of it or on lines of its own; registers are taken from there
 in the form `A=00 X=FF Y=00 S=1FF P=34`. Without `noloop` it leaves out instructions of a loop, and tells how many:

@@ -39,11 +39,15 @@ def parse(text: str, name: str = "the labels") -> Labels:
         if not DUMPED.fullmatch(dump.group(1)):
             raise Fault("%s: a dump of BeebAsm is [{'start':49152L,'loop':49154L}]" % name)
         for label, number in BEEBASM.findall(dump.group(1)):
+            if not label.isprintable():
+                raise Fault("%s: a label has a letter that cannot be printed" % name)
             if 0 <= int(number) < 65536:
                 found.setdefault(label, int(number))
         return Labels(found)
     for number, line in enumerate(text.splitlines(), 1):
         match = LD65.fullmatch(line.strip()) or PLAIN.fullmatch(line.strip())
+        if match and not line.strip().isprintable():
+            raise Fault("%s, line %d: a label has a letter that cannot be printed" % (name, number))
         if match and int(match.group(1), 16) < 65536:
             found.setdefault(match.group(2), int(match.group(1), 16))
         elif line.strip() and not match:
@@ -115,7 +119,7 @@ def named(lines: Iterator[str], names: Names) -> Iterator[str]:
     for number, line in enumerate(itertools.chain([first], lines), 1):
         line = line.rstrip("\n")
         match = LISTED.fullmatch(line)
-        if not match:
+        if not match or not line.isprintable():
             raise Fault("line %d is no line of a listing" % number)
         at = names.of(int(match.group(1), 16))
         line = line[:TEXT] + names.text(line[TEXT:])
@@ -132,7 +136,7 @@ def _named_source(lines: List[str], names: Names) -> Iterator[str]:
         raise Fault("line 1 is no `org` of a text of `dis`")
     address, places = int(match.group(1), 16), []
     for number, line in enumerate(lines[1:], 2):
-        if not SOURCE.fullmatch(line):
+        if not SOURCE.fullmatch(line) or not line.isprintable():
             raise Fault("line %d is no line of a text of `dis`" % number)
         places.append(address)
         address += length_of(line)

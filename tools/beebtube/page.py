@@ -6,34 +6,30 @@ policy lets it run the one script of `page.js` and use the one style of `page.cs
 from __future__ import annotations
 
 import base64
-import functools
-import hashlib
 import html
 import json
 import os
-import re
-import shlex
-import zlib
+import sys
 from array import array
-from typing import Any, Dict, Iterable, List, NamedTuple, Optional, Sequence, Tuple
+from typing import Any, Dict, List, NamedTuple, Optional, Tuple
 
-from .columns import Columns, Waits, columns_of, lanes_of, told
+from .columns import Columns, columns_of
 from .differs import Outputs, differences, picture_frames
-from .disc import LARGEST, SECTOR, TRACK, Catalogue, Disc, File
+from .disc import LARGEST, Disc
 from .faults import Fault
-from .files import IMAGE_CAP, OUTPUT_CAP, TRACE_CAP, Name, Sum, is_plain, own_folder, read_file, read_text, sum_of, write_beside
+from .files import IMAGE_CAP, TRACE_CAP, Sum, read_file, sum_of
 from .frame import Frame
-from .manifest import HEAD
-from .program import Program, screen_of, version
-from .report import Registers, Report
+from .instructions import instructions
+from .manifest import Manifest
+from .markup import asset, element, grouped, shown, small, table
+from .page_discs import side_of
+from .page_tube import tube_of
+from .program import screen_of
+from .report import Registers
 from .report import parse as parse_report
 from .script import KEYS, Script
-from .words import Call
 
 BEGIN = "<!DOCTYPE html>\n<!-- beebtube page 1 -->\n"
-HERE = os.path.dirname(os.path.realpath(__file__))
-STRETCHES = 1200  # of the chart
-SAMPLES = 256  # stretches of accesses, where the page has not all of them
 ROWS = 2000  # the most rows of a table of keys
 SOUND_CAP = 16777216
 RATE = 31250  # samples of a second
@@ -62,84 +58,6 @@ class Asked(NamedTuple):
     against: Optional[str] = None
     title: Optional[str] = None
     sums: Dict[str, Sum] = {}
-
-
-def shown(text: str) -> str:
-    """A text of somebody else as it may stand in a page: what cannot be shown is `?`, and signs of HTML are escaped."""
-    return html.escape("".join(letter if letter.isprintable() else "?" for letter in text))
-
-
-def grouped(number: int) -> str:
-    return "{:,}".format(number)
-
-
-def element(name: str, inner: str, **attributes: str) -> str:
-    """An element with its inner HTML; attributes are texts, a last `_` of their names left out."""
-    given = "".join(' %s="%s"' % (key.rstrip("_").replace("_", "-"), html.escape(value)) for key, value in attributes.items())
-    return "<%s%s>%s</%s>" % (name, given, inner, name)
-
-
-def table(heads: Sequence[str], rows: Iterable[Sequence[str]], caption: str) -> str:
-    """A table of cells of HTML; the first of a row is its head."""
-    lines = ["<tr>%s</tr>" % "".join(element("th", head, scope="col") for head in heads)]
-    for row in rows:
-        lines.append("<tr>%s%s</tr>" % (element("th", row[0], scope="row"), "".join(element("td", cell) for cell in row[1:])))
-    inner = element("caption", caption) + element("thead", lines[0]) + element("tbody", "\n".join(lines[1:]))
-    return element("div", element("table", inner), class_="wide", tabindex="0", role="region", aria_label=html.unescape(re.sub("<[^>]*>", "", caption)))
-
-
-def small(data: bytes) -> str:
-    """Bytes made smaller, as the page's script reads them."""
-    return base64.b64encode(zlib.compress(data, 6)).decode()
-
-
-# --- Words and sums ---
-
-
-class Manifest:
-    """A manifest: its words, and what it says of each file. Fault where it is none."""
-
-    def __init__(self, name: str, sums: Dict[str, Sum]):
-        lines = read_text(name).splitlines()
-        if lines[:1] != [HEAD]:
-            raise Fault("%s is no manifest" % name)
-        self.sums = sums
-        self.name, self.lines = name, [line for line in lines[1:] if not line.startswith(("read ", "wrote "))]
-        self.files: List[Tuple[str, str, str]] = []
-        for line in lines:
-            match = re.fullmatch(r"(read|wrote) ([0-9a-f]{64} [0-9]{1,12}) (.+)", line)
-            if match:
-                self.files.append((match.group(1), match.group(3), match.group(2)))
-        self.call = self._call()
-
-    def _call(self) -> Optional[Call]:
-        for line in self.lines:
-            if line.startswith("words "):
-                try:
-                    return Call(shlex.split(line[6:]))
-                except (Fault, ValueError):
-                    return None
-        return None
-
-    def place(self, name: str) -> str:
-        """The path of a file that the manifest names: from its own folder on."""
-        return os.path.join(os.path.dirname(self.name), name)
-
-    def found(self, name: str, wanted: str) -> str:
-        """What stands under a name now, beside what the manifest says."""
-        place = self.place(name)
-        if not is_plain(place) or os.path.getsize(place) > OUTPUT_CAP:
-            return "not here"
-        found = self.sums.get(place) or sum_of(place)
-        return "the same here" if str(found) == wanted else "another here"
-
-    def read(self, option: str) -> Optional[str]:
-        """The path of the file that an option named, where it is here with the manifest's sum; else None."""
-        name = self.call.options.get(option) if self.call is not None else None
-        for kind, named, wanted in self.files:
-            if kind == "read" and named == name and self.found(named, wanted) == "the same here":
-                return self.place(named)
-        return None
 
 
 # --- The page ---
@@ -190,7 +108,7 @@ class Page:
         return columns
 
     def _input(self, given: Optional[str], option: str) -> Optional[str]:
-        name = given if given is not None else self.manifest.read(option) if self.manifest is not None else None
+        name = given if given is not None else self.manifest.of_option(option) if self.manifest is not None else None
         if name is not None:
             self.reads.append(name)
         return name
@@ -273,14 +191,11 @@ class Page:
         self.add("screens", "Screens", _VIEWER % (number - 1), element("ol", "\n".join(thumbs), class_="thumbs", start="0"))
 
     def add_sound(self) -> None:
-        name = self.asked.wav
-        if name is None:
-            name = self._input(None, "--wav") or self._written("--wav")
+        name = self._input(self.asked.wav, "--wav")
         if name is None:
             self.add("sound", "Sound", "<p>No sound was handed to this page.</p>")
             return
         wav = read_file(name, SOUND_CAP)
-        self.reads.append(name)
         self.sums.append((name, Sum([wav])))
         samples = _samples(wav, name)
         self.data["wav"] = small(wav)
@@ -288,66 +203,15 @@ class Page:
         self.add("sound", "Sound", '<audio id="heard" controls aria-label="The sound of the run"></audio>',
                  element("figure", _waveform(samples, told_of) + element("figcaption", told_of)))
 
-    # The path of what an option wrote, where it is here.
-    def _written(self, option: str) -> Optional[str]:
-        call = self.manifest.call if self.manifest is not None else None
-        name = call.options.get(option) if call is not None and self.manifest is not None else None
-        return self.manifest.place(name) if name is not None and self.manifest is not None and is_plain(self.manifest.place(name)) else None
-
-    # --- The Tube ---
-
     def add_tube(self) -> None:
         if self.asked.trace is None:
             self.add("tube", "Tube", "<p>The trace was not read for this page.</p>")
-            return
-        if self.columns is None:
+        elif self.columns is None:
             self.add("tube", "Tube", "<p>The run wrote no trace.</p>")
-            return
-        columns = self.columns
-        waits = Waits(columns)
-        lines = element("ul", "\n".join(element("li", shown(line)) for line in told(columns, waits)), id="tube-told")
-        if not columns.codes:
-            self.add("tube", "Tube", lines)
-            return
-        ticks = max(self.report.ticks, columns.orders[-1] // 2 + 1)
-        lanes = lanes_of(columns, waits, ticks, STRETCHES)
-        self.data["lanes"] = [lane._asdict() for lane in lanes if any(lane.values)]
-        self.data["span"] = ticks
-        sums = [[lane.name, "%.3f ms" % (1000 * sum(lane.values) / self.second) if lane.unit == "ticks" else "%s %s" % (grouped(sum(lane.values)), lane.unit)]
-                for lane in lanes]
-        self.add("tube", "Tube", lines, element("p", "%s A bar of the chart stands for %.3f ms or more; the trace ends at %s."
-                                     % (self._put_accesses(columns), 1000 * ticks / STRETCHES / self.second, self.time(columns.orders[-1] // 2)), id="tube-sampled"), _CHART,
-                 element("details", "<summary>The chart in numbers</summary>" + table(["What", "In all"], sums, "What the chart shows")))
-
-    # Puts accesses into the page; tells which.
-    def _put_accesses(self, columns: Columns) -> str:
-        number, most = len(columns.codes), self.asked.trace or 0
-        if number <= most:
-            spans = [(0, number)]
         else:
-            each = max(most // SAMPLES, 1)
-            spans = [(at * (number - each) // max(SAMPLES - 1, 1), each) for at in range(min(SAMPLES, most))]
-        orders, codes, values = array("I"), [], []
-        for first, length in spans:
-            orders.extend(columns.orders[first : first + length])
-            codes.append(columns.codes[first : first + length].translate(_BARE))
-            values.append(columns.values[first : first + length])
-        before = array("I", [0]) + orders[:-1]
-        steps = array("I", map(int.__sub__, orders, before))
-        if steps.itemsize != 4:
-            raise Fault("this Python has other numbers than those of 32 bits")
-        if os.sys.byteorder == "big":  # type: ignore[attr-defined]
-            steps.byteswap()
-        self.data["accesses"] = {"number": len(orders), "spans": spans, "all": number, "steps": small(steps.tobytes()),
-                                 "codes": small(b"".join(codes)), "values": small(b"".join(values))}
-        if self.report.kept is not None and self.report.tube > number:
-            begin = "The run had %s accesses, and its trace has the first %s. " % (grouped(self.report.tube), grouped(number))
-        else:
-            begin = ""
-        if number <= most:
-            return begin + "The page has all accesses of the trace."
-        return begin + ("Sampled: the page has %s of the trace's %s accesses in words, in %s stretches that lie evenly. The sums and the chart "
-                        "are of all of them." % (grouped(len(orders)), grouped(number), grouped(len(spans))))
+            parts, data = tube_of(self.columns, self.report, self.second, self.asked.trace)
+            self.data.update(data)
+            self.add("tube", "Tube", *parts)
 
     # --- Memories ---
 
@@ -392,7 +256,7 @@ class Page:
             disc = Disc(image, before.double if before is not None else len(image) > LARGEST[False])
             parts.append(element("h3", "Drive %d" % drive))
             for side in (0, 1) if disc.double else (0,):
-                parts.append(_side(disc, before, side, "Drive %d, side %d" % (drive, side) if disc.double else "Drive %d" % drive))
+                parts.append(side_of(disc, before, side, "Drive %d, side %d" % (drive, side) if disc.double else "Drive %d" % drive))
         self.add("discs", "Discs", *(parts or ["<p>No disc was in a drive.</p>"]))
 
     def add_script(self) -> None:
@@ -431,8 +295,6 @@ class Page:
         self.add("against", "Against %s" % shown(os.path.basename(self.asked.against)), *parts)
 
 
-_BARE = bytes(code & 63 for code in range(256))
-
 _VIEWER = """<figure class="viewer">
 <button type="button" id="shot-large" aria-label="Enlarge this shot"><img id="shot" alt="" width="640" height="512"></button>
 <figcaption id="shot-told" aria-live="polite"></figcaption>
@@ -440,16 +302,6 @@ _VIEWER = """<figure class="viewer">
 <button type="button" id="shot-play" aria-pressed="false">Play</button><button type="button" id="shot-on">On</button>
 <label for="shot-at">Shot</label> <input type="range" id="shot-at" min="0" max="%d" value="0"></div></figure>
 <dialog id="large" aria-label="A shot, enlarged"><button type="button" id="large-close">Close</button><img id="large-image" alt=""></dialog>"""
-
-_CHART = """<div class="tools" role="group" aria-label="The chart"><button type="button" id="zoom-in">Zoom in</button>
-<button type="button" id="zoom-out">Zoom out</button><button type="button" id="zoom-all">Whole run</button>
-<button type="button" id="move-left">Earlier</button><button type="button" id="move-right">Later</button>
-<button type="button" id="access-back">Access before</button><button type="button" id="access-on">Access after</button></div>
-<p id="chart-help">In the chart: the mouse tells the accesses at a place, its wheel with CTRL zooms; + and - zoom, 0 shows the whole,
-left and right go from access to access, PAGE UP and PAGE DOWN move.</p>
-<div id="chart" tabindex="0" role="group" aria-label="The Tube over time" aria-describedby="chart-help"></div>
-<p id="chart-told" aria-live="polite"></p>
-<pre id="accesses" tabindex="0" aria-label="Accesses around this place"></pre>"""
 
 _VIEW = """<div class="tools" role="group" aria-label="A memory"><label for="memory">Memory</label> <select id="memory">%s</select>
 <label for="address">Address</label> <input id="address" size="5" maxlength="4" value="0000" autocomplete="off">
@@ -480,7 +332,7 @@ def _samples(wav: bytes, name: str) -> "array[int]":
     if wav[:4] != b"RIFF" or wav[8:16] != b"WAVEfmt " or wav[22:28] != b"\1\0" + RATE.to_bytes(4, "little") or wav[34:36] != b"\x10\0" or len(wav) % 2:
         raise Fault("%s is no sound of a run" % name)
     samples = array("h", wav[44:])
-    if os.sys.byteorder == "big":  # type: ignore[attr-defined]
+    if sys.byteorder == "big":
         samples.byteswap()
     return samples
 
@@ -492,53 +344,6 @@ def _waveform(samples: "array[int]", told_of: str) -> str:
         if part:
             path.append("M%d %.1fV%.1f" % (at, 100.5 - min(part) / 328, 99.5 - max(part) / 328))
     return ('<svg viewBox="0 0 800 101" preserveAspectRatio="none" class="wave" role="img" aria-label="Waveform: %s"><path d="%s"/></svg>' % (told_of, "".join(path)))
-
-
-# --- Discs ---
-
-
-def _catalogue(disc: Optional[Disc], side: int) -> Optional[Catalogue]:
-    try:
-        return disc.catalogue(side) if disc is not None and (disc.double or not side) else None
-    except Fault:
-        return None
-
-
-def _side(disc: Disc, before: Optional[Disc], side: int, name: str) -> str:
-    parts = []
-    now, was = _catalogue(disc, side), _catalogue(before, side)
-    if before is None:
-        parts.append("<p>What the run changed is not told: the disc before it was not handed to this page.</p>")
-    else:
-        changed = _changed(disc, before, side)
-        parts.append("<p>Sectors that the run changed: %s</p>" % (", ".join(changed[:200]) + (" .." if len(changed) > 200 else "") or "none"))
-    if now is None:
-        return "".join(parts) + "<p>%s has no catalogue of the DFS.</p>" % name
-    rows = [_file_row(file, _change(file, now, was) if before is not None else "") for file in now.files]
-    if was is not None:
-        kept = {file.whole_name for file in now.files}
-        rows += [_file_row(file, "gone") for file in was.files if file.whole_name not in kept]
-    caption = "%s: title %s, cycle %02X, sectors %d" % (name, shown(now.title) or "none", now.cycle, now.sectors)
-    return "".join(parts) + table(["File", "Locked", "Load", "Start", "Length", "Sector", "In the run"], rows, caption)
-
-
-def _changed(disc: Disc, before: Disc, side: int) -> List[str]:
-    if disc.image == before.image:
-        return []
-    tracks = max(len(disc.image), len(before.image)) // (SECTOR * TRACK * (2 if disc.double else 1)) + 1
-    return ["%X" % at for at in range(TRACK * tracks) if disc.sector(at, side) != before.sector(at, side)]
-
-
-def _change(file: File, now: Catalogue, was: Optional[Catalogue]) -> str:
-    old = next((it for it in was.files if it.whole_name == file.whole_name), None) if was is not None else None
-    if was is None or old is None:
-        return "new"
-    bytes_same = now.bytes_of(file) == was.bytes_of(old)
-    return "same" if bytes_same and file == old else "its entry changed" if bytes_same else "changed"
-
-
-def _file_row(file: File, change: str) -> List[str]:
-    return [shown(file.whole_name), "locked" if file.locked else "", "%06X" % file.load, "%06X" % file.start, grouped(file.length), "%03X" % file.sector, change]
 
 
 # The keys that were down: from when, to when (None to the end), and which.
@@ -556,53 +361,7 @@ def _presses(script: Script, ticks: int) -> List[Tuple[int, Optional[int], str]]
     return sorted(found, key=lambda press: press[0])
 
 
-# --- Instructions ---
-
-
-@functools.lru_cache(maxsize=None)
-def instructions() -> Dict[str, List[str]]:
-    """What `beebtube dis` has for each opcode of each part: `LDA &{2},X`, `BNE &{r}`, with {1} a byte and {2} two behind the opcode;
-    nothing where there is no program."""
-    try:
-        if not os.environ.get("BEEBTUBE") and version().program is None:
-            return {}
-        program = Program()
-        return {part: _forms(program, part) for part in ("6502", "65c02")}
-    except Fault:
-        return {}
-
-
-def _forms(program: Program, part: str) -> List[str]:
-    # The opcode of NOP comes last, so that no other one has its NOP behind those that fill.
-    codes = sorted(range(256), key=lambda code: code == 0xEA)
-    with own_folder() as folder:
-        write_beside(os.path.join(folder, "image"), b"".join(bytes([code, 0xEA, 0xEA, 0xEA]) for code in codes))
-        program.done(["dis", part, "image", "1000", "text"], folder)
-        lines = read_text(os.path.join(folder, "text")).splitlines()
-    forms, place = [""] * 256, 1
-    for at, code in enumerate(codes):
-        nops = 0
-        while nops < 3 and lines[place + 1 + nops : place + 2 + nops] == ["NOP"]:
-            nops += 1
-        line = lines[place]
-        branch = "&%04X" % (0x1000 + 4 * at + 2 + 0xEA - 256)
-        for operand, form in ((branch, "&{r}"), ("&EAEA", "&{2}"), ("&EA", "&{1}")) if nops < 3 else ():
-            if operand in line:
-                line = line.replace(operand, form)
-                break
-        forms[code] = line
-        place += 1 + nops
-    return forms
-
-
 # --- The whole ---
-
-
-@functools.lru_cache(maxsize=None)
-def asset(*names: str) -> Tuple[str, str]:
-    """The texts of files of this folder, one behind the other, and their sum as a page's policy has it."""
-    text = "".join(read_text(os.path.join(HERE, name)) for name in names)
-    return text, "'sha256-%s'" % base64.b64encode(hashlib.sha256(text.encode()).digest()).decode()
 
 
 def _whole(title: str, sections: List[Tuple[str, str, str]], data: Dict[str, Any]) -> bytes:
@@ -628,6 +387,3 @@ def page_of(asked: Asked) -> Tuple[bytes, List[str]]:
     """The page of a run, and the files that were read for it; Fault where one of them is none."""
     page = Page(asked)
     return page.make(), page.reads
-
-
-__all__ = ["BEGIN", "Asked", "Manifest", "Name", "Page", "Report", "page_of"]

@@ -2,18 +2,19 @@
 from __future__ import annotations
 
 import os
-from typing import Any, Dict, Iterator, List, Optional, Sequence, Tuple
+from typing import Any, Callable, Dict, Iterator, List, Optional, Sequence, Tuple
 
 from .disc import note_of
-from .faults import Fault
+from .faults import Fault, Refused
 from .files import is_plain, open_file, same_file, write_beside
 from .frame import look_at_place, picture_of
-from .program import Program
-from .sets import words_of
+from .program import TOP, Program, Run
+from .sets import read_set, with_names, words_of
 from .script import MOST_SHOTS, Event, Script, Typed, typed
 from .words import OPTIONS
 
 DEFAULT = "roms.set"
+OWN = os.path.join(TOP, "system", "system.set")  # the project's own ROMs
 BOOT = "{SHIFT+BREAK}"
 EVERY = 0.2  # seconds from one screen of a moving picture to the next
 MOST_SCREENS = 250  # of a moving picture; with those of the text they are no more than a script's shots
@@ -32,7 +33,9 @@ def sort_names(names: Sequence[str]) -> Tuple[str, str, Optional[str]]:
             raise Fault("%s: a disc's name ends in .ssd or .dsd, and `-` is no disc: SET DISC TEXT" % (rest[1] if len(rest) > 1 else rest[0])[:60])
         chosen = rest.pop(0)
     elif not os.path.exists(chosen):
-        raise Fault("no set is named, and there is no %s here: `tools/words --make %s --os OS --rom15 BASIC ..` makes one" % (chosen, chosen))
+        if not os.path.exists(OWN):
+            raise Fault("no set is named, and there is no %s here: `tools/words --make %s --os OS --rom15 BASIC ..` makes one" % (chosen, chosen))
+        chosen = OWN
     if len(rest) > 2:
         raise Fault("%s: a text is one word: put it in quotes" % rest[2][:60])
     return chosen, rest[0], rest[1] if len(rest) == 2 else None
@@ -46,7 +49,7 @@ class Player:
     """
 
     def __init__(self, chosen: str, disc: str, text: Optional[str], both: bool, out: Optional[str]):
-        words = words_of(chosen)
+        words = [word for pair in read_set(chosen) for word in pair] if chosen == OWN else words_of(chosen)
         self.options: Dict[str, str] = dict(zip(words[::2], words[1::2]))
         self.chosen, self.disc, self.both = chosen, disc, both
         self.text = text if text is not None else BOOT if disc != "-" else ""
@@ -95,6 +98,8 @@ class Player:
 
     def notes(self) -> Iterator[str]:
         """What the machine lacks."""
+        if self.chosen == OWN:
+            yield "no set is named: the machine has the ROMs of system/, which are the project's own"
         if note_of(self.disc):
             yield "%s is taken as a DSD, by its name" % self.disc
         if "--font" not in self.options:
@@ -121,8 +126,13 @@ class Player:
                 raise Fault("%s is read too, and is not written over" % name)
         options: Dict[str, Any] = {option[2:]: value for option, value in self.options.items() if self.both or option != "--tube"}
         program = Program()
-        with (program.run if self.both else program.host)(self.ticks, keys=self.script, wav=sound, **options) as run:
-            frames, heard = run.frames, run.sound if sound else b""
+        machine: Callable[..., Run] = program.run if self.both else program.host
+        try:
+            with machine(self.ticks, keys=self.script, wav=sound, **options) as run:
+                frames, heard = run.frames, run.wav if sound else b""
+        except Refused as refused:
+            why = [with_names(line, self.options) for line in refused.why]
+            raise Refused(refused.status, refused.text, why) from None
         moving = [frames[number] for number in self._moving]
         still = [frame for number, frame in enumerate(frames) if number not in self._moving]
         for name, frame in zip(pictures, still):

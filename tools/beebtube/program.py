@@ -9,12 +9,12 @@ import os
 import re
 import subprocess
 import weakref
-from typing import Any, Dict, List, NamedTuple, Optional, Sequence, Set, Tuple, Union
+from typing import Any, Dict, List, Literal, Mapping, NamedTuple, Optional, Sequence, Set, Tuple, Union
 
 from .disc import LARGEST, Disc, is_double
 from .explain import explain
 from .faults import Fault, Refused
-from .files import OUTPUT_CAP, SOURCE_CAP, Name, own_folder, read_file
+from .files import OUTPUT_CAP, SESSION_CAP, SOURCE_CAP, Name, own_folder, read_file
 from .frame import Frame
 from .labels import Labels
 from .report import Registers, Report
@@ -22,11 +22,27 @@ from .report import parse as parse_report
 from .script import Script
 from .trace import Trace
 
-TOP = os.path.dirname(os.path.dirname(os.path.dirname(os.path.realpath(__file__))))
+# The folder above release/, docs/, examples/ and tools/: the clone, or an installed package, which has what it needs of them.
+_PACKAGE = os.path.dirname(os.path.realpath(__file__))
+ABOUT = os.path.join(_PACKAGE, "release", "about")
+IS_INSTALLED = os.path.exists(ABOUT)
+TOP = _PACKAGE if IS_INSTALLED else os.path.dirname(os.path.dirname(_PACKAGE))
 LAUNCHER = os.path.join(TOP, "beebtube")
 
-# What an image, a script, a trace or a session may be given as: its bytes, or the name of its file.
-Data = Union[bytes, bytearray, Name, Script, Disc]
+
+class Source(str):
+    """The text of a source, a script or a trace, where another `str` is the name of a file."""
+
+    def __repr__(self) -> str:
+        return f"Source({str(self)!r})"
+
+
+# What an image, a script, a trace or a session may be given as: its bytes, its text (a Source), or the name of its file.
+Data = Union[bytes, bytearray, Name, Source, Script, Disc]
+Optionally = Optional[Data]
+Side = Literal["host", "para"]
+Part = Literal["6502", "65c02"]
+Speed = Literal[3, 4]
 
 
 class Ended(NamedTuple):
@@ -87,6 +103,9 @@ class Program:
             self._path = found
         return self._path
 
+    def __repr__(self) -> str:
+        return f"Program({self._path!r})" if self._path else "Program()"
+
     def call(self, words: Sequence[str], folder: Name = ".", timeout: Optional[float] = None, stdin: bytes = b"",
              nice: int = 0) -> Ended:
         """Calls the program with these words in a folder.
@@ -114,7 +133,7 @@ class Program:
                 child.kill()
                 child.communicate()
             self._running.discard(child)
-        return Ended(child.returncode, out, err)
+        return Ended(child.wait(), out, err)
 
     def stop(self) -> None:
         """Ends all calls that go on, in other threads too."""
@@ -130,47 +149,114 @@ class Program:
 
     # --- Runs ---
 
-    def run(self, ticks: int, timeout: Optional[float] = None, **options: Any) -> "Run":
+    # Images, scripts, sessions and traces are `Data`: bytes, a Source, the name of a file, a Script or a Disc.
+
+    def run(
+            self, ticks: int, *, os: Data, tube: Data,
+            rom0: Optionally = None, rom1: Optionally = None, rom2: Optionally = None,
+            rom3: Optionally = None, rom4: Optionally = None, rom5: Optionally = None,
+            rom6: Optionally = None, rom7: Optionally = None, rom8: Optionally = None,
+            rom9: Optionally = None, rom10: Optionally = None, rom11: Optionally = None,
+            rom12: Optionally = None, rom13: Optionally = None, rom14: Optionally = None,
+            rom15: Optionally = None,
+            font: Optionally = None, keys: Optionally = None, disc0: Optionally = None, disc1: Optionally = None,
+            plugs: Optional[int] = None, keep: Optional[int] = None, speed: Optional[Speed] = None,
+            wav: bool = False, save: bool = False, timeout: Optional[float] = None) -> "Run":
         """Runs both machines from power-on, in two threads.
 
-        ticks    how long: 6,000,000 are a second, or 12,000,000 with speed=4; at most 1,073,741,824
-        options  those of docs/COMMANDS.md without their dashes: os, tube, rom0 .. rom15, font, disc0, disc1, keys are bytes, the
-                 name of a file, a Script or a Disc; plugs, keep, speed are numbers; wav=True and save=True keep sound and session
-        timeout  seconds after which it is ended; Fault then
+        ticks      how long: 6,000,000 are a second, or 12,000,000 with speed=4; at most 1,073,741,824
+        os, tube   the operating system and the boot ROM; rom0 to rom15 are paged ROMs
+        keys       the key script; font, disc0, disc1, plugs, keep, speed are those of docs/COMMANDS.md
+        wav, save  the sound and the session are kept
+        timeout    seconds after which it is ended; Fault then
         Refused where the program refuses.
         """
-        return self._machines(["run", str(ticks)], options, timeout)
+        return self._machines(["run", str(ticks)], locals())
 
-    def solo(self, ticks: int, timeout: Optional[float] = None, **options: Any) -> "Run":
+    def solo(
+            self, ticks: int, *, os: Data, tube: Data,
+            rom0: Optionally = None, rom1: Optionally = None, rom2: Optionally = None,
+            rom3: Optionally = None, rom4: Optionally = None, rom5: Optionally = None,
+            rom6: Optionally = None, rom7: Optionally = None, rom8: Optionally = None,
+            rom9: Optionally = None, rom10: Optionally = None, rom11: Optionally = None,
+            rom12: Optionally = None, rom13: Optionally = None, rom14: Optionally = None,
+            rom15: Optionally = None,
+            font: Optionally = None, keys: Optionally = None, disc0: Optionally = None, disc1: Optionally = None,
+            plugs: Optional[int] = None, keep: Optional[int] = None, speed: Optional[Speed] = None,
+            wav: bool = False, save: bool = False, timeout: Optional[float] = None) -> "Run":
         """Runs both machines on one thread; the same files."""
-        return self._machines(["solo", str(ticks)], options, timeout)
+        return self._machines(["solo", str(ticks)], locals())
 
-    def resume(self, session: Data, ticks: int, timeout: Optional[float] = None, **options: Any) -> "Run":
-        """Goes on with a saved run; takes keep, wav and save."""
-        return self._machines(["resume", "session", str(ticks)], options, timeout, {"session": session})
+    def resume(self, session: Data, ticks: int, *, keys: Optional[Script] = None, keep: Optional[int] = None,
+               wav: bool = False, save: bool = False, timeout: Optional[float] = None) -> "Run":
+        """Goes on with a saved run, up to the tick `ticks` from power-on.
 
-    def replay(self, side: str, trace: Union[Data, Trace], ticks: int, timeout: Optional[float] = None, **options: Any) -> "Run":
+        keys  what is pressed from the session's moment on, in place of what its own script has there: one start serves
+              many tests. Ticks are from power-on. Fault at an event before that moment.
+        """
+        given = {"keep": keep, "wav": wav, "save": save, "timeout": timeout}
+        if keys is not None:
+            session = _with_keys(session, keys)
+        return self._machines(["resume", "session", str(ticks)], given, {"session": session})
+
+    def replay(
+            self, side: Side, trace: Union[Data, Trace], ticks: int, *, os: Optionally = None, tube: Optionally = None,
+            rom0: Optionally = None, rom1: Optionally = None, rom2: Optionally = None,
+            rom3: Optionally = None, rom4: Optionally = None, rom5: Optionally = None,
+            rom6: Optionally = None, rom7: Optionally = None, rom8: Optionally = None,
+            rom9: Optionally = None, rom10: Optionally = None, rom11: Optionally = None,
+            rom12: Optionally = None, rom13: Optionally = None, rom14: Optionally = None,
+            rom15: Optionally = None,
+            font: Optionally = None, keys: Optionally = None, disc0: Optionally = None, disc1: Optionally = None,
+            plugs: Optional[int] = None, speed: Optional[Speed] = None,
+            wav: bool = False, no_tube: bool = False, timeout: Optional[float] = None) -> "Run":
         """Runs one machine, side "host" or "para", against a trace. Refused with status 8 where it does something else."""
-        return self._machines(["replay", side, "trace", str(ticks)], options, timeout, {"trace": trace})
+        return self._machines(["replay", side, "trace", str(ticks)], locals(), {"trace": trace})
 
-    def host(self, ticks: int, timeout: Optional[float] = None, **options: Any) -> "Run":
-        """Runs a Model B alone: nothing answers where the Tube would. Takes the options of `replay host`."""
-        return self.replay("host", b"", ticks, timeout, no_tube=True, **options)
+    def host(
+            self, ticks: int, *, os: Data,
+            rom0: Optionally = None, rom1: Optionally = None, rom2: Optionally = None,
+            rom3: Optionally = None, rom4: Optionally = None, rom5: Optionally = None,
+            rom6: Optionally = None, rom7: Optionally = None, rom8: Optionally = None,
+            rom9: Optionally = None, rom10: Optionally = None, rom11: Optionally = None,
+            rom12: Optionally = None, rom13: Optionally = None, rom14: Optionally = None,
+            rom15: Optionally = None,
+            font: Optionally = None, keys: Optionally = None, disc0: Optionally = None, disc1: Optionally = None,
+            plugs: Optional[int] = None, speed: Optional[Speed] = None,
+            wav: bool = False, timeout: Optional[float] = None) -> "Run":
+        """Runs a Model B alone: nothing answers where the Tube would."""
+        return self._machines(["replay", "host", "trace", str(ticks)], {**locals(), "no_tube": True}, {"trace": b""})
 
-    def follow(self, side: str, trace: Union[Data, Trace], ticks: int, timeout: Optional[float] = None, **options: Any) -> "Run":
-        """Lists the instructions of a machine against a trace; takes at and watch, numbers or four digits. `.listing` has them."""
-        for name in ("at", "watch"):
-            if isinstance(options.get(name), int):
-                options[name] = "%04X" % options[name]
-        return self._machines(["follow", side, "trace", str(ticks)], options, timeout, {"trace": trace})
+    def follow(
+            self, side: Side, trace: Union[Data, Trace], ticks: int, *, os: Optionally = None, tube: Optionally = None,
+            rom0: Optionally = None, rom1: Optionally = None, rom2: Optionally = None,
+            rom3: Optionally = None, rom4: Optionally = None, rom5: Optionally = None,
+            rom6: Optionally = None, rom7: Optionally = None, rom8: Optionally = None,
+            rom9: Optionally = None, rom10: Optionally = None, rom11: Optionally = None,
+            rom12: Optionally = None, rom13: Optionally = None, rom14: Optionally = None,
+            rom15: Optionally = None,
+            font: Optionally = None, keys: Optionally = None, disc0: Optionally = None, disc1: Optionally = None,
+            plugs: Optional[int] = None, speed: Optional[Speed] = None,
+            at: Union[int, str, None] = None, watch: Union[int, str, None] = None, from_tick: Optional[int] = None,
+            no_tube: bool = False, timeout: Optional[float] = None) -> "Run":
+        """Lists the instructions of a machine against a trace. `.listing` has them.
 
-    def _machines(self, words: List[str], options: Dict[str, Any], timeout: Optional[float],
-                  files: Optional[Dict[str, Any]] = None) -> "Run":
+        at, watch  instructions at this address, and those before which this byte changed; numbers or four digits
+        from_tick  instructions that begin at this tick or later
+        """
+        return self._machines(["follow", side, "trace", str(ticks)], locals(), {"trace": trace})
+
+    def _machines(self, words: List[str], given: Mapping[str, Any], files: Optional[Dict[str, Any]] = None) -> "Run":
         made = Run()
+        named = {}
         for name, data in (files or {}).items():
-            _put(made.folder, name, data)
-        words = words + ["out"] + _option_words(made.folder, options)
-        made.said = self.done(words, made.folder, timeout).out.decode("utf-8", "replace")
+            named[name] = _put(made.folder, name, data)
+        options = {name: value for name, value in given.items() if name not in _NO_OPTIONS}
+        words = words + ["out"] + _option_words(made.folder, options, named)
+        ended = self.call(words, made.folder, given["timeout"])
+        if ended.status != 0:
+            raise _refusal(ended, words, made.folder, named)
+        made.said = ended.out.decode("utf-8", "replace")
         made.words = words
         return made
 
@@ -179,32 +265,36 @@ class Program:
     def check(self, trace: Union[Data, Trace]) -> int:
         """How many accesses a trace has whose answers the chip would give; Refused with status 8 where it would not, or 4."""
         with own_folder() as folder:
-            _put(folder, "trace", trace)
-            return int(self.done(["check", "trace"], folder).out.split()[1])
+            return int(self._made(["check", "trace"], folder, {"trace": trace}).out.split()[1])
 
-    def asm(self, part: str, source: Data) -> bytes:
-        """The image of a source text (bytes, or the name of its file) for part "6502" or "65c02"."""
+    def asm(self, part: Part, source: Data) -> bytes:
+        """The image of a source text (a Source, bytes, or the name of its file) for part "6502" or "65c02"."""
         with own_folder() as folder:
-            _put(folder, "source", source)
-            self.done(["asm", part, "source", "image"], folder)
+            self._made(["asm", part, "source", "image"], folder, {"source": source})
             return read_file(os.path.join(folder, "image"), 65536)
 
-    def dis(self, part: str, image: Data, origin: int) -> str:
-        """The source text of an image's bytes, which stand from the address `origin` on."""
+    def dis(self, part: Part, image: Data, origin: int) -> str:
+        """The source text of an image's bytes, which lie from the address `origin` on."""
         with own_folder() as folder:
-            _put(folder, "image", image)
-            self.done(["dis", part, "image", "%04X" % origin, "text"], folder)
+            self._made(["dis", part, "image", "%04X" % origin, "text"], folder, {"image": image})
             return read_file(os.path.join(folder, "text"), SOURCE_CAP).decode("ascii")
 
-    def labels_of(self, part: str, source: Data) -> Labels:
-        """The labels of a source text (bytes, or the name of its file), with their addresses, by the program's own assembler."""
-        data = bytes(source) if isinstance(source, (bytes, bytearray)) else read_file(os.fspath(source), SOURCE_CAP)  # type: ignore[arg-type]
-        return Labels.of_source(self, part, data)
+    def labels_of(self, part: Part, source: Data) -> Labels:
+        """The labels of a source text, with their addresses, by the program's own assembler."""
+        return Labels.of_source(self, part, bytes_of(source, SOURCE_CAP))
+
+    # Calls the program on files that are put into a folder; Refused names the caller's files.
+    def _made(self, words: List[str], folder: str, files: Dict[str, Any]) -> Ended:
+        named = {name: _put(folder, name, data) for name, data in files.items()}
+        ended = self.call(words, folder)
+        if ended.status != 0:
+            raise _refusal(ended, words, folder, named)
+        return ended
 
     def gen(self, seed: int) -> Dict[str, str]:
         """What the demonstration of a seed says: `seed`, `bytes`, `sum` and `ticks`, each as a text."""
         said = self.done(["gen", str(seed)]).out.decode().splitlines()
-        return dict((words[0], words[1]) for words in (line.split(" ", 1) for line in said))
+        return {word: rest for word, _, rest in (line.partition(" ") for line in said)}
 
 
 class Run:
@@ -216,6 +306,9 @@ class Run:
 
     said = ""
     words: List[str] = []
+
+    def __repr__(self) -> str:
+        return f"<Run: {' '.join(self.words)}>"
 
     def __init__(self) -> None:
         stack = contextlib.ExitStack()
@@ -299,7 +392,7 @@ class Run:
         return [self.output(name[4:]) for name in names]
 
     @property
-    def sound(self) -> bytes:
+    def wav(self) -> bytes:
         """The sound file, of wav=True."""
         return self.output("wav")
 
@@ -340,41 +433,84 @@ _SIGNS = {0x23: "£", 0x5B: "←", 0x5C: "½", 0x5D: "→", 0x5E: "↑", 0x5F: "
 _FILES = ("os", "tube", "font", "keys") + tuple("rom%d" % slot for slot in range(16))
 
 
-# Puts data into the folder under a name; a file of another name is linked to, since the program reads alone.
-def _put(folder: str, name: str, data: Union[Data, Trace]) -> None:
+def bytes_of(data: Union[Data, Trace], most: int) -> bytes:
+    """The bytes of what a caller gives; Fault where its file cannot be read, or has more than `most`."""
+    if isinstance(data, Trace):
+        return bytes_of(data._source, most)
+    if isinstance(data, Source):
+        return data.encode("utf-8")
+    if isinstance(data, Script):
+        return data.text().encode()
+    if isinstance(data, Disc):
+        return data.image
+    if isinstance(data, (bytes, bytearray, memoryview)):
+        return bytes(data)
+    return read_file(data, most)
+
+
+# Puts data into the folder under a name, and gives the name of its file where it has one; that is linked to, since the
+# program reads alone.
+def _put(folder: str, name: str, data: Union[Data, Trace]) -> Optional[str]:
     place = os.path.join(folder, name)
     if isinstance(data, Trace):
-        data = data._source  # noqa: SLF001 # its file, or its bytes
-    if isinstance(data, Script):
-        data = data.text().encode()
-    if isinstance(data, Disc):
-        data = data.image
-    if isinstance(data, (bytes, bytearray, memoryview)):
-        with open(place, "wb") as file:
-            file.write(data)
-    else:
+        data = data._source
+    if isinstance(data, (str, os.PathLike)) and not isinstance(data, Source):
         os.symlink(os.path.abspath(os.fspath(data)), place)
+        return os.fspath(data)
+    if not isinstance(data, (bytes, bytearray, memoryview, Source, Script, Disc)):
+        raise TypeError(f"{name}: bytes, a Source, a Script, a Disc or the name of a file, and no {type(data).__name__}")
+    with open(place, "wb") as file:
+        file.write(bytes_of(data, 0))
+    return None
 
 
-def _option_words(folder: str, options: Dict[str, Any]) -> List[str]:
+# What of a call's arguments is no option of the program.
+_NO_OPTIONS = ("self", "ticks", "side", "trace", "session", "timeout")
+_OPTIONS = {"no_tube": "--no-tube", "from_tick": "--from"}
+
+
+def _option_words(folder: str, options: Dict[str, Any], named: Dict[str, Optional[str]]) -> List[str]:
     words: List[str] = []
-    for option, value in options.items():
-        if value is None or value is False:
+    for name, value in options.items():
+        option = _OPTIONS.get(name, "--" + name)
+        if name in ("wav", "save", "no_tube"):
+            if not isinstance(value, bool):
+                raise TypeError(f"{name}: True or False, and no {type(value).__name__}: Run.wav and Run.session have what is kept")
+            words += ([option] + ["out." + name] * (name != "no_tube")) if value else []
+        elif value is None:
             continue
-        if value is True and option == "no_tube":
-            words.append("--no-tube")
-        elif option in ("wav", "save"):
-            words += ["--" + option, "out." + option]
-        elif option in ("disc0", "disc1"):
-            name = option + (".dsd" if _is_double(value) else ".ssd")
-            _put(folder, name, value)
-            words += ["--" + option, name]
-        elif option in _FILES:
-            _put(folder, option, value)
-            words += ["--" + option, option]
+        elif name in ("disc0", "disc1") or name in _FILES:
+            place = name if name in _FILES else name + (".dsd" if _is_double(value) else ".ssd")
+            named[place] = _put(folder, place, value)
+            words += [option, place]
         else:
-            words += ["--" + option, str(value)]
+            words += [option, "%04X" % value if name in ("at", "watch") and isinstance(value, int) else str(value)]
     return words
+
+
+# What a call was refused for, with the caller's names in place of those in the call's folder.
+def _refusal(ended: Ended, words: List[str], folder: str, named: Mapping[str, Optional[str]]) -> Refused:
+    # (by a name of its own, which keeps the ending, so that no other word of a text is taken for it)
+    places = {name: "given-" + name for name, given in named.items() if given is not None}
+    for name, place in places.items():
+        if not os.path.lexists(os.path.join(folder, place)):
+            os.symlink(os.path.abspath(str(named[name])), os.path.join(folder, place))
+    why = explain(ended.status, ended.text, [places.get(word, word) for word in words], folder)
+    text = re.sub(r"\A(cannot read|too long) (.*)\Z", lambda it: f"{it[1]} {named.get(it[2]) or it[2]}", ended.text)
+    for name, place in places.items():
+        why = [line.replace(place, str(named[name])) for line in why]
+    return Refused(ended.status, text, why)
+
+
+# A session with another script from its moment on.
+def _with_keys(session: Data, keys: Script) -> bytes:
+    from .inputs import Fields
+    fields = Fields(bytes_of(session, SESSION_CAP))
+    before = [it for it in Script.parse(fields.images.get("keys", b"")).events if it.tick < fields.tick]
+    early = [it for it in keys.events if it.tick < fields.tick]
+    if early:
+        raise Fault(f"the keys begin at tick {early[0].tick:,}, before the session's {fields.tick:,}")
+    return fields.with_keys(Script(before + keys.events).text().encode())
 
 
 def _is_double(value: Any) -> bool:
@@ -391,6 +527,12 @@ def _ask_launcher(words: List[str]) -> Tuple[int, str, str]:
     return done.returncode, done.stdout.decode("utf-8", "replace"), done.stderr.decode("utf-8", "replace")
 
 
+# What an installed package says of itself, as its launcher would.
+def _about() -> Tuple[int, str, str]:
+    about = read_file(ABOUT).decode("utf-8")
+    return 0, about + f"program {os.path.join(TOP, 'release', 'beebtube')}\n", ""
+
+
 _version: Optional[Version] = None
 
 
@@ -403,11 +545,11 @@ def version() -> Version:
 
 
 def _ask_version() -> Version:
-    status, out, err = _ask_launcher(["--version"])
+    status, out, err = _about() if IS_INSTALLED else _ask_launcher(["--version"])
     told: Dict[str, List[str]] = {}
     for line in out.splitlines():
         word, _, rest = line.partition(" ")
         told.setdefault(word, []).append(rest)
     if status != 0 or "sources" not in told:
         raise Fault("./beebtube does not tell which program it runs: %s" % (err.strip() or out.strip()))
-    return Version(told["sources"][0], told.get("kit", []), (told.get("program") or [None])[0], (told.get("sum") or [None])[0])
+    return Version(told["sources"][0], told.get("kit", []), *(told[word][0] if word in told else None for word in ("program", "sum")))

@@ -21,6 +21,9 @@ class Registers(NamedTuple):
     p: int
     halted: bool
 
+    def __repr__(self) -> str:
+        return "Registers(PC=%04X A=%02X X=%02X Y=%02X S=%02X P=%02X%s)" % (self[:6] + (" halted" * self.halted,))
+
 
 class Report(NamedTuple):
     """A report. What a command does not tell is None.
@@ -49,8 +52,8 @@ def parse(text: Union[str, bytes]) -> Report:
     for line in text.splitlines():
         machine, count = LINE.fullmatch(line), COUNT.fullmatch(line)
         if machine:
-            values = [int(word, 16) for word in machine.groups()[1:7]]
-            machines[machine.group(1)] = Registers(*values, halted=machine.group(8) == " halted")
+            pc, a, x, y, s, p = (int(word, 16) for word in machine.groups()[1:7])
+            machines[machine.group(1)] = Registers(pc, a, x, y, s, p, machine.group(8) == " halted")
         elif count:
             counts[count.group(1)] = int(count.group(2))
         else:

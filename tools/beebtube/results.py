@@ -1,36 +1,33 @@
-"""What comes of the runs of a list: each result under its key, carried out once; the table of all; what differs from a stored table.
+"""What comes of the runs of a list: each result under its key, carried out once.
 
 A folder of results has `runs/KEY.json`, what a run came to, `runs/KEY.png`, its last frame, and `runs/KEY.html`, its page
 (`KEY.whole.html` with the Tube); and, made of them, `results.csv` and `index.html`.
 """
 from __future__ import annotations
 
-import csv
-import io
+import errno
+import hashlib
 import json
 import os
 import re
 import resource
-import shutil
-import tempfile
 import time
-from typing import Any, Dict, Iterable, Iterator, List, NamedTuple, Optional, Sequence, Tuple
+from typing import Any, Dict, Iterable, List, NamedTuple, Optional, Sequence, Set, Tuple
 
 from . import page
-from .collection import Entry, Plan, key_of, program_sum, with_names_of_list, words_of_list, words_sum
+from .collection import Input, Plan, key_of
+from .disc import Disc, file_name
 from .explain import explain
-from .faults import Fault
-from .files import OUTPUT_CAP, Sum, files_below, is_plain, own_folder, read_file, read_text, sum_of, write_beside
+from .faults import Fault, NoRoom
+from .files import (OUTPUT_CAP, Sum, files_below, held, is_plain, own_folder, read_text, sum_of, sync_folder, write_beside,
+                    writing_fault)
 from .frame import Frame
-from .manifest import HEAD, program_lines, run_lines
-from .program import Program
+from .manifest import HEAD, files_in, program_lines, run_lines
+from .program import Ended, Program, version
 
-FORM = "beebtube result 1"
-COLUMNS = ("name", "state", "status", "ticks", "seconds", "processor", "words", "words_sum", "inputs", "outputs", "differs", "said", "key")
+FORM = "beebtube result 2"
 PAGES = ("none", "plain", "whole")
-# States of a run in a table. A collection is good where all are of the first line.
-GOOD = ("done", "same")
-STATES = GOOD + ("differs", "failed", "missing", "new", "gone")
+ROOM = 134217728  # bytes: what the files of any one run fit into
 
 
 class Result(NamedTuple):
@@ -42,6 +39,8 @@ class Result(NamedTuple):
     seconds    how long it took by the clock, and `processor` of a processor
     frame      the ending of its last frame; nothing where it has none
     manifest   the sum of the manifest that stands beside its files where they are kept
+    title      of the disc in drive 0, and `files` the names in its catalogues, those of the other side behind `:2.`
+    parts      for each file that was made of it (`png`, `html`, `whole.html`) its ending, sum and length
     """
 
     key: str
@@ -56,6 +55,9 @@ class Result(NamedTuple):
     ticks: int
     frame: str
     manifest: str
+    title: str
+    files: List[str]
+    parts: List[Tuple[str, str, int]]
 
     @property
     def has_page(self) -> bool:
@@ -97,20 +99,42 @@ class Store:
         return os.path.join(self.runs, "%s.%s" % (key, ending))
 
     def load(self, key: str) -> Optional[Result]:
-        """The result under a key; None where there is none. Fault where the file is another's."""
-        name = self.place(key, "json")
-        if not os.path.lexists(name):
-            return None
+        """The result under a key; None if there is none, or one that is damaged, which is made again."""
         try:
-            result = _result_of(json.loads(read_text(name)))
-        except (ValueError, TypeError, KeyError, RecursionError):
-            raise Fault("%s is no result" % name) from None
-        if result.key != key:
-            raise Fault("%s is the result of another run" % name)
+            text = read_text(self.place(key, "json"), plain=True)
+            result = _result_of(json.loads(text))
+        except (Fault, ValueError, TypeError, KeyError, RecursionError):
+            return None
+        return result if result.key == key else None
+
+    def save(self, result: Result, parts: Dict[str, bytes]) -> Result:
+        """Stores a result and the files that were made of it; gives it with what is known of these files. The result is on the disk
+        then; a file that was made of it and is lost with the machine's power is found to be missing or damaged, and made again."""
+        for ending, data in parts.items():
+            write_beside(self.place(result.key, ending), data, follow=False)
+        known = {ending: (ending, found.digits, found.length) for ending, found in ((ending, Sum([data])) for ending, data in parts.items())}
+        old = self.load(result.key)
+        if old is not None:
+            known = {**{part[0]: part for part in old.parts}, **known}
+        result = result._replace(parts=list(known.values()))
+        told = {"form": FORM, **result._asdict()}
+        write_beside(self.place(result.key, "json"), json.dumps({**told, "sum": _sum_of_told(told)}, indent=1) + "\n", follow=False, sync=True)
+        sync_folder(self.runs)
         return result
 
-    def save(self, result: Result) -> None:
-        write_beside(self.place(result.key, "json"), json.dumps({"form": FORM, **result._asdict()}, indent=1) + "\n", follow=False)
+    def clear(self, used: Set[str]) -> Tuple[int, int]:
+        """Removes the results under other keys than these, with the files that were made of them; how many results and files there
+        were. A file that no result names stays."""
+        results = files = 0
+        for name in sorted(os.listdir(self.runs)) if os.path.isdir(self.runs) else ():
+            key, ending = name.split(".", 1) if "." in name else (name, "")
+            result = self.load(key) if ending == "json" and key not in used else None
+            for part in [part for part, *_ in result.parts] + ["json"] if result is not None else ():
+                if os.path.lexists(self.place(key, part)):
+                    os.unlink(self.place(key, part))
+                    files += 1
+            results += result is not None
+        return results, files
 
     def page(self, key: str) -> Optional[str]:
         """The name of a run's page below the folder, the whole one where it is there."""
@@ -120,13 +144,25 @@ class Store:
         return None
 
     def has(self, result: Result, name: str, wanted: Wanted) -> bool:
-        """All that is wanted of a run is there."""
+        """All that is wanted of a run is there, and is as it was written."""
         if wanted.keep is not None and not _is_kept(os.path.join(wanted.keep, name), result):
+            return False
+        if result.frame and not self._has_part(result, "png"):
             return False
         if wanted.pages == "none" or not result.has_page:
             return True
-        found = self.page(result.key)
-        return found is not None and (wanted.pages == "plain" or found.endswith(".whole.html"))
+        return self._has_part(result, "whole.html") or wanted.pages == "plain" and self._has_part(result, "html")
+
+    def _has_part(self, result: Result, ending: str) -> bool:
+        place = self.place(result.key, ending)
+        for part, digits, length in result.parts:
+            if part == ending and is_plain(place) and os.path.getsize(place) == length:
+                return sum_of(place).digits == digits
+        return False
+
+
+def _sum_of_told(told: Dict[str, Any]) -> str:
+    return hashlib.sha256(json.dumps(told, sort_keys=True).encode()).hexdigest()
 
 
 # A result of what its file has, each value of which is looked at: others may have made it.
@@ -135,15 +171,15 @@ def _result_of(told: Any) -> Result:
         if not is_right:
             raise ValueError
 
-    want(isinstance(told, dict) and told.pop("form", None) == FORM and set(told) == set(Result._fields))
-    for field in ("words", "why"):
+    want(isinstance(told, dict) and told.pop("sum", None) == _sum_of_told(told) and told.pop("form", None) == FORM and set(told) == set(Result._fields))
+    for field in ("words", "why", "files"):
         want(isinstance(told[field], list) and all(isinstance(it, str) for it in told[field]))
-    for field in ("reads", "wrote"):
+    for field in ("reads", "wrote", "parts"):
         want(isinstance(told[field], list) and all(isinstance(it, list) and len(it) == 3 for it in told[field]))
         for name, digits, length in told[field]:
             want(isinstance(name, str) and " " not in name and bool(re.fullmatch("[0-9a-f]{64}", digits)) and type(length) is int)
         told[field] = [tuple(it) for it in told[field]]
-    for field in ("key", "text", "frame", "manifest"):
+    for field in ("key", "text", "frame", "manifest", "title"):
         want(isinstance(told[field], str))
     for field in ("seconds", "processor"):
         want(type(told[field]) in (int, float) and 0 <= told[field] < 1e9)
@@ -154,35 +190,114 @@ def _result_of(told: Any) -> Result:
 # --- Carrying out ---
 
 
-def carry_out(plan: Plan, name: str, program: Program, store: Store, wanted: Wanted) -> Tuple[Result, str]:
+class Fixed:
+    """The program of a suite, which has to stay the same while it is called."""
+
+    def __init__(self) -> None:
+        self.program = Program()
+        self.path = self.program.path
+        self.mark = _mark_of(self.path)
+        self.lines = program_lines()
+        own = sum_of(self.path).digits
+        if os.environ.get("BEEBTUBE"):
+            self.sum = own
+        else:
+            self.sum = version().sources
+            if version().sum != own:
+                raise Fault("the program was changed meanwhile")
+
+    def call(self, words: Sequence[str], folder: str) -> Ended:
+        """Calls the program; Fault if it is another one before or after the call."""
+        self._look()
+        ended = self.program.call(words, folder)
+        self._look()
+        return ended
+
+    def _look(self) -> None:
+        if _mark_of(self.path) != self.mark:
+            raise Fault("the program was changed meanwhile")
+
+
+# What changes if somebody writes a file or puts another one in its place.
+def _mark_of(name: str) -> Tuple[int, ...]:
+    try:
+        state = os.stat(name)
+    except OSError as error:
+        raise Fault("cannot run %s: %s" % (name, error.strerror)) from None
+    return state.st_dev, state.st_ino, state.st_size, state.st_mtime_ns, state.st_ctime_ns
+
+
+def carry_out(plan: Plan, name: str, program: Fixed, store: Store, wanted: Wanted) -> Tuple[Result, str]:
     """Carries out a run, and stores what comes of it; gives the result and a note, if there is something to say of its page.
-    Fault where it was cut short, or where an input was changed meanwhile: then nothing is stored."""
-    with _room(wanted.keep, name) as (folder, keep):
+    Fault where it was cut short, or where an input or the program was changed meanwhile: then nothing is stored."""
+    kept = os.path.join(wanted.keep, name) if wanted.keep is not None else None
+    if kept is not None and wanted.keep is not None:
+        _look_at_kept(kept, plan.inputs)
+        try:
+            os.makedirs(wanted.keep, exist_ok=True)
+        except OSError as error:
+            raise writing_fault(wanted.keep, error) from None
+    with own_folder(wanted.keep) as folder:
         sums = _put_inputs(plan, folder)
-        if key_of(program_sum(), plan.words, plan.inputs, sums) != plan.key:
+        if key_of(program.sum, plan.words, plan.inputs, sums) != plan.key:
             raise Fault("what it reads was changed meanwhile")
         began, before = time.monotonic(), _processor()
         ended = program.call(plan.words, folder)
         seconds, processor = time.monotonic() - began, _processor() - before
         if ended.is_cut_short:
-            raise Fault("it was cut short: %s" % (ended.text or ("signal %d" % -ended.status if ended.status < 0 else "status %d" % ended.status)))
+            raise _cut_short(ended, folder)
         reads = [(it.name, found) for it, found in zip(plan.inputs, sums)]
         written = [file for file in files_below(folder) if file.startswith("out.")]
         wrote = [(file, sum_of(os.path.join(folder, file), OUTPUT_CAP)) for file in written]
-        lines = [HEAD] + program_lines() + run_lines(plan.words, reads, ended, wrote)
+        lines = [HEAD] + program.lines + run_lines(plan.words, reads, ended, wrote)
         manifest = "\n".join(lines).encode() + b"\n"
         write_beside(os.path.join(folder, "out.manifest"), manifest)
         frames = [file for file in written if re.fullmatch(r"out\.[0-9]{3}\.ppm", file)]
         result = Result(plan.key, plan.words, _told(reads), [(file[4:], digits, length) for file, digits, length in _told(wrote)], ended.status, ended.text,
                         explain(ended.status, ended.text, plan.words, folder), round(seconds, 3), round(processor, 3), plan.ticks,
-                        frames[-1][4:] if frames else "", Sum([manifest]).digits)
+                        frames[-1][4:] if frames else "", Sum([manifest]).digits, *_on_disc(plan, folder), [])
         _look_at_old(store, result)
+        parts, note = {}, ""
         if frames:
-            write_beside(store.place(plan.key, "png"), Frame.read(os.path.join(folder, frames[-1])).png(), follow=False)
-        note = _make_page(plan, name, folder, dict(wrote), store, wanted) if result.has_page else ""
-        keep()
-        store.save(result)
-    return result, note
+            parts["png"] = Frame.read(os.path.join(folder, frames[-1])).png()
+        if result.has_page and wanted.pages != "none":
+            try:
+                parts["whole.html" if wanted.pages == "whole" else "html"] = _page(plan, folder, dict(wrote), wanted)
+            except Fault as fault:
+                note = "no page: %s" % str(fault).replace(folder + "/", "")
+        if kept is not None:
+            _keep(folder, kept, plan.inputs, result)
+        return store.save(result, parts), note
+
+
+# The title and the files of the disc in drive 0; nothing where there is none, or it has no catalogue.
+def _on_disc(plan: Plan, folder: str) -> Tuple[str, List[str]]:
+    title, files = "", []
+    for name in (it.name for it in plan.inputs if it.name.startswith("disc0")):
+        disc = Disc.read(os.path.join(folder, name))
+        for side in range(1 + disc.double):
+            try:
+                catalogue = disc.catalogue(side)
+            except Fault:
+                continue
+            title = title or catalogue.title
+            files += [":2." * side + file_name(file) for file in catalogue.files]
+    return title, files
+
+
+# What is wrong with a run that was cut short: with a full disk, the next one is cut short too.
+def _cut_short(ended: Ended, folder: str) -> Fault:
+    told = ended.text or ("signal %d" % -ended.status if ended.status < 0 else "status %d" % ended.status)
+    if ended.status == 5:
+        number = os.open(os.path.join(folder, "room"), os.O_WRONLY | os.O_CREAT)
+        try:
+            os.posix_fallocate(number, 0, ROOM)
+        except OSError as error:
+            if error.errno in (errno.ENOSPC, errno.EDQUOT):
+                return NoRoom("it was cut short: %s: %s has no room" % (told, os.path.dirname(os.path.dirname(folder))))
+        finally:
+            os.close(number)
+    return Fault("it was cut short: %s" % told)
 
 
 def _told(sums: Iterable[Tuple[str, Sum]]) -> List[Tuple[str, str, int]]:
@@ -198,8 +313,11 @@ def _put_inputs(plan: Plan, folder: str) -> List[Sum]:
     sums = []
     for it in plan.inputs:
         data = it.data()
-        with open(os.path.join(folder, it.name), "wb") as file:
-            file.write(data)
+        try:
+            with open(os.path.join(folder, it.name), "wb") as file:
+                file.write(data)
+        except OSError as error:
+            raise writing_fault(os.path.dirname(os.path.dirname(folder)), error) from None
         sums.append(Sum([data]))
     return sums
 
@@ -208,75 +326,88 @@ def _put_inputs(plan: Plan, folder: str) -> List[Sum]:
 def _look_at_old(store: Store, result: Result) -> None:
     old = store.load(result.key)
     if old is not None and (old.wrote, old.status) != (result.wrote, result.status):
-        raise Fault("two runs of the same words and files differ: %s" % " ".join(_differing(dict(_pairs(old.wrote)), dict(_pairs(result.wrote)))))
+        names = [name for name, *_ in set(old.wrote) ^ set(result.wrote)]
+        raise Fault("two runs of the same words and files differ: %s" % (" ".join(sorted(set(names))) or "status"))
 
 
-def _make_page(plan: Plan, name: str, folder: str, wrote: Dict[str, Sum], store: Store, wanted: Wanted) -> str:
-    if wanted.pages == "none":
-        return ""
+def _page(plan: Plan, folder: str, wrote: Dict[str, Sum], wanted: Wanted) -> bytes:
     here = {it.name: os.path.join(folder, it.name) for it in plan.inputs}
     sums = {os.path.join(folder, file): found for file, found in [*wrote.items(), *((it.name, found) for it, found in zip(plan.inputs, plan.sums))]}
     discs = {int(it[4]): path for it, path in here.items() if it.startswith("disc")}
     wav = os.path.join(folder, "out.wav")
+    # Several lines of a list may be one run: its page has no name of them.
     asked = page.Asked(os.path.join(folder, "out"), os.path.join(folder, "out.manifest"), wav if "out.wav" in wrote else None, here.get("keys"), discs,
-                       1000000 if wanted.pages == "whole" else None, title=name, sums=sums)
-    try:
-        made, _ = page.page_of(asked)
-    except Fault as fault:
-        return "no page: %s" % str(fault).replace(folder + "/", "")
-    write_beside(store.place(plan.key, "whole.html" if wanted.pages == "whole" else "html"), made, follow=False)
-    return ""
+                       1000000 if wanted.pages == "whole" else None, title="Run " + plan.key[:16], sums=sums)
+    return page.page_of(asked)[0]
 
 
 # --- Files that are kept ---
 
-
-class _room:
-    """A folder for a run, which goes away; or which `keep` gives the run's name below the folder of what is kept."""
-
-    def __init__(self, keep: Optional[str], name: str):
-        self.into, self.name, self.own = keep, name, own_folder() if keep is None else None
-        self.folder = ""
-
-    def __enter__(self) -> Tuple[str, Any]:
-        if self.own is not None:
-            self.folder = self.own.__enter__()
-        else:
-            try:
-                os.makedirs(self.into or "", exist_ok=True)
-                self.folder = os.path.realpath(tempfile.mkdtemp(prefix=".beebtube-", dir=self.into))
-            except OSError as error:
-                raise Fault("cannot write %s: %s" % (self.into, error.strerror)) from None
-        return self.folder, self._keep
-
-    def _keep(self) -> None:
-        if self.into is None:
-            return
-        place = os.path.join(self.into, self.name)
-        mask = os.umask(0)
-        os.umask(mask)
-        try:
-            if os.path.lexists(place):
-                if not _is_ours(place):
-                    raise Fault("%s is there, and no run was kept in it: it is not written over" % place)
-                shutil.rmtree(place)
-            os.chmod(self.folder, 0o777 & ~mask)
-            os.rename(self.folder, place)
-        except OSError as error:
-            raise Fault("cannot write %s: %s" % (place, error.strerror)) from None
-
-    def __exit__(self, *how: Any) -> None:
-        if self.own is not None:
-            self.own.__exit__(*how)
-        else:
-            shutil.rmtree(self.folder, ignore_errors=True)
+OWN_NAME = re.compile(r"os|tube|font|keys|trace|session|rom[0-9]{1,2}|disc[01]\.[sd]sd|out\..+")
 
 
-def _is_ours(folder: str) -> bool:
+# Fault if files of a run cannot be kept under a name, since it has others: those that the manifest there does not name, or those that
+# the run reads.
+def _look_at_kept(place: str, inputs: Iterable[Input]) -> None:
+    if not os.path.lexists(place):
+        return
+    if os.path.islink(place) or not os.path.isdir(place):
+        raise Fault("%s is there, and is no folder: it is not written over" % place)
     try:
-        return not os.path.islink(folder) and read_file(os.path.join(folder, "out.manifest")).startswith(HEAD.encode())
+        lines = read_text(os.path.join(place, "out.manifest"), plain=True).splitlines()
     except Fault:
-        return False
+        lines = []
+    if lines[:1] != [HEAD]:
+        raise Fault("%s is there, and no run was kept in it: it is not written over" % place)
+    known = {name: told for _, name, told in files_in(lines) if OWN_NAME.fullmatch(name)}
+    for name in _all_below(place):
+        file = os.path.join(place, name)
+        if name != "out.manifest" and (name not in known or not is_plain(file) or os.path.islink(file) or str(sum_of(file, None)) != known[name]):
+            raise Fault("%s has %s, which is no file that a run left there: it is not written over" % (place, name))
+    real = os.path.realpath(place) + "/"
+    for it in inputs:
+        if it.path is not None and os.path.realpath(it.path).startswith(real):
+            raise Fault("%s has %s, which is read too: it is not written over" % (place, os.path.basename(it.path)))
+
+
+def _all_below(folder: str) -> List[str]:
+    found = []
+    for at, folders, names in os.walk(folder):
+        found += [os.path.relpath(os.path.join(at, name), folder) for name in folders + names]
+    return sorted(found)
+
+
+# Gives the folder of a run its name among those that are kept. What had the name is moved away first, and is removed with the rest of
+# the own folder: so at each moment the old or the new one is whole.
+def _keep(folder: str, place: str, inputs: Iterable[Input], result: Result) -> None:
+    above = os.path.dirname(folder)
+    try:
+        os.makedirs(os.path.dirname(place), exist_ok=True)
+        for turn in range(100):
+            if _is_kept(place, result):
+                return
+            _look_at_kept(place, inputs)
+            with held():
+                if _move(folder, place, os.path.join(above, "old%d" % turn)):
+                    return
+    except OSError as error:
+        raise writing_fault(place, error) from None
+    raise Fault("cannot write %s: others write it all the time" % place)
+
+
+# False if somebody else moved or made the place meanwhile.
+def _move(folder: str, place: str, old: str) -> bool:
+    try:
+        if os.path.lexists(place):
+            os.rename(place, old)
+        os.rename(folder, place)
+        return True
+    except OSError as error:
+        if error.errno in (errno.ENOENT, errno.ENOTEMPTY, errno.EEXIST):
+            return False
+        if os.path.lexists(old) and not os.path.lexists(place):
+            os.rename(old, place)
+        raise
 
 
 def _is_kept(folder: str, result: Result) -> bool:
@@ -285,117 +416,3 @@ def _is_kept(folder: str, result: Result) -> bool:
         return False
     wanted = [(file, length) for file, _, length in result.reads] + [("out." + file, length) for file, _, length in result.wrote]
     return all(is_plain(os.path.join(folder, file)) and os.path.getsize(os.path.join(folder, file)) == length for file, length in wanted)
-
-
-# --- The table ---
-
-
-class Row(NamedTuple):
-    """A run in the table. `cells` are by COLUMNS; `result` is None where there is none, and `stored` the cells of the stored table."""
-
-    name: str
-    state: str
-    cells: Dict[str, str]
-    result: Optional[Result]
-    stored: Optional[Dict[str, str]]
-
-    def line(self) -> str:
-        """What is said of it."""
-        more = self.cells["differs"] if self.state == "differs" else " ".join(filter(None, (self.cells["status"], self.cells["said"])))
-        return "%s %s%s" % (self.state, self.name, ": " + more if more and self.state not in GOOD else "")
-
-
-def _pairs(files: Iterable[Tuple[str, str, int]]) -> Iterator[Tuple[str, str]]:
-    return ((name, digits) for name, digits, _ in files)
-
-
-def _cell(files: Iterable[Tuple[str, str, int]]) -> str:
-    return " ".join("%s=%s" % pair for pair in _pairs(files))
-
-
-def sums_in(cell: str) -> Dict[str, str]:
-    """The sums of a cell, by the files' names."""
-    return {name: digits for name, _, digits in (it.rpartition("=") for it in cell.split())}
-
-
-def _differing(one: Dict[str, str], other: Dict[str, str]) -> List[str]:
-    return [name for name in dict.fromkeys([*one, *other]) if one.get(name) != other.get(name)]
-
-
-# What differs of a run from the stored one: `status`, files written by their endings, files read behind `read:`, and `words`.
-def _of_row(cells: Dict[str, str], stored: Dict[str, str]) -> List[str]:
-    found = ["status"] * (cells["status"] != stored["status"])
-    found += _differing(sums_in(stored["outputs"]), sums_in(cells["outputs"]))
-    found += ["read:" + name for name in _differing(sums_in(stored["inputs"]), sums_in(cells["inputs"]))]
-    return found + ["words"] * (cells["words_sum"] != stored["words_sum"])
-
-
-def row_of(entry: Entry, result: Optional[Result], fault: str, stored: Optional[Dict[str, Dict[str, str]]]) -> Row:
-    """The row of a run: of its result, or of what went wrong, or where both are nothing of one that is not there yet.
-
-    stored  the rows of a stored table, by their names; None where nothing is compared
-    """
-    cells = dict.fromkeys(COLUMNS, "")
-    cells.update(name=entry.name, words=words_of_list(entry.order) if entry.order.command else "", said=fault)
-    old = stored.get(entry.name) if stored is not None else None
-    if result is not None:
-        cells.update(status=str(result.status), ticks=str(result.ticks), seconds="%.3f" % result.seconds, processor="%.3f" % result.processor,
-                     words_sum=words_sum(result.words), inputs=_cell(result.reads), outputs=_cell(result.wrote), key=result.key)
-        cells["said"] = " ".join(filter(None, (with_names_of_list(result.said, entry.order), fault)))
-        if old is not None:
-            cells["differs"] = " ".join(_of_row(cells, old))
-    cells["state"] = _state(result, fault, stored is not None, old, cells["differs"])
-    return Row(entry.name, cells["state"], cells, result, old)
-
-
-def _state(result: Optional[Result], fault: str, is_compared: bool, old: Optional[Dict[str, str]], differs: str) -> str:
-    if result is None:
-        return "failed" if fault else "missing"
-    if result.status:
-        return "failed"
-    return "done" if not is_compared else "new" if old is None else "differs" if differs else "same"
-
-
-def gone_row(stored: Dict[str, str]) -> Row:
-    """The row of a run that a stored table has and the list has not."""
-    cells = {**dict.fromkeys(COLUMNS, ""), "name": stored["name"], "state": "gone", "words": stored["words"]}
-    return Row(stored["name"], "gone", cells, None, stored)
-
-
-# A cell that a sheet would take for a formula has a ' in front; what cannot be shown is ?.
-def _escaped(cell: str) -> str:
-    cell = "".join(letter if letter.isprintable() else "?" for letter in cell)
-    return "'" + cell if cell[:1] in ("=", "+", "-", "@", "'") else cell
-
-
-def table_begin() -> str:
-    """The first line of each table."""
-    return ",".join(COLUMNS) + "\n"
-
-
-def table_text(rows: Sequence[Row]) -> str:
-    """The table of all runs."""
-    text = io.StringIO(newline="")
-    text.write(table_begin())
-    writer = csv.writer(text, lineterminator="\n")
-    writer.writerows([_escaped(row.cells[column]) for column in COLUMNS] for row in rows)
-    return text.getvalue()
-
-
-def read_table(name: str) -> Dict[str, Dict[str, str]]:
-    """The rows of a stored table by their names, those that have a result. Fault where it is none."""
-    found: Dict[str, Dict[str, str]] = {}
-    reader = csv.reader(io.StringIO(read_text(name, OUTPUT_CAP), newline=""))
-    try:
-        if tuple(next(reader, ())) != COLUMNS:
-            raise Fault("%s is no table of results" % name)
-        for cells in reader:
-            if len(cells) != len(COLUMNS):
-                raise Fault("%s, line %d: a row has %d cells" % (name, reader.line_num, len(COLUMNS)))
-            row = {column: cell[1:] if cell[:1] == "'" else cell for column, cell in zip(COLUMNS, cells)}
-            if row["key"]:
-                found[row["name"]] = row
-    except csv.Error as error:
-        raise Fault("%s, line %d: %s" % (name, reader.line_num, error)) from None
-    return found
-

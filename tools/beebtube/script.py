@@ -5,7 +5,7 @@ Ticks are of 1/6 microsecond, 6,000,000 a second; with `--speed 4` of 1/12, 12,0
 from __future__ import annotations
 
 import re
-from typing import Dict, Iterable, List, NamedTuple, Optional, Tuple, Union
+from typing import Callable, Dict, Iterable, List, NamedTuple, Optional, Tuple, Union
 
 from .faults import Fault
 from .words import MOST_TICKS, number_of
@@ -69,6 +69,9 @@ class BadScript(Fault):
         self.number, self.why = number, why
         super().__init__("bad script %d: %s" % (number, why))
 
+    def __reduce__(self) -> Tuple[type, Tuple[int, str]]:
+        return type(self), (self.number, self.why)
+
 
 class Script:
     """A key script. Adding events keeps their order; `text()` is what `--keys` takes."""
@@ -79,6 +82,13 @@ class Script:
     def text(self) -> str:
         """The lines of the script; nothing where it has no events."""
         return "".join(event.line() + "\n" for event in self.events)
+
+    def __repr__(self) -> str:
+        return f"{type(self).__name__}({len(self.events)} events)"
+
+    def later(self, ticks: int) -> "Script":
+        """A script of the same events, so many ticks later."""
+        return Script(event._replace(tick=event.tick + ticks) for event in self.events)
 
     @property
     def shots(self) -> int:
@@ -199,7 +209,7 @@ def typed(text: str, start: float = 2.0, hold: float = 0.05, gap: float = 0.05, 
 
 
 # The slowest pace at which a text fits into a run, to a thousandth of what was asked; the fastest one where none does.
-def _fitted(made, hold: float, gap: float, whole: Typed) -> Typed:  # type: ignore[no-untyped-def]
+def _fitted(made: Callable[[float, float], Typed], hold: float, gap: float, whole: Typed) -> Typed:
     least = min(1.0, max(LEAST / hold if hold else 0.0, LEAST / gap if gap else 0.0))
     low, high, found = 0, 1000, made(hold * least, gap * least)
     if found.ticks > MOST_TICKS:

@@ -8,10 +8,10 @@ from __future__ import annotations
 import os
 import re
 import sys
-from typing import Iterable, List, Optional, Tuple
+from typing import Iterable, List, Mapping, Optional, Tuple
 
 from .command import tool_name
-from .disc import note_of
+from .disc import is_double, note_of
 from .faults import Fault
 from .files import IMAGE_CAP, is_plain, read_text, sum_of
 from .words import OPTIONS, shown, value_fault
@@ -51,7 +51,7 @@ def fault_of(option: str, value: str, before: Iterable[str]) -> Optional[str]:
 def read_set(name: str) -> List[Tuple[str, str]]:
     """The options of a set and their values, files as paths; Fault where it is none, or a file lacks or has another sum."""
     folder, found = os.path.dirname(name), []  # type: str, List[Tuple[str, str]]
-    for number, line in enumerate(read_text(name).splitlines(), 1):
+    for number, line in enumerate(read_text(name, plain=True).splitlines(), 1):
         parts = line.split()
         if line.startswith("#"):
             continue
@@ -74,6 +74,19 @@ def read_set(name: str) -> List[Tuple[str, str]]:
     if not found:
         raise Fault("%s has no words" % name)
     return found
+
+
+def input_name(option: str, value: str) -> str:
+    """The name that a file of an option has for a run in a folder of its own."""
+    return option[2:] + ("" if not option.startswith("--disc") else ".dsd" if is_double(value) else ".ssd")
+
+
+def with_names(text: str, options: Mapping[str, Optional[str]]) -> str:
+    """What was said of a run, in which its files have names of its own, with the names that its options have."""
+    for option, value in options.items():
+        if value is not None and option in OPTIONS and OPTIONS[option].kind == "file":
+            text = text.replace("%s %s " % (option, input_name(option, value)), "%s %s " % (option, shown(value)))
+    return text
 
 
 def words_of(name: str) -> List[str]:

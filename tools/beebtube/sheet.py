@@ -5,23 +5,23 @@ pictures of files. What is named or read is data: all of it is escaped, and file
 """
 from __future__ import annotations
 
+import re
 from typing import Dict, List, Sequence
 
-from .files import is_plain
-from .page import asset, element, grouped, shown
-from .results import Row, Store, sums_in
+from .faults import Fault
+from .files import is_plain, read_file
+from .frame import PICTURE_CAP, box_of, lines_in
+from .markup import asset, element, grouped, shown
+from .results import Store
+from .table import ORDER, STATES, Row, sums_in
 
 BEGIN = "<!DOCTYPE html>\n<!-- beebtube collection 1 -->\n"
-# In this order: what is to be looked at first.
-PARTS = (("differs", "Differs from the stored run"), ("failed", "Failed"), ("new", "Not among the stored runs"), ("gone", "Stored, and no more in the list"),
-         ("missing", "Not there yet"), ("same", "The same as the stored run"), ("done", "Done"))
-
 
 def sheet_of(title: str, rows: Sequence[Row], store: Store) -> bytes:
     """The page of these runs; frames and pages are those that are in the folder of results."""
     style, style_sum = asset("page.css", "sheet.css")
     policy = "default-src 'none'; style-src %s; img-src 'self' file:; base-uri 'none'; form-action 'none'" % style_sum
-    groups = [(state, name, [row for row in rows if row.state == state]) for state, name in PARTS]
+    groups = [(state, name, [row for row in rows if row.state == state]) for state, name in ((state, STATES[state]) for state in ORDER)]
     groups = [group for group in groups if group[2]]
     links = "".join(element("li", '<a href="#%s">%s: %s</a>' % (state, name, grouped(len(found)))) for state, name, found in groups)
     body = "\n".join('<section id="%s" class="%s" aria-labelledby="%s-title"><h2 id="%s-title">%s: %s</h2>\n<ul class="sheet">\n%s\n</ul></section>'
@@ -46,23 +46,44 @@ def _summary(rows: Sequence[Row]) -> str:
 def _card(row: Row, store: Store) -> str:
     name, result = shown(row.name), row.result
     page = store.page(result.key) if result is not None else None
-    if result is not None and result.frame and is_plain(store.place(result.key, "png")):
-        frame = ('<span class="frame"><img src="runs/%s.png" alt="The last frame of %s" width="640" height="512" loading="lazy"></span>' % (result.key, name))
-    else:
-        frame = '<span class="frame none">%s</span>' % ("No shot was taken" if result is not None and not result.status else "No frame")
+    frame = _frame(store, result.key if result is not None and result.frame else "", "The last frame of " + row.name)
     head = element("h3", '<a href="%s">%s</a>' % (page, name) if page is not None else name)
     # The frame is a second way to the page, for the mouse alone.
-    picture = '<a href="%s" tabindex="-1" aria-hidden="true">%s</a>' % (page, frame) if page is not None else frame
-    parts = [picture, head, element("p", _told(row))]
-    if row.state == "differs":
-        parts.append(_differences(row))
+    parts = ['<a href="%s" tabindex="-1" aria-hidden="true">%s</a>' % (page, frame) if page is not None else frame, head, element("p", _told(row))]
+    if row.cells["title"] or row.cells["files"]:
+        parts.append(element("p", shown("%s: files %d" % (row.cells["title"] or "no title", len(row.cells["files"].split())))))
+    if row.cells["differs"]:
+        parts += [_stored_frame(row, store), _differences(row)]
     if row.cells["words"]:
         parts.append('<p class="quiet">%s</p>' % element("code", shown(row.cells["words"])))
     return element("li", element("article", "".join(parts), class_="card"))
 
 
+# The frame under a key; nothing under an empty one.
+def _frame(store: Store, key: str, alt: str) -> str:
+    if key and is_plain(store.place(key, "png")):
+        return '<span class="frame"><img src="runs/%s.png" alt="%s" width="640" height="512" loading="lazy"></span>' % (key, shown(alt))
+    return '<span class="frame none">No frame</span>'
+
+
+# The last frame of the stored run, if it is another one and its result is here too, and where the pixels differ.
+def _stored_frame(row: Row, store: Store) -> str:
+    key = (row.stored or {}).get("key", "")
+    if not re.fullmatch("[0-9a-f]{64}", key) or row.result is None or not row.result.frame:
+        return ""
+    try:
+        box = box_of(*(lines_in(read_file(store.place(it, "png"), PICTURE_CAP, plain=True))[-1] for it in (key, row.result.key)))
+    except Fault:
+        return ""
+    if box is None:
+        return ""
+    told = "x %d to %d, y %d to %d" % box
+    return _frame(store, key, "The last frame of the stored run of " + row.name) + element("p", "The stored frame; pixels differ in " + told)
+
+
 def _told(row: Row) -> str:
-    said = " ".join(filter(None, (row.cells["status"] if row.state == "failed" else "", row.cells["said"])))
+    was = "it was %s" % row.cells["was"] if row.cells["was"] else ""
+    said = " ".join(filter(None, (was, row.cells["status"] if row.state in ("failed", "failing") else "", row.cells["said"])))
     if row.result is not None:
         took = "%s ticks, %.2f s of a processor" % (grouped(row.result.ticks), row.result.processor)
         said = "; ".join(filter(None, (said, took)))

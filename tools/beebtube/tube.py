@@ -1,10 +1,12 @@
 """What stands in the registers of the Tube, access for access."""
 from __future__ import annotations
 
-from typing import Dict, List, Tuple
+from typing import Dict, List, Optional, Tuple
 
-from .accesses import is_status, words_of
+from .accesses import SIDES, is_status, words_of
 from .trace import Access
+
+Key = Tuple[str, int]
 
 
 def line_of(access: Access, second: int) -> str:
@@ -17,19 +19,27 @@ class Tube:
 
     flags   P V M J I Q, from bit 5 to bit 0
     held    the bytes of each register, by the side that reads them and its number, 1 to 4: ("H", 1); the oldest first
+    givers  the accesses that gave these bytes, None for the byte that a reset leaves
+    taken   what each register gave last: the access that took the byte, and the one that gave it
+    lost    how many bytes of each register were lost: written over in a register for one byte, and
+            else not taken in, since there was no room
     """
 
     def __init__(self) -> None:
         self.flags = 0
-        self._last: Dict[Tuple[str, int], int] = {}
-        self.held: Dict[Tuple[str, int], List[int]] = {}
+        self._last: Dict[Key, int] = {}
+        self.held: Dict[Key, List[int]] = {}
+        self.givers: Dict[Key, List[Optional[Access]]] = {}
+        self.taken: Dict[Key, Tuple[Access, Optional[Access]]] = {}
+        self.lost: Dict[Key, int] = {(side, number): 0 for side in "HP" for number in (1, 2, 3, 4)}
         self._clear()
 
     # Empty registers with 00 as what was taken last, but for the one byte 00 in register 3 to the host.
     def _clear(self) -> None:
         self.held = {(side, number): [] for side in "HP" for number in (1, 2, 3, 4)}
         self._last = {key: 0 for key in self.held}
-        self.held["H", 3] = [0]
+        self.givers = {key: [] for key in self.held}
+        self.held["H", 3], self.givers["H", 3] = [0], [None]
 
     def _room(self, side: str, number: int) -> int:
         if number == 3:
@@ -76,18 +86,33 @@ class Tube:
             held = self.held[side, number]
             if held:
                 self._last[side, number] = held.pop(0)
+                self.taken[side, number] = (access, self.givers[side, number].pop(0))
             return self._last[side, number]
         elif register == 0 and side == "H":
             self.flags = self.flags | byte & 63 if byte & 128 else self.flags & ~byte & 63
             if byte & 192 == 192:
                 self._clear()
         elif not is_status(register):
-            self._give("P" if side == "H" else "H", number, byte)
+            self._give(("P" if side == "H" else "H", number), access)
         return 0
 
-    def _give(self, to: str, number: int, byte: int) -> None:
-        held, room = self.held[to, number], self._room(to, number)
+    def _give(self, key: Key, access: Access) -> None:
+        held, givers, room = self.held[key], self.givers[key], self._room(*key)
         if room == 1:
-            held[:] = [byte]
-        elif len(held) < room:
-            held.append(byte)
+            self.lost[key] += sum(giver is not None for giver in givers)
+            held.clear()
+            givers.clear()
+        if len(held) < room:
+            held.append(access.byte)
+            givers.append(access)
+        else:
+            self.lost[key] += 1
+
+    def text(self) -> str:
+        """The flags, and the bytes that are held."""
+        flags = "".join(name if self.flags >> 5 - at & 1 else "-" for at, name in enumerate("PVMJIQ"))
+        told = ["flags " + flags]
+        for side, name in SIDES.items():
+            told += [f"register {number} to {name}: {bytes(held).hex(' ').upper()}"
+                     for (to, number), held in self.held.items() if to == side and held]
+        return "; ".join(told)

@@ -57,6 +57,7 @@ OPTIONS: Dict[str, Option] = {
     "--disc0": Option(HOSTS, "file"),
     "--disc1": Option(HOSTS, "file"),
     "--keys": Option(HOSTS, "file"),
+    "--points": Option(LISTS, "file"),
     "--plugs": Option(HOSTS, "number", 0, 8),
     "--keep": Option(RUNS, "number", 0, 4194304),
     "--speed": Option(MACHINES, "choice", choices=("3", "4")),
@@ -66,6 +67,7 @@ OPTIONS: Dict[str, Option] = {
     "--watch": Option(LISTS, "address"),
     "--from": Option(LISTS, "number", 0, MOST_TICKS),
     "--no-tube": Option(HOST_ALONE, "flag"),
+    "--counts": Option(LISTS, "flag"),
 }
 NEEDED: Dict[str, Tuple[str, ...]] = {
     taker: tuple(option for option, takers in (("--os", HOSTS), ("--tube", PARAS)) if taker in takers)
@@ -89,6 +91,22 @@ def shown(word: str) -> str:
     """A word as a person reads it."""
     text = "".join(letter if letter.isprintable() else "?" for letter in word[:60])
     return (text + ("..." if len(word) > 60 else "")) or "an empty word"
+
+
+def told(name: str) -> str:
+    """A name of any letters and bytes as one line of text that no other name has: `\\x0a` is a line feed, `\\\\` is `\\`."""
+    if name.isprintable() and "\\" not in name:
+        return name
+    return "".join(letter if letter.isprintable() and letter != "\\" else _code_of(letter) for letter in name)
+
+
+def _code_of(letter: str) -> str:
+    number = ord(letter)
+    if letter == "\\":
+        return 2 * letter
+    if 0xDC80 <= number <= 0xDCFF:  # a byte that is no text
+        return "\\x%02x" % (number - 0xDC00)
+    return "\\x%02x" % number if number < 128 else "\\u%04x" % number if number < 65536 else "\\U%08x" % number
 
 
 def _near(word: str, known: List[str]) -> str:

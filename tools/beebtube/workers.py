@@ -1,92 +1,152 @@
-"""Tasks beside each other, each in a process of its own, so that none of them harms another; and how long the rest takes."""
+"""Tasks beside each other in processes of their own, so that none of them harms another; and how long the rest takes."""
 from __future__ import annotations
 
+import contextlib
 import gc
 import json
 import os
+import pickle
 import selectors
 import signal
 import sys
 import time
-from typing import Any, Callable, Dict, Iterator, NamedTuple, Optional, Tuple
+from typing import Any, Callable, Dict, Iterable, Iterator, List, NamedTuple, NoReturn, Optional, Tuple
 
-from .faults import Fault
-
-
-STOPS = (signal.SIGINT, signal.SIGTERM, signal.SIGHUP)
+from .faults import Fault, NoRoom
+from .files import STOPS, held, writing_fault
 
 
 class Done(NamedTuple):
-    """A task that has ended: what it was started with, and its value, or what is wrong with it."""
+    """A task that has ended: what it was started with, its value, or what is wrong with it, and whether a disk is full."""
 
     mark: Any
     value: Any
     fault: str
+    no_room: bool = False
+
+
+class _Worker:
+    """A process that takes one task after another: its number, the pipes to it and from it, its task's mark, and what it told so far."""
+
+    def __init__(self, pid: int, tasks: int, answers: int):
+        self.pid, self.tasks, self.answers = pid, tasks, answers
+        self.mark: Any = None
+        self.told = b""
+
+    def close(self) -> int:
+        """Closes the pipes once it has ended; gives its status."""
+        os.close(self.tasks)
+        os.close(self.answers)
+        return os.waitstatus_to_exitcode(os.waitpid(self.pid, 0)[1])
 
 
 class Workers:
-    """Processes for tasks, at most so many at once."""
+    """Processes that work on tasks, at most so many at once.
 
-    def __init__(self, most: int):
-        self.most = most
+    work  is done with each task; a task goes through pickle, and its value through JSON
+    """
+
+    def __init__(self, most: int, work: Callable[[Any], Any]):
+        self.most, self.work = most, work
         self._selector = selectors.DefaultSelector()
-        self._running: Dict[int, Tuple[Any, int, bytearray]] = {}
+        self._busy: Dict[int, _Worker] = {}
+        self._idle: List[_Worker] = []
 
     def __len__(self) -> int:
-        return len(self._running)
+        return len(self._busy)
 
     @property
     def is_full(self) -> bool:
-        return len(self._running) >= self.most
+        return len(self._busy) >= self.most
 
-    def start(self, task: Callable[[], Any], mark: Any) -> None:
-        """Starts a task in a process; its value goes through JSON."""
-        reader, writer = os.pipe()
+    def start(self, task: Any, mark: Any) -> None:
+        """Starts a task in a process that has none."""
+        data = pickle.dumps(task)
+        while True:
+            # What comes while there is a process that nobody knows of yet, comes a moment later.
+            with held():
+                worker = self._idle.pop() if self._idle else self._fork()
+                worker.mark, worker.told = mark, b""
+                self._busy[worker.answers] = worker
+                self._selector.register(worker.answers, selectors.EVENT_READ)
+            try:
+                _write_all(worker.tasks, len(data).to_bytes(8, "little") + data)
+                return
+            except BrokenPipeError:  # somebody ended it meanwhile
+                self._end(worker)
+
+    def _fork(self) -> _Worker:
         sys.stdout.flush()
         sys.stderr.flush()
-        # What comes while there is a process that nobody knows of yet, comes a moment later.
-        before = signal.pthread_sigmask(signal.SIG_BLOCK, STOPS)
+        (task_reader, task_writer), (answer_reader, answer_writer) = os.pipe(), os.pipe()
         try:
             pid = os.fork()
             if pid == 0:
-                _carry_out(task, reader, writer, before)
-            self._running[reader] = mark, pid, bytearray()
-            self._selector.register(reader, selectors.EVENT_READ)
+                others = [number for it in [*self._idle, *self._busy.values()] for number in (it.tasks, it.answers)]
+                _work(self.work, task_reader, answer_writer, [task_writer, answer_reader, *others])
+            return _Worker(pid, task_writer, answer_reader)
         except OSError as error:
-            os.close(reader)
+            os.close(task_writer)
+            os.close(answer_reader)
             raise Fault("no process can be started: %s" % error.strerror) from None
         finally:
-            os.close(writer)
-            signal.pthread_sigmask(signal.SIG_SETMASK, before)
+            os.close(task_reader)
+            os.close(answer_writer)
+
+    def _end(self, worker: _Worker) -> int:
+        del self._busy[worker.answers]
+        self._selector.unregister(worker.answers)
+        status = worker.close()
+        # What it called goes on without it, if it was killed.
+        with contextlib.suppress(OSError):
+            os.killpg(worker.pid, signal.SIGKILL)
+        return status
 
     def ended(self, timeout: Optional[float] = None) -> Iterator[Done]:
         """The tasks that end within so many seconds; it waits for one of them."""
         for key, _ in self._selector.select(timeout):
-            reader = key.fd
-            mark, pid, told = self._running[reader]
-            block = os.read(reader, 1 << 16)
-            if block:
-                told += block
+            worker = self._busy[key.fd]
+            block = os.read(worker.answers, 1 << 16)
+            worker.told += block
+            if block and not block.endswith(b"\n"):
                 continue
-            self._selector.unregister(reader)
-            os.close(reader)
-            del self._running[reader]
-            status = os.waitstatus_to_exitcode(os.waitpid(pid, 0)[1])
-            try:
-                value, fault = json.loads(told)
-            except ValueError:
-                value, fault = None, "its process was ended by signal %d" % -status if status < 0 else "its process told nothing, and ended with %d" % status
-            yield Done(mark, value, fault)
+            if block:
+                value, fault, no_room = json.loads(worker.told)
+                del self._busy[worker.answers]
+                self._selector.unregister(worker.answers)
+                self._idle.append(worker)
+            else:
+                status = self._end(worker)
+                value, no_room = None, False
+                fault = "its process was ended by signal %d" % -status if status < 0 else "its process told nothing, and ended with %d" % status
+            yield Done(worker.mark, value, fault, no_room)
 
     def stop(self) -> None:
-        """Ends all tasks; what they made for themselves is gone then."""
-        for _, pid, _ in self._running.values():
-            os.kill(pid, signal.SIGTERM)
-        for reader, (_, pid, _) in self._running.items():
-            os.waitpid(pid, 0)
-            self._selector.unregister(reader)
-            os.close(reader)
-        self._running.clear()
+        """Ends all processes; what they made for themselves is gone then."""
+        workers = [*self._idle, *self._busy.values()]
+        for worker in workers:
+            os.kill(worker.pid, signal.SIGTERM)
+        for worker in workers:
+            if worker.answers in self._busy:
+                self._selector.unregister(worker.answers)
+            worker.close()
+        self._busy.clear()
+        self._idle.clear()
+
+
+def _write_all(number: int, data: bytes) -> None:
+    while data:
+        data = data[os.write(number, data) :]
+
+
+def _read_all(number: int, length: int) -> bytes:
+    data = b""
+    while len(data) < length:
+        block = os.read(number, length - len(data))
+        if not block:
+            raise EOFError
+        data += block
+    return data
 
 
 # The first signal ends a task, which then clears away what it made for itself; those behind it are not heard.
@@ -96,35 +156,41 @@ def _stopped(number: int, _frame: object) -> None:
     raise SystemExit(128 + number)
 
 
-# The process of a task: tells its value, or what is wrong, and ends.
-def _carry_out(task: Callable[[], Any], reader: int, writer: int, mask: Any) -> None:
-    status = 1
+# A process that works: it takes tasks until nobody gives more, and tells of each its value, or what is wrong.
+def _work(work: Callable[[Any], Any], tasks: int, answers: int, others: Iterable[int]) -> NoReturn:
     try:
-        try:
-            os.close(reader)
-            # What is shared with the others stays shared.
-            gc.disable()
-            for it in STOPS:
-                if signal.getsignal(it) is not signal.SIG_IGN:
-                    signal.signal(it, _stopped)
-            signal.pthread_sigmask(signal.SIG_SETMASK, mask)
-            told = [task(), ""]
-        except Fault as fault:
-            told = [None, str(fault) or "something is wrong"]
-        except OSError as error:
-            told = [None, "%s: %s" % (os.fsdecode(error.filename) if error.filename is not None else "a file", error.strerror)]
-        except MemoryError:
-            told = [None, "no memory"]
-        except Exception as error:  # noqa: BLE001 # one run hides no other
-            told = [None, "a fault of this tool: %s: %s" % (type(error).__name__, error)]
-        data = json.dumps(told).encode()
-        while data:
-            data = data[os.write(writer, data) :]
-        status = 0
-    except BaseException:  # noqa: BLE001 # a signal: nobody waits for more than the end
+        os.setpgid(0, 0)
+        # Pipes to other processes end with the one that made them.
+        for number in others:
+            os.close(number)
+        # What is shared with the others stays shared.
+        gc.freeze()
+        for it in STOPS:
+            if signal.getsignal(it) is not signal.SIG_IGN:
+                signal.signal(it, _stopped)
+        signal.pthread_sigmask(signal.SIG_UNBLOCK, STOPS)
+        while True:
+            task = pickle.loads(_read_all(tasks, int.from_bytes(_read_all(tasks, 8), "little")))
+            _write_all(answers, json.dumps(_outcome(work, task)).encode() + b"\n")
+    except BaseException:  # noqa: BLE001 # a signal, or no more tasks
         pass
     finally:
-        os._exit(status)
+        os._exit(1)
+
+
+# The value of a task, what is wrong, and whether a disk is full.
+def _outcome(work: Callable[[Any], Any], task: Any) -> Tuple[Any, str, bool]:
+    try:
+        return work(task), "", False
+    except Fault as fault:
+        return None, str(fault) or "something is wrong", isinstance(fault, NoRoom)
+    except OSError as error:
+        name = os.fsdecode(error.filename) if error.filename is not None else "a file"
+        return None, "%s: %s" % (name, error.strerror), isinstance(writing_fault(name, error), NoRoom)
+    except MemoryError:
+        return None, "no memory", False
+    except Exception as error:  # noqa: BLE001 # one run hides no other
+        return None, "a fault of this tool: %s: %s" % (type(error).__name__, error), False
 
 
 class Forecast:

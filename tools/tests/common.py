@@ -17,7 +17,10 @@ for number in (signal.SIGINT, signal.SIGHUP, signal.SIGQUIT, signal.SIGTERM):
     if signal.getsignal(number) == signal.SIG_IGN:
         signal.signal(number, signal.default_int_handler if number == signal.SIGINT else signal.SIG_DFL)
 
-TOOLS = ("type", "png", "catalogue", "tube", "manifest", "words", "suite", "differs", "screen", "trace", "page", "debug", "labels", "play", "execute")
+# However busy the machine is, the launcher waits for what is said besides.
+os.environ.setdefault("BEEBTUBE_EXPLAIN", "60")
+
+TOOLS = ("type", "png", "catalogue", "tube", "manifest", "words", "suite", "differs", "screen", "trace", "page", "debug", "labels", "play", "execute", "cover", "profile", "dap")
 EXAMPLES = os.path.join(TOP, "examples")
 IS_ROOT = os.getuid() == 0
 
@@ -131,7 +134,13 @@ def is_alive(pid):
 
 
 def child_of(pid):
-    """The number of the one process that another has started."""
+    """The number of the one process that another has started, or of one of several; None if there is none."""
+    return next(iter(children_of(pid)), None)
+
+
+def children_of(pid):
+    """The numbers of the processes that another has started."""
+    found = []
     for number in os.listdir("/proc"):
         if number.isdigit():
             try:
@@ -140,9 +149,9 @@ def child_of(pid):
             except OSError:
                 continue
             if int(fields[1]) == pid and fields[0] != "Z":
-                return int(number)
-    return None
+                found.append(int(number))
+    return found
 
 
-__all__ = ["Case", "Done", "EXAMPLES", "IS_ROOT", "TOOLS", "TOP", "beebtube", "call", "child_of", "is_alive", "letters", "pretend_clone", "put",
+__all__ = ["Case", "Done", "EXAMPLES", "IS_ROOT", "TOOLS", "TOP", "beebtube", "call", "child_of", "children_of", "is_alive", "letters", "pretend_clone", "put",
            "signal", "text_of", "unittest"]

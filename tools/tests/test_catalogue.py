@@ -1,6 +1,10 @@
 """Discs that are made and changed: what is put in is there, whatever was there before."""
+import csv
+import hashlib
+import json
 import os
 import random
+import zipfile
 
 from common import EXAMPLES, TOP, Case, beebtube, put, text_of, unittest
 
@@ -142,6 +146,103 @@ class Tool(Case):
         self.assertEqual(len(self.tool("catalogue", "more.ssd").out.splitlines()), 5)
         self.assertEqual(text_of(self.at("new.ssd")), before)
 
+    def test_a_file_past_the_end_is_told_and_not_written(self):
+        for double in (False, True):
+            name = "a.dsd" if double else "a.ssd"
+            disc = with_file(with_file(empty_disc(double), NewFile("$", "FIRST", False, 0x3FFFF, 0x30000, some(2500))), NewFile("$", "LAST", False, 0, 0, some(700)))
+            whole = disc.catalogue().find("LAST").sector * 256 + 700 + (2560 if double else 0)  # of a DSD the second track of side 0 is the third
+            for lacking in (0, 1, 300, 700, 701):
+                put(self.at(name), disc.image[: whole - lacking])
+                done = self.tool("catalogue", name, status=1 if lacking else 0)
+                self.assertIn("$.FIRST      FFFFFF FF0000 0009C4", done.out)
+                told = "catalogue: %s ends before $.LAST: %d of its 700 bytes are past the end\n" % (name, min(lacking, 700))
+                self.assertEqual(done.err, told if lacking else "")
+                done = self.tool("catalogue", name, "LAST", "out", status=1 if lacking else 0)
+                self.assertEqual((done.err, os.path.exists(self.at("out"))), (told if lacking else "", not lacking))
+                if not lacking:
+                    self.assertEqual(text_of(self.at("out")), some(700))
+                    os.unlink(self.at("out"))
+
+    def watford(self, count):
+        """A disc of so many files with a catalogue of Watford's DFS, each of which has its number as its one byte."""
+        image = bytearray(bytes(256 * (4 + count)))
+        image[0:8], image[0x106:0x108], image[0x200:0x208], image[0x306:0x308] = b"LONG    ", b"\3\x20", b"\xaa" * 8, b"\3\x20"
+        for at in range(count):
+            base, entry = (0, 8 + 8 * at) if at < 31 else (0x200, 8 + 8 * (at - 31))
+            image[base + entry : base + entry + 8] = b"F%-6d$" % at
+            image[base + 0x100 + entry : base + 0x108 + entry] = bytes([0, 0, 0, 0, 1, 0, 0, 4 + at])
+            image[base + 0x105] += 8
+            image[256 * (4 + at)] = at
+        return bytes(image)
+
+    def test_62_files(self):
+        for count in (0, 5, 31, 32, 62):
+            put(self.at("w.ssd"), self.watford(count))
+            catalogue = Disc.read(self.at("w.ssd")).catalogue()
+            self.assertEqual([(it.name, catalogue.bytes_of(it)) for it in catalogue.files], [("F%d" % at, bytes([at])) for at in range(count)])
+            self.assertIn("files %d:" % count, self.tool("catalogue", "w.ssd").out)
+        put(self.at("F"), b"x")
+        self.assertIn("is read and not written", self.tool("catalogue", "--put", "w.ssd", "x.ssd", "F", status=1).err)
+        # A file of another disc may begin so.
+        disc = with_file(empty_disc(False), NewFile("$", "X", False, 0, 0, b"\xaa" * 600))
+        self.assertEqual(len(disc.catalogue().files), 1)
+        self.assertEqual(len(with_file(disc, NewFile("$", "Y", False, 0, 0, b"y")).catalogue().files), 2)
+
+    def test_all_files_in_one_call(self):
+        disc = with_file(empty_disc(True), NewFile("$", "A/%", True, 0x31900, 0x38023, some(700)))
+        disc = with_file(disc, NewFile("B", "X", False, 1, 2, b""), 1)
+        put(self.at("a.dsd"), disc.image)
+        self.assertEqual(self.tool("catalogue", "--extract", "a.dsd", "out").out, "files 2\n")
+        self.assertEqual((text_of(self.at("out/0/$.A%2F%25")), text_of(self.at("out/0/$.A%2F%25.inf"))), (some(700), b"$.A/% FF1900 FF8023 0002BC L\n"))
+        self.assertEqual(sorted(os.listdir(self.at("out/1"))), ["B.X", "B.X.inf"])
+        self.assertIn("is not empty", self.tool("catalogue", "--extract", "a.dsd", "out", status=1).err)
+        # Back onto a disc they are what they were.
+        self.tool("catalogue", "--make", "b.ssd", "out/0/$.A%2F%25")
+        self.assertEqual(Disc.read(self.at("b.ssd")).catalogue().files[0][:6], disc.catalogue().files[0][:6])
+        put(self.at("cut.dsd"), disc.image[:2560 + 100])
+        done = self.tool("catalogue", "--extract", "cut.dsd", "cut", status=1)
+        self.assertEqual(done.out, "files 1\n")
+
+    def test_the_catalogues_of_a_folder(self):
+        os.makedirs(self.at("d/below"))
+        disc = with_option(with_file(empty_disc(False), NewFile("$", "=1+1", False, 0x31900, 0, some(300))), 3, "ONE")
+        both = with_file(with_file(empty_disc(True), NewFile("A", "X", True, 0, 0, b"x")), NewFile("B", "Y", False, 0, 0, b"y"), 1)
+        for name, data in (("a.ssd", disc.image), ("b.dsd", both.image), ("below/same.ssd", disc.image), ("e.ssd", empty_disc(False).image), ("n.ssd", bytes(512)), ("x.adl", b"")):
+            put(self.at("d/" + name), data)
+        with zipfile.ZipFile(self.at("d/z.zip"), "w") as archive:
+            archive.writestr("in.ssd", disc.image)
+        done = self.tool("catalogue", "--csv", "d", status=1)
+        self.assertEqual(sorted(done.err.splitlines()), ["catalogue: below: a folder, which --recursive looks into", "catalogue: n.ssd: no catalogue of the DFS is there",
+                                                         "catalogue: x.adl: a file that beebtube does not read"])
+        rows = list(csv.DictReader(done.out.splitlines()))
+        self.assertEqual([(it["disc"], it["side"], it["file"], it["locked"]) for it in rows],
+                         [("a.ssd", "0", "$.=1+1", ""), ("b.dsd", "0", "A.X", "L"), ("b.dsd", "1", "B.Y", ""), ("e.ssd", "0", "", ""), ("n.ssd", "", "", ""), ("z.zip/in.ssd", "0", "$.=1+1", "")])
+        self.assertEqual([rows[0][name] for name in ("form", "title", "boot", "load", "length", "sum")], ["ssd", "ONE", "exec", "FF1900", "300", hashlib.sha256(some(300)).hexdigest()])
+        self.assertEqual([it["same_as"] for it in rows], [""] * 5 + ["a.ssd"])
+        os.unlink(self.at("d/n.ssd"))
+        found = json.loads(self.tool("catalogue", "--json", "--recursive", "d").out)
+        self.assertEqual([(it["disc"], it["same_as"], sum(len(side["files"]) for side in it["sides"])) for it in found],
+                         [("a.ssd", "", 1), ("b.dsd", "", 2), ("e.ssd", "", 0), ("z.zip/in.ssd", "a.ssd", 1), ("below/same.ssd", "a.ssd", 1)])
+        self.assertEqual(found[0]["sum"], hashlib.sha256(disc.image).hexdigest())
+        # A second side behind the first one.
+        put(self.at("seq.dsd"), disc.image.ljust(204800, b"\0") + disc.image)
+        done = self.tool("catalogue", "--json", "seq.dsd", status=1)
+        self.assertEqual(json.loads(done.out)[0]["form"], "sequential")
+        os.mkdir(self.at("none"))
+        self.assertEqual(json.loads(self.tool("catalogue", "--json", "none").out), [])
+        for words in (["--csv"], ["--csv", "d", "e"], ["--csv", "--json", "d"], ["--recursive", "d"], ["--extract", "a.dsd"]):
+            self.tool("catalogue", *words, status=2)
+
+    def test_a_name_that_begins_with_a_dash(self):
+        self.assertIn("catalogue: -dash.ssd: no such option; a name that begins with `-` is written ./-dash.ssd\n", self.tool("catalogue", "-dash.ssd", status=2).err)
+
+    def test_a_fifo_is_not_waited_for(self):
+        put(self.at("TEXT"), b"x")
+        os.mkfifo(self.at("TEXT.inf"))
+        os.mkfifo(self.at("FILE"))
+        for name in ("TEXT", "FILE"):
+            self.assertIn("is no plain file", self.tool("catalogue", "--make", "a.ssd", name, status=1).err)
+
     def test_no_disc_is_written_over(self):
         put(self.at("F"), b"x")
         self.tool("catalogue", "--make", "a.dsd", "F", "--side", "1")
@@ -175,6 +276,7 @@ class Tool(Case):
         for name in ("A.DSD", "b.dsd"):
             put(self.at("discs/" + name), some(300000))
         done = self.tool("suite", "--ticks", "2000", "discs", "results", "--", "--os", "os", "--tube", "tube")
+        self.assertEqual(done.err, "suite: beebtube takes discs/A.DSD as an SSD: with it the name of a DSD ends in .dsd\n")
         self.assertEqual(done.out, "done A.DSD\ndone b.dsd\nsuite: 2 of 2 are good: done 2\nsuite: run 1, there before 1; results/index.html\n")
         put(self.at("set"), b"--disc0 discs/A.DSD\n--disc1 discs/b.dsd\n")
         done = self.tool("words", "set")

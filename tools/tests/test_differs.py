@@ -167,6 +167,63 @@ class Differs(Case):
         self.assertTrue(text_of(self.at("one.report")).startswith(b"ticks"))
 
 
+class Order(Case):
+    """What passed in two traces, without times and polls."""
+
+    TRACE = [(6, "H", "W", 0, 0x81), (12, "P", "W", 1, 0x41), (15, "H", "R", 0, 0xC1), (18, "H", "R", 1, 0x41), (30, "P", "W", 1, 0x42),
+             (33, "H", "R", 1, 0x42), (40, "P", "W", 3, 0x43), (42, "H", "R", 3, 0x43), (60, "H", "X", 0, 0), (66, "P", "W", 1, 0x44),
+             (69, "H", "R", 1, 0x44)]
+
+    def put(self, name, accesses):
+        lines = ["%010X %s %s %d %02X\n" % access for access in accesses]
+        put(self.at(name), "".join(lines).encode())
+
+    def told(self, other, *words, status=1):
+        self.put("one", self.TRACE)
+        self.put("two", other)
+        return self.tool("differs", "--order", "one", "two", *words, status=status).out.splitlines()
+
+    def test_times_and_polls_are_ignored(self):
+        later = [(2 * access[0],) + access[1:] for access in self.TRACE] + [(500, "H", "R", 0, 0x40), (503, "H", "R", 1, 0x44)]
+        later.insert(3, (31, "H", "R", 0, 0xC1))
+        self.assertEqual(self.told(later, status=0), ["same: bytes and flags 5, resets 1"])
+        self.assertEqual(self.told([(access[0] + 2,) + access[1:] for access in self.TRACE], "--within", "2", status=0),
+                         ["same: bytes and flags 5, resets 1"])
+        lines = self.told(later, "--within", "20")
+        self.assertEqual(lines[0], "register 1 to the host, byte 2: 33 ticks later")
+
+    def test_the_first_difference_has_its_context_and_the_next_follows(self):
+        other = [access if access[4] not in (0x41, 0x43) else access[:4] + (access[4] + 0x20,) for access in self.TRACE]
+        lines = self.told(other)
+        self.assertEqual([line for line in lines if line[0] != " "],
+                         ["register 1 to the host, byte 1: 41 'A' | 61 'a'", "register 2 to the host, byte 1: 43 'C' | 63 'c'",
+                          "differences 2; 5 | 5 bytes and flags passed"])
+        self.assertIn("  first           3.000 us  the host takes 41 'A' from register 1", lines)
+        self.assertIn("  second          3.000 us  the host takes 61 'a' from register 1", lines)
+        self.assertIn("  second          2.000 us  the second processor gives 61 'a' to register 1", lines)
+
+    def test_what_is_missing(self):
+        lines = self.told(self.TRACE[:4] + self.TRACE[6:])
+        self.assertEqual([line for line in lines if line[0] != " "], ["register 1 to the host, byte 2: 42 'B' | nothing", "differences 1; 5 | 4 bytes and flags passed"])
+        self.assertEqual(self.told(self.TRACE[:8])[0], "resets: 1 | 0")
+        self.assertIn("flags, byte 1: 81 | nothing", self.told(self.TRACE[1:]))
+
+    def test_a_run(self):
+        self.pair()
+        self.launcher("solo", "2000", "out", "--os", "os", "--tube", "tube")
+        self.assertEqual(self.tool("differs", "--order", "out", "out.trace").out, "same: bytes and flags 2, resets 0\n")
+        for words in (["--order", "out"], ["--within", "3", "out", "out"], ["--order", "--pictures", "x", "out", "out"], ["--order", "--within", "-1", "out", "out"]):
+            self.tool("differs", *words, status=2)
+        put(self.at("fast"), b"T2\n")
+        self.tool("differs", "--order", "--within", "3", "out", "fast", status=1)
+
+    def test_the_ticks_alone_differ(self):
+        self.pair()
+        for out, tick in (("one", 6), ("two", 4)):
+            self.put(out + ".trace", [(tick, "H", "R", 0, 0x40)])
+        self.assertIn("  the ticks alone differ here: --order compares without times", self.tool("differs", "one", "two", status=1).out.splitlines())
+
+
 class Keep(Case):
     def setUp(self):
         super().setUp()

@@ -1,11 +1,13 @@
 """Programs as programs of the shell: what comes out, how they end, and what is refused."""
 import os
 import re
+import shutil
 import signal
 import subprocess
+import sys
 import time
 
-from common import EXAMPLES, TOP, Case, beebtube, put, text_of, unittest
+from common import EXAMPLES, TOP, Case, beebtube, call, put, text_of, unittest
 
 BUILT = os.path.join(EXAMPLES, "c", "built")
 EXECUTE = os.path.join(TOP, "tools", "execute")
@@ -385,7 +387,7 @@ class Ends(Execute):
         text = "LDX #0\nLDY #0\nLDA #65\nl: JSR &FFEE\nINX\nBNE l\nINY\nBNE l\n%sLDA #0\nRTS\n"
         self.assertEqual(self.raw(text % "").out, "A" * 65536)
         done = self.raw(text % "LDA #66\nJSR &FFEE\n", status=153)
-        self.assertEqual((done.out, done.err), ("A" * 65536, "execute: program wrote more than 65,536 bytes: the first of them stand there, and it was stopped\n"))
+        self.assertEqual((done.out, done.err), ("A" * 65536, "execute: program wrote more than 65,536 bytes: the first of them are here, and it was stopped\n"))
 
     def test_the_most_errors_and_one_more(self):
         text = "LDA #0\nSTA &70\nSTA &71\nl: LDA &70\nLDY #2\nJSR &FFD4\nINC &70\nBNE l\nINC &71\nBNE l\n%sLDA #0\nRTS\n"
@@ -434,7 +436,8 @@ class Ends(Execute):
                 (["--host", three], "made for the second processor"), (["--cpu", "65c02", three], "made for a 6502, and --cpu says 65C02"),
                 (["--host", "--cpu", "65C02", "--at", "0800", "text"], "the host has a 6502"), (["--limit", "0", three], "above 0"),
                 (["--limit", "179", three], "at most 178 seconds"), (["--speed", "4", "--limit", "100", three], "at most 89 seconds"),
-                (["--host", "--both", host, host], "--host runs one program"), (["--host", "--save", "s", host], "no list of its accesses"),
+                (["--host", "--both", host, host], "--host runs one program"), (["--host", "--trace", "s", host], "no list of its accesses"),
+                (["--shots", "s", three], "--keys names none"), (["--host-labels", "s", three], "are of the program of --both"),
                 (["--save", three, three], "is not written over"), (["--save", "s", "--trace", "./s", three], "name one file"),
                 (["--listing", "nowhere/s", three], "in no folder"), ([three, "x" * 600], "the arguments are too long"), (["--nothing", three], "--nothing")):
             self.assertIn(told, self.tool("execute", *words, status=125).err, words)
@@ -468,7 +471,7 @@ class Leaves(Execute):
         os.mkdir(self.at("own"))
         running = subprocess.Popen([EXECUTE, "--at", "0800", program], cwd=self.folder, env={**os.environ, "TMPDIR": self.at("own")},
                                    stdin=subprocess.DEVNULL, stdout=subprocess.DEVNULL, stderr=subprocess.DEVNULL)
-        for _ in range(200):
+        for _ in range(6000):
             if os.listdir(self.at("own")):
                 break
             time.sleep(0.05)
@@ -489,6 +492,126 @@ class Leaves(Execute):
 
     def test_the_help(self):
         self.assertIn("tools/execute", self.tool("execute", "--help").out)
+
+
+# What a program's text is when it cannot be written: the status is what it is anyway.
+class Unwritten(Execute):
+    def test_a_text_that_cannot_be_written(self):
+        self.asm("never", "org &0800\nhere: JMP here\n")
+        self.asm("wild", "org &0800\nbyte &02,&02\n")
+        for status, words in ((124, "--limit 0.5 --at 0800 never"), (134, "--at 0800 wild"), (132, "--host --at 0800 wild"), (125, "--at 0800 missing")):
+            for where in ("2>/dev/full", "2>&-"):
+                done = subprocess.run("%s %s </dev/null %s" % (EXECUTE, words, where), shell=True, cwd=self.folder, stdout=subprocess.DEVNULL)
+                self.assertEqual(done.returncode, status, (words, where))
+
+    def test_too_little_memory(self):
+        self.asm("wild", "org &0800\nbyte &02,&02\n")
+        done = subprocess.run("ulimit -v 150000; exec %s -B %s --at 0800 wild" % (sys.executable, EXECUTE), shell=True, cwd=self.folder,
+                              stdin=subprocess.DEVNULL, stdout=subprocess.DEVNULL, stderr=subprocess.PIPE)
+        self.assertIn(done.returncode, (125, 134), done.stderr)
+
+
+class OneProcess(Execute):
+    """`beebtube.execute`."""
+
+    def test_what_comes_of_a_program(self):
+        done = beebtube.execute(os.path.join(BUILT, "hello"), ["one", "two words"])
+        self.assertEqual((done.status, done.out, done.err, done.text, done.ended_at), (
+            0, b"Hello from C: -1 65535 left | BEEF 1234567890\nargument 1 is one\nargument 2 is two words\n", b"and this is an error's text\n", "", None))
+        self.assertEqual(beebtube.execute(os.path.join(BUILT, "upper"), stdin=b"one\ntwo\n").out, b"ONE\nTWO\n")
+        three = beebtube.execute(os.path.join(BUILT, "three"))
+        self.assertEqual((three.status, three.cycles), (3, 239))
+        self.assertRegex(three.listing, "^[0-9A-F]{10} 0200 .* CLD\n")
+        report = beebtube.resume(three.session, int.from_bytes(three.session[6:10], "big")).report
+        self.assertTrue(report.host.halted)
+        self.assertEqual(sorted(three.registers), ["host", "para"])
+        self.assertEqual([len(three.memory[side]) for side in ("host", "para")], [32768, 65536])
+        folder = three._runner.folder
+        three.close()
+        self.assertFalse(os.path.exists(folder))
+
+    def test_bytes_on_both_machines(self):
+        seven, never = (beebtube.asm("6502", beebtube.Source("org &0800\n" + text)) for text in ("LDA #7\nRTS\n", "here: JMP here\n"))
+        for how in ({}, {"host": True}, {"speed": 4}):
+            done = beebtube.execute(seven, at=0x0800, **how)
+            self.assertEqual((done.status, done.cycles), (7, 8), how)
+        both = beebtube.execute(never, at=0x0800, both=seven, host_at=0x0800)
+        self.assertEqual((both.status, both.host_cycles), (7, 8))
+        # Between the first instruction and the moment at which the host holds it.
+        first = both._runner.listed("para", both._whole[0], ("--at", "0800"))[0]
+        held = max(it.tick for it in beebtube.Trace(both.trace) if it.line().endswith("H W 0 A0"))
+        self.assertEqual(both.cycles, (held - int(first[:10], 16)) // 2)
+
+    def test_ends_and_labels(self):
+        labels = beebtube.Labels({"start": 0x0800, "loop": 0x0803})
+        program = beebtube.asm("6502", beebtube.Source("org &0800\nLDA #7\nNOP\nloop: NOP\nJMP loop\n"))
+        done = beebtube.execute(program, at=0x0800, limit=0.1, labels=labels)
+        self.assertEqual(done.status, 124)
+        self.assertRegex(done.text, r"^the program did not end within 0.1 seconds of machine time; it is at loop(\+1)? \(080[34]\)$")
+        self.assertIn(done.ended_at, (0x0803, 0x0804))
+        with self.assertRaisesRegex(beebtube.Fault, "there is no time"):
+            done.cycles
+        broken = beebtube.execute(beebtube.asm("6502", beebtube.Source("org &0800\nNOP\nBRK\n")), at=0x0800, labels=labels, host=True)
+        self.assertEqual((broken.status, broken.text, broken.ended_at), (134, "the program ended by a BRK at start+1 (0801)", 0x0801))
+
+    def test_what_cannot_be_run(self):
+        three = os.path.join(BUILT, "three")
+        for words, how in ((["missing"], {}), ([b"x"], {}), ([three], {"limit": 200}), ([three], {"host": True}), ([three], {"both": three}),
+                           ([three], {"start": 0x0800}), ([three], {"both": three, "host": True})):
+            with self.assertRaises(beebtube.Fault):
+                beebtube.execute(*words, **how)
+        with self.assertRaises(TypeError):
+            beebtube.execute(three, nothing=1)
+
+    def test_the_folder_makes_no_difference(self):
+        os.makedirs(self.at("a/" + "long" * 20))
+        places = [self.at(name) for name in ("hello", "a/%s/hello" % ("long" * 20))]
+        for place in places:
+            put(place, text_of(os.path.join(BUILT, "hello")))
+        self.assertEqual(*(beebtube.execute(place, ["x"]).cycles for place in places))
+        texts = self.tool("execute", "--at", "0800", self.asm("echo", text_of(os.path.join(EXAMPLES, "c", "echo.asm")).decode()), "x" * 500, status=1)
+        self.assertEqual(texts.out, "x" * 500 + "\n")
+
+    @needs_no_tube
+    def test_keys_shots_font_and_session_on_the_host(self):
+        # Waits for a key, and draws what it is into the screen of mode 7.
+        text = text_of(os.path.join(EXAMPLES, "screen-os.asm")).decode()
+        self.assertTrue(text)
+        program = self.asm("draws", "org &0800\nLDA #&7F\nSTA &FE43\nLDA #&41\nSTA &FE4F\nloop: LDA &FE4F\nBPL loop\nSTA &70\nLDA #0\nRTS\n")
+        put(self.at("script"), b"at 900000 down 41\nat 1800000 shot\nat 1900000 shot\n")
+        done = self.tool("execute", "--host", "--keys", "script", "--shots", "seen", "--save", "session", "--at", "0800", program)
+        self.assertEqual(sorted(it for it in self.names() if it[:4] in ("seen", "sess")), ["seen.000.png", "seen.001.png", "session"])
+        self.assertEqual(done.err, "")
+        api = beebtube.execute(self.at(program), host=True, at=0x0800, keys=beebtube.pressed((900000, "A", 100000)), limit=1)
+        self.assertEqual((api.status, api.memory["host"][0x70], len(api.frames)), (0, 0xC1, 0))
+        self.assertGreater(api.cycles, 200000)
+        self.assertIn("halted", self.tool("debug", "session", "-c", "host; where").out)
+
+    @needs_no_tube
+    def test_a_host_that_looks_at_the_tube_has_no_session(self):
+        done = self.raw("LDA &FEE0\nSTA &70\nLDA #0\nRTS\n", "--host", "--save", "session", status=125)
+        self.assertIn("program uses the Tube's addresses", done.err)
+        self.assertNotIn("session", self.names())
+
+
+class Both(Execute):
+    def test_the_host_has_the_arguments_and_the_listing(self):
+        echo = self.asm("echo", text_of(os.path.join(EXAMPLES, "c", "echo.asm")).decode().replace("&FC", "&D2"))
+        never = self.asm("never", "org &0800\nhere: JMP here\n")
+        done = self.tool("execute", "--time", "--listing", "list", "--both", echo, "--host-at", "0800", "--at", "0800", never, "one", "two", status=2)
+        self.assertEqual(done.out, "one\ntwo\n")
+        self.assertRegex(done.err, r"\Aexecute: echo: [0-9,]+ cycles, [0-9.]+ seconds at 2 MHz\nexecute: never: [0-9,]+ cycles, [0-9.]+ seconds at 3 MHz\n\Z")
+        self.assertNotIn("JMP &0800", text_of(self.at("list")).decode())
+
+    def test_labels(self):
+        put(self.at("labels"), b"al 000800 .wait\n")
+        put(self.at("host-labels"), b"0800 begin\n")
+        never = self.asm("never", "org &0800\nhere: JMP here\n")
+        done = self.raw("here: JMP here\n", "--limit", "0.2", "--labels", "labels", status=124)
+        self.assertIn("it is at wait (0800)\n", done.err)
+        done = self.tool("execute", "--limit", "0.2", "--labels", "labels", "--host-labels", "host-labels", "--both", never, "--host-at", "0800",
+                         "--at", "0800", never, status=124)
+        self.assertIn("; the host is at begin (0800), the second processor at wait (0800)\n", done.err)
 
 
 class Host(Execute):
@@ -521,6 +644,53 @@ class Host(Execute):
         done = self.raw("LDA #7\nRTS\n", "--host", "--time", "--listing", "list", status=7)
         self.assertIn("8 cycles, 0.000004 seconds at 2 MHz", done.err)
         self.assertRegex(text_of(self.at("list")).decode().splitlines()[0], " 0800 .* LDA #&07$")
+
+
+@unittest.skipUnless(shutil.which("cc65"), "cc65 is not there")
+class Building(Execute):
+    def build(self, *words, status=0, **how):
+        done = call([os.path.join(EXAMPLES, "c", "build")] + list(words), self.folder, **how)
+        self.assertEqual(done.status, status, done.out + done.err)
+        return done
+
+    def test_a_source_is_not_written_over(self):
+        files = {"util.c": b"int helper(void) { return 1; }\n", "main.c": b"int main(void) { return 0; }\n"}
+        for name, data in files.items():
+            put(self.at(name), data)
+        os.link(self.at("util.c"), self.at("other"))
+        for words in (["util.c", "main.c"], ["new.c", "main.c"], ["main.c", "main.c"], ["--labels", "main.c", "out", "main.c"],
+                      ["./other", "util.c", "main.c"], ["other", "main.c"]):
+            self.assertIn("it is not written over", self.build(*words, status=2).err)
+            self.assertEqual({name: text_of(self.at(name)) for name in files}, files)
+        self.assertIn("one file", self.build("--labels", "./out", "out", "main.c", status=2).err)
+        self.build("--labels", "labels", "out", "main.c", "util.c")
+        self.assertEqual(sorted(self.names()), ["labels", "main.c", "other", "out", "util.c"])
+        self.tool("execute", "out")
+
+    def test_from_python(self):
+        put(self.at("main.c"), b'#include <stdio.h>\n#include "own.h"\nint main(void) { printf("%d", OWN); return 5; }\n')
+        os.mkdir(self.at("include"))
+        put(self.at("include/own.h"), b"#define OWN 42\n")
+        for how in ({}, {"host": True}, {"cpu": "65c02"}):
+            program = beebtube.build(self.at("main.c"), options=("-I", self.at("include")), **how)
+            done = beebtube.execute(program, host="host" in how)
+            self.assertEqual((done.status, done.out), (5, b"42"), how)
+        with self.assertRaisesRegex(beebtube.Fault, "own.h"):
+            beebtube.build(self.at("main.c"))
+
+    def test_what_fails_leaves_what_was_there(self):
+        put(self.at("main.c"), b"int main(void) { return 0; }\n")
+        put(self.at("bad.c"), b"int main(void) { return no; }\n")
+        before = b"BTP1 and more"
+        put(self.at("out"), before)
+        self.build("out", "bad.c", status=1)
+        self.assertEqual((text_of(self.at("out")), sorted(self.names())), (before, ["bad.c", "main.c", "out"]))
+        done = call([os.path.join(EXAMPLES, "c", "build"), "out", "main.c"], self.folder, limit=100)
+        self.assertNotEqual(done.status, 0)
+        self.assertEqual((text_of(self.at("out")), sorted(self.names())), (before, ["bad.c", "main.c", "out"]))
+        self.build("out", "main.c")
+        self.build("/dev/null", "main.c")
+        self.tool("execute", "out")
 
 
 class Sources(Execute):

@@ -1,12 +1,13 @@
 """What ./beebtube says behind the program's text, which program it runs, and how it ends."""
 import os
 import random
-import resource
 import shutil
 import subprocess
 import time
 
 from common import EXAMPLES, IS_ROOT, TOP, Case, beebtube, call, child_of, is_alive, letters, pretend_clone, put, signal, text_of, unittest
+
+from beebtube.files import files_below
 
 
 class Told(Case):
@@ -239,6 +240,15 @@ class Told(Case):
         self.assertEqual(self.launcher("check", "/dev/stdin", stdin=text_of(os.path.join(EXAMPLES, "nmi.trace"))).out, "ok 5\n")
 
 
+    def test_a_pipe_is_not_opened_again(self):
+        """What came through it is gone: the explanation is the shorter one."""
+        os.mkfifo(self.at("f"))
+        writer = subprocess.Popen(["sh", "-c", "echo bad >f"], cwd=self.folder)
+        self.assertEqual(self.launcher("check", "f", status=4).err, "bad trace 1\nbeebtube: docs/COMMANDS.md has the form\n")
+        self.assertEqual(writer.wait(60), 0)
+        self.assertEqual(beebtube.explain(4, "bad trace 1", ["check", "f"], self.folder), [])
+
+
 class Ends(Case):
     def started(self):
         self.pair()
@@ -248,7 +258,7 @@ class Ends(Case):
                 signal.signal(number, signal.SIG_DFL)
         child = subprocess.Popen([os.path.join(TOP, "beebtube"), "solo", "1073741824", "o", "--os", "os", "--tube", "tube", "--keep", "0"], cwd=self.folder,
                                  stdin=subprocess.DEVNULL, stdout=subprocess.DEVNULL, stderr=subprocess.PIPE, preexec_fn=before)
-        for _ in range(300):
+        while child.poll() is None:
             program = child_of(child.pid)
             # The launcher's own helpers are other programs.
             try:
@@ -274,7 +284,7 @@ class Ends(Case):
         child.kill()
         self.assertEqual(child.wait(60), -9)
         child.stderr.close()
-        for _ in range(100):
+        for _ in range(1200):
             if not is_alive(program):
                 break
             time.sleep(0.05)
@@ -285,6 +295,76 @@ class Ends(Case):
         os.kill(program, signal.SIGKILL)
         self.assertEqual(child.wait(60), -9)
         child.stderr.close()
+
+
+class Stubs(Case):
+    """A clone that only pretends, whose program is a script, and whose prover and python3 are scripts too."""
+
+    def clone(self, script):
+        self.top = pretend_clone(self.at("clone"))
+        program = self.script(os.path.join(self.top, "release", "beebtube"), script)
+        put(os.path.join(self.top, "release", "sum"), beebtube.sum_of(program).digits.encode() + b"\n")
+        os.mkdir(self.at("bin"))
+
+    def script(self, name, text):
+        put(name, b"#!/bin/sh\n" + text)
+        os.chmod(name, 0o755)
+        return name
+
+    def call(self, *words, **how):
+        return self.launcher(*words, top=self.top, env={"PATH": self.at("bin") + ":" + os.environ["PATH"], "XDG_CACHE_HOME": self.at("cache")}, **how)
+
+    def test_the_status_of_a_program_that_ended_before_its_text(self):
+        """Standard error is held a little longer by a process that the program left."""
+        self.clone(b'sleep 0.3 & echo "a text" >&2; exit "$1"\n')
+        for status in (0, 2, 8):
+            done = self.call(str(status), status=status)
+            self.assertEqual((done.out, done.err), ("", "a text\n"))
+
+    def test_a_python3_that_hangs(self):
+        """The status comes, and the shorter lines."""
+        self.clone(b'echo "bad trace 1" >&2; exit 4\n')
+        self.script(self.at("bin/python3"), b"sleep 1000 & sleep 1000\n")
+        done = call([os.path.join(self.top, "beebtube"), "check", "x"], self.folder, env={"PATH": self.at("bin") + ":" + os.environ["PATH"], "BEEBTUBE_EXPLAIN": "1"})
+        self.assertEqual((done.status, done.err), (4, "bad trace 1\nbeebtube: docs/COMMANDS.md has the form\n"))
+
+    def test_a_long_text(self):
+        self.clone(b'head -c 300000 /dev/zero | tr "\\0" x >&2; exit 2\n')
+        self.assertEqual(len(self.call(status=2).err), 300000)
+
+    def building(self, rt):
+        """The shipped program is of other sources: the next call builds."""
+        self.clone(b"echo shipped\n")
+        put(os.path.join(self.top, "release", "sources"), b"other\n")
+        self.script(self.at("bin/rt"), rt)
+        self.source = os.path.join(self.top, "crates", "beebtube", "src", "main.rt")
+
+    def test_an_edit_during_the_build(self):
+        """The program is that of the copy which was built; edited sources are built again."""
+        rt = """mkdir -p out; echo "echo built of: $(cat src/main.rt)" >out/beebtube; chmod +x out/beebtube
+            [ -e once ] || { echo edited >SOURCE; touch FOLDER/once; }
+            """
+        self.building(rt.replace("[ -e once", "[ -e FOLDER/once").replace("SOURCE", "FOLDER/clone/crates/beebtube/src/main.rt").replace("FOLDER", self.folder).encode())
+        done = self.call()
+        self.assertEqual(done.out, "built of: edited\n")
+        self.assertIn("beebtube: the sources were edited during the build: it starts again\n", done.err)
+        put(self.source, b"main\n")
+        self.assertEqual(self.call().out, "built of: main\n")
+        self.assertEqual(self.call().err, "")
+
+    def test_a_build_that_is_ended(self):
+        self.building(b'echo $$ >"%s"; exec sleep 1000\n' % self.at("pid").encode())
+        for number in (signal.SIGTERM, signal.SIGINT, signal.SIGHUP):
+            child = subprocess.Popen([os.path.join(self.top, "beebtube")], stdin=subprocess.DEVNULL, stdout=subprocess.DEVNULL, stderr=subprocess.DEVNULL, restore_signals=True,
+                                     env={**os.environ, "PATH": self.at("bin") + ":" + os.environ["PATH"], "XDG_CACHE_HOME": self.at("cache")}, cwd=self.folder)
+            while not (os.path.exists(self.at("pid")) and text_of(self.at("pid"))):
+                time.sleep(0.02)
+            prover = int(text_of(self.at("pid")))
+            child.send_signal(number)
+            self.assertEqual(child.wait(60), -number)
+            self.assertFalse(is_alive(prover))
+            os.unlink(self.at("pid"))
+            self.assertEqual(os.listdir(self.at("cache/beebtube-build"))[0][-5:], ".lock")
 
 
 class Chooses(Case):
@@ -301,12 +381,6 @@ class Chooses(Case):
     def check(self, **env):
         return self.call("check", os.path.join(EXAMPLES, "nmi.trace"), **env)
 
-    NOTICE = "beebtube: this is the program of release/, which was built from these sources; .ci/run proves and builds it anew, and compares\n"
-
-    def test_the_shipped_program_says_so_once(self):
-        self.clone()
-        self.assertEqual((self.check().err, self.check().err), (self.NOTICE, ""))
-
     def refused(self):
         done = self.call("check", os.path.join(EXAMPLES, "nmi.trace"), status=70, PATH=self.without_rt())
         self.assertNotIn("ok", done.out)
@@ -321,7 +395,7 @@ class Chooses(Case):
         data = text_of(path)
         put(path, data[:-1] + bytes([data[-1] ^ 1]))
         os.chmod(path, 0o755)
-        self.assertIn("release/beebtube is not the program whose sum is in release/sum: it is not run", self.refused())
+        self.assertIn("release/beebtube does not have the checksum of release/sum: it is not run", self.refused())
         put(path, data)
         self.assertEqual(self.check().out, "ok 5\n")
         os.unlink(os.path.join(self.top, "release", "sum"))
@@ -352,39 +426,109 @@ class Chooses(Case):
         self.top = self.at("copy")
         self.refused()
 
-    @unittest.skipIf(IS_ROOT, "root may write everywhere")
-    def test_a_clone_that_cannot_be_written(self):
+    def test_nothing_is_noted(self):
+        """A call leaves no file, whatever it found, and what one call could not do is no matter of the next."""
         self.clone()
-        for at, folders, _ in os.walk(self.top):
-            os.chmod(at, 0o555)
-        try:
-            os.mkdir(self.at("home"))
-            self.assertEqual((self.check().err, self.check().err), (self.NOTICE, ""))
-            # Without a folder of the user's own either, it is one notice a call.
-            for home in ("/nowhere", ""):
-                self.assertEqual([self.check(HOME=home).err for _ in range(2)], [self.NOTICE] * 2)
-        finally:
-            for at, folders, _ in os.walk(self.top):
-                os.chmod(at, 0o755)
+        bare = self.at("bin")
+        os.mkdir(bare)
+        for name in ("bash", "env", "find", "git", "sort", "xargs", "setpriv"):
+            os.symlink(shutil.which(name), os.path.join(bare, name))
+        before = files_below(self.top)
+        self.call("check", os.path.join(EXAMPLES, "nmi.trace"), status=70, PATH=bare)
+        self.assertEqual((self.check().out, self.check().err), ("ok 5\n", ""))
+        self.assertEqual(files_below(self.top), before)
 
+    def test_a_moved_clone(self):
+        """Whatever the times of its files are: here those of before the first call."""
+        one = self.clone()
+        shutil.copytree(one, self.at("two"), symlinks=True)
+        put(os.path.join(self.at("two"), "release", "beebtube"), b"#!/bin/sh\necho damaged\n")
+        self.check()
+        os.rename(one, self.at("three"))
+        os.rename(self.at("two"), one)
+        self.assertIn("does not have the checksum", self.refused())
 
-class Speed(Case):
-    def test_a_call_takes_less_than_a_third_of_the_sum_of_the_sources(self):
-        def least(words):
-            found = []
-            for _ in range(7):
-                before = resource.getrusage(resource.RUSAGE_CHILDREN)
-                subprocess.run(words, stdout=subprocess.DEVNULL, stderr=subprocess.DEVNULL, stdin=subprocess.DEVNULL)
-                after = resource.getrusage(resource.RUSAGE_CHILDREN)
-                found.append(after.ru_utime + after.ru_stime - before.ru_utime - before.ru_stime)
-            return min(found)
-        call_of = [os.path.join(TOP, "beebtube"), "check", os.path.join(EXAMPLES, "nmi.trace")]
-        subprocess.run(call_of, stdout=subprocess.DEVNULL, stderr=subprocess.DEVNULL)
-        time.sleep(2.1)
-        took, summed = least(call_of), least([os.path.join(TOP, ".ci", "sources")])
-        if os.environ.get("BEEBTUBE_FIGURES"):
-            print("a call of the launcher takes %.1f ms of a processor, the sum of the sources %.1f ms" % (1000 * took, 1000 * summed))
-        self.assertLess(took, summed / 3)
+    def test_names_of_folders(self):
+        """Nor does the folder of a clone matter otherwise."""
+        self.clone()
+        for name in ("back\\slash", "line\nfeed", "caf\u00e9", "not UTF-8: \udce9"):
+            os.mkdir(self.at(name))
+            shutil.copytree(self.top, self.at(name + "/clone"), symlinks=True)
+            done = call([self.at(name + "/clone/beebtube"), "check", os.path.join(EXAMPLES, "nmi.trace")], self.folder)
+            self.assertEqual((name, done.status, done.out, done.err), (name, 0, "ok 5\n", ""))
+            self.assertEqual(call([self.at(name + "/clone/beebtube"), "check"], self.folder).status, 1)
+
+    def in_git(self):
+        """The clone, all of it known to git, with the list of its files in release/."""
+        self.clone()
+        shutil.copy(os.path.join(TOP, ".ci", "shipped"), os.path.join(self.top, ".ci"))
+        self.git("init", "-q")
+        self.git("add", "-A")
+        shutil.copytree(os.path.join(self.top, "release"), self.at("out"))
+        os.makedirs(os.path.join(self.top, "crates", "beebtube", "out"))
+        shutil.copy(os.path.join(self.at("out"), "beebtube"), os.path.join(self.top, "crates", "beebtube", "out"))
+        os.mkdir(self.at("kit"))
+        put(self.at("kit/rt"), b"#!/bin/sh\necho a kit\n")
+        os.chmod(self.at("kit/rt"), 0o755)
+        done = call([os.path.join(self.top, ".ci", "shipped"), "--renew"], self.folder, env={"PATH": self.at("kit") + ":" + os.environ["PATH"]})
+        self.assertEqual((done.status, done.err), (0, ""))
+        shutil.rmtree(os.path.join(self.top, "crates", "beebtube", "out"))
+        self.git("add", "-A")
+        # Whoever sums the files says so.
+        put(os.path.join(self.at("kit"), "find"), b"#!/bin/sh\necho summed >&2\nexec %s \"$@\"\n" % shutil.which("find").encode())
+        os.chmod(os.path.join(self.at("kit"), "find"), 0o755)
+
+    def git(self, *words):
+        subprocess.run(["git", "-c", "user.name=x", "-c", "user.email=x@x", "-C", self.top] + list(words), check=True, stdout=subprocess.DEVNULL)
+
+    def looked(self):
+        """What the call says, without the toolchain."""
+        done = call([os.path.join(self.top, "beebtube"), "check", os.path.join(EXAMPLES, "nmi.trace")], self.folder,
+                    env={"PATH": self.at("kit") + ":" + self.without_rt()})
+        return done.status, done.out, done.err
+
+    @unittest.skipUnless(shutil.which("git"), "git is not there")
+    def test_git_says_whether_a_file_changed(self):
+        self.in_git()
+        fast, summed = (0, "ok 5\n", ""), (0, "ok 5\n", "summed\n")
+        source = os.path.join(self.top, "crates", "beebtube", "src", "main.rt")
+        os.unlink(self.at("kit/rt"))
+        self.assertEqual(self.looked(), fast)
+        self.git("commit", "-q", "-m", "all")
+        self.assertEqual(self.looked(), fast)
+        os.utime(source)
+        self.assertEqual(self.looked(), fast)
+        for name in ("other.rt", "Other.antt"):
+            other = os.path.join(os.path.dirname(source), name)
+            put(other)
+            self.assertEqual(self.looked()[:2], (70, ""))
+            os.unlink(other)
+        put(source, b"Main\n")
+        self.assertEqual(self.looked()[:2], (70, ""))
+        self.git("add", "-A")
+        self.assertEqual(self.looked()[:2], (70, ""))
+        self.git("commit", "-q", "-m", "other")
+        self.assertEqual(self.looked()[:2], (70, ""))
+        put(source, b"main\n")
+        self.assertEqual(self.looked(), summed)
+        self.git("add", "-A")
+        self.assertEqual(self.looked(), fast)
+        # The shipped program is one of these files.
+        put(os.path.join(self.top, "release", "beebtube"), b"#!/bin/sh\necho damaged\n")
+        for _ in range(2):
+            self.assertEqual(self.looked()[:2], (70, ""))
+            self.git("add", "-A")
+        self.git("checkout", "-q", "HEAD", "release/beebtube")
+        put(os.path.join(self.top, ".git", "index"), b"no index")
+        self.assertEqual(self.looked(), summed)
+
+    @unittest.skipUnless(shutil.which("git") and os.path.isdir(os.path.join(TOP, ".git")), "this is no clone")
+    def test_this_clone_s_own_list(self):
+        """release/listing is that of the files here, unless one of them was edited."""
+        listing = ". .ci/sources && listing_of ."
+        if subprocess.run([os.path.join(TOP, ".ci", "sources")], stdout=subprocess.PIPE).stdout == text_of(os.path.join(TOP, "release", "sources")):
+            done = call(["bash", "-c", listing], TOP)
+            self.assertEqual(done.out.encode(), text_of(os.path.join(TOP, "release", "listing")), ".ci/shipped --renew writes it")
 
 
 if __name__ == "__main__":

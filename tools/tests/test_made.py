@@ -102,5 +102,21 @@ class Scripts(Case):
         self.assertEqual(sorted(os.listdir(self.folder)), ["beebtube", "docs", "examples", "tools"])
 
 
+class Temporary(Case):
+    """Where there can be no folder for temporary files, nothing is done anywhere else."""
+
+    def test_no_folder(self):
+        os.mkdir(self.at("bin"))
+        put(self.at("bin/chromium"), b"#!/bin/sh\nexit 0\n")
+        os.chmod(self.at("bin/chromium"), 0o755)
+        put(self.at("os"), b"own")
+        env = {"TMPDIR": self.at("nowhere"), "PATH": self.at("bin") + ":" + os.environ["PATH"]}
+        scripts = ["docs/browser.sh", "docs/pictures.sh", "docs/waveform.sh", "tools/tests/run", ".ci/examples"]
+        for script in scripts + ["examples/c/suite/check"] * bool(shutil.which("cc65")):
+            words = [] if script.startswith(("docs", "examples")) else ["test_nothing"]
+            done = call([os.path.join(TOP, script)] + words, self.folder, env=env)
+            self.assertEqual((script, done.status, sorted(os.listdir(self.folder)), text_of(self.at("os"))), (script, 1, ["bin", "os"], b"own"))
+
+
 if __name__ == "__main__":
     unittest.main()

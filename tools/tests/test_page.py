@@ -162,6 +162,21 @@ class Page(Case):
         self.assertIn("No key script was handed to this page.", self.page().text)
         self.assertIn("another here", self.page().text)
 
+    def test_a_sound_that_no_sum_names_is_not_taken(self):
+        self.pair()
+        os.mkdir(self.at("private"))
+        self.launcher("solo", "60000", "x", "--os", "os", "--tube", "tube", "--wav", "private/own.wav")
+        text = self.tool("manifest", "run", "2000", "run", "--os", "os", "--tube", "tube").out
+        put(self.at("run.manifest"), re.sub("(?m)^(words .*)$", r"\1 --wav %s" % self.at("private/own.wav"), text).encode())
+        self.tool("page", "run")
+        self.assertNotIn("wav", self.data(self.page()))
+        self.assertIn("No sound was handed to this page.", self.page().text)
+
+    def test_a_fifo_is_not_waited_for(self):
+        put(self.at("run.report"), REPORT % (9, 0, 0))
+        os.mkfifo(self.at("run.manifest"))
+        self.assertIn("run.manifest is no manifest", self.tool("page", "run", status=1).err)
+
     def test_another_run_beside_it(self):
         self.pair()
         for name, ticks in (("run", "2000"), ("other", "2000"), ("third", "1000")):

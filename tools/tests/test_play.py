@@ -2,7 +2,7 @@
 import os
 import re
 
-from common import EXAMPLES, Case, beebtube, put, unittest
+from common import EXAMPLES, Case, beebtube, put, text_of, unittest
 
 from beebtube import mame
 from beebtube.frame import lines_in
@@ -43,7 +43,27 @@ class Played(Case):
         with open(self.at("here.movie.png"), "rb") as file:
             self.assertEqual(lines_in(file.read()), [frame.lines() for frame in run.frames])
         with open(self.at("here.wav"), "rb") as file:
-            self.assertEqual(file.read(), run.sound)
+            self.assertEqual(file.read(), run.wav)
+
+    def test_the_ticks_of_a_set_with_speed(self):
+        """`--speed 4` in a set makes ticks shorter, for a host alone too."""
+        self.tool("words", "--make", "fast.set", "--os", "os", "--font", "font", "--speed", "4")
+        for name in ("roms.set", "fast.set"):
+            self.tool("play", "--start", "0.2", "--wait", "0.4", "--out", name, name, "-", "4")
+        self.assertEqual(self.names()["fast.set.png"], self.names()["roms.set.png"])
+
+    def test_a_refusal_names_the_file(self):
+        put(self.at("long.ssd"), length=300000)
+        self.assertIn("--disc0 long.ssd has 300,000 bytes", self.tool("play", "long.ssd", "4", status=1).err)
+
+    def test_another_picture_stays(self):
+        """A picture that was not made here is somebody's own, be it a PNG."""
+        for data in (b"\x89PNG\r\n\x1a\n" + b"\0\0\0\rIHDR" + b"\0" * 90, b"\x89PNG\r\n\x1a\n", b"GIF89a"):
+            put(self.at("game.png"), data)
+            self.assertIn("is no picture that was made here", self.tool("play", "game.ssd", "4", "--start", "0", "--wait", "0", status=1).err)
+            self.assertEqual(self.names()["game.png"], data)
+        for more in ((), ("--movie",), ("--movie",)):
+            self.tool("play", *more, "game.ssd", "4", "--start", "0", "--wait", "0.3", "--out", "here")
 
     def test_both_machines(self):
         self.assertIn("no --tube", self.tool("play", "--both", "roms.set", "-", status=1).err)
@@ -63,7 +83,7 @@ class Played(Case):
             self.tool("play", *words, status=2)
         self.assertEqual(self.names(), before)
         put(self.at("game.png"), b"mine")
-        self.assertIn("is no picture", self.tool("play", "game.ssd", "1", "--start", "0", "--wait", "0", status=1).err)
+        self.assertIn("is no picture that was made here", self.tool("play", "game.ssd", "1", "--start", "0", "--wait", "0", status=1).err)
         put(self.at("here.wav"), b"mine")
         self.assertIn("is no sound", self.tool("play", "-", "1", "--wav", "--out", "here", "--start", "0", "--wait", "0", status=1).err)
         put(self.at("set"), b"--os os\n--disc0 game.ssd\n")
@@ -73,7 +93,7 @@ class Played(Case):
         put(self.at("set"), b"--os os\n--keys font\n")
         self.assertIn("--keys", self.tool("play", "set", "game.ssd", status=1).err)
         os.unlink(self.at("roms.set"))
-        self.assertIn("no roms.set here", self.tool("play", "game.ssd", status=1).err)
+        self.assertIn("the machine has the ROMs of system/", self.tool("play", "game.ssd", status=1).err)
         self.assertEqual(self.names()["game.png"], b"mine")
 
 
@@ -130,6 +150,22 @@ class Mame(Case):
         leaves = LISTING[:30] + [(0xE000, 30)] + LISTING[31:]
         told = self.told(listed(leaves), with_loop(25), 1)
         self.assertIn("instructions 30 are the same; then MAME is in a loop for 15 more", told)
+
+    def test_the_second_processor(self):
+        """A listing of `follow para`, beside the same in MAME's form for `:tube:6502:maincpu`, which begins at the reset."""
+        self.pair()
+        self.launcher("follow", "para", os.path.join(EXAMPLES, "letters.trace"), "2000", "para", "--tube", "tube")
+        lines = []
+        for line in text_of(self.at("para.list")).decode().splitlines():
+            tick, pc, a, x, y, s, p, text = line.split(" ", 7)
+            flags = "P=%02X" % (int(p[2:], 16) | 0x30)
+            lines.append(" ".join([a, x, y, "S=1" + s[2:], flags, pc + ":", text.lower().replace("&", "$")]))
+        lines.insert(7, "(interrupted at F808, IRQ 0)")
+        put(self.at("x.tr"), "\n".join(lines).encode() + b"\n")
+        told = self.tool("differs", "--mame", "x.tr", "para.list").out
+        self.assertEqual(told, "same: instructions %d; both end there\n" % (len(lines) - 1))
+        put(self.at("x.tr"), "\n".join(lines[40:]).replace("A=1F", "A=20", 1).encode())
+        self.assertIn("other registers: ", self.tool("differs", "--mame", "x.tr", "para.list", status=1).out)
 
     def test_what_is_wrong(self):
         put(self.at("x.list"), listed(LISTING))

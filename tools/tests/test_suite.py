@@ -1,19 +1,24 @@
 """What tools/suite promises: each run once, none that hides another, and data that stays data."""
 import base64
 import csv
+import fcntl
+import gzip
 import hashlib
 import html.parser
 import json
 import os
 import re
 import shlex
+import shutil
 import subprocess
 import time
+import zipfile
 
-from common import EXAMPLES, IS_ROOT, TOP, Case, beebtube, call, child_of, is_alive, put, signal, text_of, unittest
-from beebtube import collection
-from beebtube.collection import Order, Sums, entries_of, order_of, plan_of
-from beebtube.results import COLUMNS, read_table
+from common import EXAMPLES, IS_ROOT, TOP, Case, beebtube, call, child_of, children_of, is_alive, put, signal, text_of, unittest
+from beebtube import collection, files, results
+from beebtube.collection import Order, Sums, listing_of, order_of, plan_of
+from beebtube.frame import lines_in
+from beebtube.table import COLUMNS, read_table
 from beebtube.workers import Forecast, told_time
 
 SMALL_DISK = os.environ.get("BEEBTUBE_SMALL_DISK")  # a folder on a file system of some 64 kB
@@ -103,6 +108,9 @@ class Running(Suite):
             "000.ppm", "d0", "host", "manifest", "para", "report", "trace")] + ["tube"])
         self.assertEqual(self.tool("manifest", "--check", "out.manifest", folder=self.at("kept/a.ssd")).out, "same: files read 4, written 6\n")
         self.tool("page", "out", folder=self.at("kept/a.ssd"))
+        # A file that no run left there is not removed.
+        self.assertIn("kept/a.ssd has out.html, which", self.suite("--keep", "kept", "--shot", "--ticks", "1999", status=1).out)
+        os.unlink(self.at("kept/a.ssd/out.html"))
         # What is there is not run again; of what lacks, that run is.
         self.assertEqual(self.ran(self.suite("--keep", "kept", "--shot")), 0)
         os.unlink(self.at("kept/a.ssd/out.d0"))
@@ -119,6 +127,121 @@ class Running(Suite):
         self.assertEqual(text_of(self.at("kept/a.ssd/own")), b"own")
         self.assertEqual(sorted(os.listdir(self.at("kept"))), ["a.ssd", "b.ssd"])
 
+    def test_files_of_somebody_else_are_never_removed(self):
+        self.discs("a.ssd")
+        os.makedirs(self.at("kept/a.ssd"))
+        for name in ("os", "tube"):
+            put(self.at("kept/a.ssd/my-" + name), text_of(self.at(name)))
+        put(self.at("kept/a.ssd/out.manifest"), self.tool("manifest", "run", "2000", "out", "--os", "my-os", "--tube", "my-tube", folder=self.at("kept/a.ssd")).out.encode())
+
+        def refused(words=WORDS):
+            before = {name: text_of(self.at("kept/a.ssd/" + name)) for name in os.listdir(self.at("kept/a.ssd"))}
+            told = self.suite("--keep", "kept", status=1, words=words).out
+            self.assertIn("it is not written over", told)
+            self.assertEqual({name: text_of(self.at("kept/a.ssd/" + name)) for name in os.listdir(self.at("kept/a.ssd"))}, before)
+            self.assertEqual(os.listdir(self.at("kept")), ["a.ssd"])
+            return told
+        self.assertIn("has my-os", refused())
+        shutil.rmtree(self.at("kept/a.ssd"))
+        self.suite("--keep", "kept")
+        put(self.at("discs/a.ssd"), b"another")
+        put(self.at("kept/a.ssd/NOTES"), b"a year of notes")
+        self.assertIn("has NOTES", refused())
+        os.unlink(self.at("kept/a.ssd/NOTES"))
+        put(self.at("kept/a.ssd/out.host"), b"\1" + text_of(self.at("kept/a.ssd/out.host"))[1:])
+        self.assertIn("has out.host", refused())
+        put(self.at("kept/a.ssd/out.host"), b"\0" + text_of(self.at("kept/a.ssd/out.host"))[1:])
+        self.assertIn("has os, which is read too", refused(("--", "--os", "kept/a.ssd/os", "--tube", "tube")))
+        self.suite("--keep", "kept")
+        self.assertEqual(text_of(self.at("kept/a.ssd/disc0.ssd")), b"another")
+
+    # A folder whose sitecustomize.py does something where a function of a module is called.
+    def site(self, text):
+        os.makedirs(self.at("site"), exist_ok=True)
+        put(self.at("site/sitecustomize.py"), text.encode())
+        return {"PYTHONPATH": self.at("site")}
+
+    def test_all_that_is_kept_can_be_checked_at_once(self):
+        self.discs("a.ssd", "b\n.ssd", "c.ssd")
+        os.mkdir(self.at("discs/below"))
+        put(self.at("discs/below/d.ssd"), b"d")
+        self.suite("--keep", "kept", "--recursive")
+        done = self.tool("manifest", "--check", "kept")
+        self.assertEqual(done.out, "same a.ssd\nsame b\\x0a.ssd\nsame below/d.ssd\nsame c.ssd\nmanifest: 4 of 4 are the same\n")
+        text = text_of(self.at("kept/c.ssd/out.manifest"))
+        put(self.at("kept/c.ssd/out.manifest"), text.replace(b"status 0", b"status 3"))
+        os.unlink(self.at("kept/a.ssd/os"))
+        done = self.tool("manifest", "--check", "kept", "-j", "1", status=1)
+        self.assertEqual(done.out, "failed a.ssd\n  cannot read os\nsame b\\x0a.ssd\nsame below/d.ssd\ndiffers c.ssd\n  not here: status 3\n  only here: status 0\n"
+                         "manifest: 2 of 4 are the same\n")
+        os.mkdir(self.at("none"))
+        self.assertIn("has no run", self.tool("manifest", "--check", "none", status=1).err)
+        for words in (("-j", "0"), ("-j", "x"), ("-k", "1")):
+            self.tool("manifest", "--check", "kept", *words, status=2)
+
+    def test_files_that_are_kept_are_whole_wherever_it_ends(self):
+        """Ended or killed at each change of a name, or as the old files are removed, the old or the new ones are there; and it goes on."""
+        self.discs("a.ssd")
+        self.suite("--keep", "kept")
+        put(self.at("discs/a.ssd"), b"another")
+        shutil.copytree(self.at("kept"), self.at("before"))
+        script = ("import os, signal\ncount = [0]\ndef make(old):\n    def it(*words, **how):\n        found = old(*words, **how)\n        count[0] += 'kept' in os.fspath(words[0]) and 'a.ssd' in ''.join(map(str, words))"
+                  "\n        if count[0] == %d: os.kill(os.getpid(), signal.%s)\n        return found\n    return it\nos.rename = make(os.rename)\n")
+        for number, name in ((1, "SIGTERM"), (2, "SIGTERM"), (2, "SIGKILL")):
+            shutil.rmtree(self.at("kept"))
+            shutil.copytree(self.at("before"), self.at("kept"))
+            shutil.rmtree(self.at("results"))
+            call([os.path.join(TOP, "tools", "suite"), "--ticks", "2000", "--keep", "kept", "discs", "results", *WORDS], self.folder, env=self.site(script % (number, name)))
+            self.assertIn(text_of(self.at("kept/a.ssd/disc0.ssd")), (b"another", b"a.ssd" * 20))
+            self.tool("manifest", "--check", "out.manifest", folder=self.at("kept/a.ssd"))
+            self.suite("--keep", "kept")
+            self.assertEqual((text_of(self.at("kept/a.ssd/disc0.ssd")), os.listdir(self.at("kept"))), (b"another", ["a.ssd"]))
+
+    def test_what_was_killed_is_cleared_later(self):
+        self.discs("a.ssd")
+        os.mkdir(self.at("own"))
+        self.suite(env={"TMPDIR": self.at("own")})
+        for folder in ("own/beebtube-12345678", "own/beebtube-checkout", "own/beebtube-heldheld", "kept/.beebtube-12345678"):
+            os.makedirs(self.at(folder + "/run"))
+            put(self.at(folder + "/lock"), files.MARK if "checkout" not in folder else b"my own")
+        for name in ("runs/.beebtube-abcdefgh", ".beebtube-abcdefgh", "runs/.beebtube-new_file"):
+            put(self.at("results/" + name), b"x")
+            os.utime(self.at("results/" + name), (0, 0) if "new" not in name else None)
+        with open(self.at("own/beebtube-heldheld/lock"), "r+b") as lock:
+            fcntl.flock(lock, fcntl.LOCK_EX)
+            self.suite("--keep", "kept", env={"TMPDIR": self.at("own")})
+        self.assertEqual(sorted(os.listdir(self.at("own"))), ["beebtube-checkout", "beebtube-heldheld"])
+        self.assertEqual(os.listdir(self.at("kept")), ["a.ssd"])
+        self.assertEqual([name for name in os.listdir(self.at("results")) + os.listdir(self.at("results/runs")) if name.startswith(".")], [".beebtube-new_file"])
+
+    def test_many_at_once_keep_the_same(self):
+        self.discs("a.ssd", "b.ssd", "c.ssd")
+        words = [os.path.join(TOP, "tools", "suite"), "-j", "1", "--ticks", "2000", "--pages", "none", "--keep", "kept", "discs", "results", *WORDS]
+        begun = [subprocess.Popen(words, cwd=self.folder, stdout=subprocess.PIPE, stderr=subprocess.STDOUT) for _ in range(4)]
+        for done in begun:
+            said = done.communicate(timeout=300)[0].decode()
+            self.assertEqual(done.returncode, 0, said)
+        self.assertEqual(sorted(os.listdir(self.at("kept"))), ["a.ssd", "b.ssd", "c.ssd"])
+
+    def test_another_program_meanwhile(self):
+        """What another program wrote is no result of the one that the suite began with."""
+        self.discs("a.ssd", "b.ssd")
+        env = self.counting("case \"$*\" in run*) [ -e done ] || : ;; esac; [ -e %s ] && echo '#' >>%s || : >%s" % (self.at("begun"), self.at("counts"), self.at("begun")))
+        done = self.suite("-j", "1", status=1, env=env)
+        self.assertIn("the program was changed meanwhile", done.out)
+        self.assertLess(len(self.runs()), 2)
+        self.assertIn("there before 0", done.out)
+
+    def test_a_fifo_is_not_waited_for(self):
+        self.discs("a.ssd")
+        os.mkfifo(self.at("discs/b.set"))
+        os.mkfifo(self.at("f"))
+        os.mkfifo(self.at("discs/c.ssd"))
+        self.assertEqual([line.split(":")[0] for line in self.lines(self.suite(status=1))], ["done a.ssd", "failed b.set", "failed c.ssd"])
+        put(self.at("list.csv"), b"name,ticks,set,keys\nx,100,f,\ny,100,,f\n")
+        self.assertEqual([line.split(":")[0] for line in self.lines(self.suite(name="list.csv", status=1))], ["failed x", "failed y"])
+        self.suite(name="f", status=1)
+
     def test_one_that_fails_hides_no_other(self):
         self.pair()
         put(self.at("long"), b"x" * 204801)
@@ -130,19 +253,64 @@ class Running(Suite):
         self.assertEqual(len(said), 13)
         for line, begin in zip(said, ("done good", "failed missing: cannot read nowhere.ssd", "failed refused: 3 bad image disc0 204801: --disc0 long has 204,801 bytes", "failed ticks: 1 usage: 1e6: TICKS",
                                       "done again", "failed good (line 7): the name good stands twice", "failed line 8: ", "failed more: line 9 has more cells", "failed words: its words are none",
-                                      "failed line 11: up/../good: a run has a name without `/`", "failed option: 1 usage: --oss: no such option, --os?", "failed zero: /dev/zero is no plain file", "done last")):
+                                      "failed line 11: up/../good: each part", "failed option: 1 usage: --oss: no such option, --os?", "failed zero: /dev/zero is no plain file", "done last")):
             self.assertTrue(line.startswith(begin), (line, begin))
         self.assertIn("suite: 3 of 13 are good: done 3, failed 10", done.out)
         self.assertEqual(len(self.table()), 13)
         self.assertEqual(self.page().count('<article class="card">'), 13)
 
-    def test_a_name_that_is_no_text(self):
-        self.discs("a.ssd")
-        put(os.fsencode(self.at("discs")) + b"/\xff.ssd", b"x")
-        done = self.suite(status=1)
-        self.assertEqual(self.lines(done), ["done a.ssd", "failed ?.ssd: ?.ssd: a name has signs that can be shown, and 200 bytes at most"])
+    # Names of any bytes, and how each is told.
+    NAMES = {b".ssd": ".ssd", b"\xff.ssd": "\\xff.ssd", b"a\n.ssd": "a\\x0a.ssd", b"a\\x0a.ssd": "a\\\\x0a.ssd", b"a?.ssd": "a?.ssd", b"--.SSD": "--.SSD",
+             "\u202e\xa0.ssd".encode(): "\\u202e\\u00a0.ssd", b"n" * 250 + b".ssd": "n" * 250 + ".ssd"}
+
+    def test_names_of_any_bytes(self):
+        self.discs()
+        for at, name in enumerate(self.NAMES):
+            put(os.fsencode(self.at("discs/")) + name, b"%d" % at)
+        done = self.suite("--keep", "kept", "-j", "1")
+        self.assertEqual(sorted(self.lines(done)), sorted("done " + told for told in self.NAMES.values()))
+        self.assertEqual(sorted(os.listdir(os.fsencode(self.at("kept")))), sorted(self.NAMES))
         os.rename(self.at("results/results.csv"), self.at("stored.csv"))
-        self.assertEqual(self.lines(self.suite("--against", "stored.csv", status=1))[0], "same a.ssd")
+        self.assertEqual({line.split()[0] for line in self.lines(self.suite("--against", "stored.csv"))}, {"same"})
+        # A job of each does the same.
+        os.rename(self.at("results"), self.at("alone"))
+        for job in self.suite("--jobs").out.splitlines():
+            done = call(["sh", "-c", job], "/")
+            self.assertEqual(done.status, 0, done.err)
+        self.suite("--gather", "--against", "stored.csv")
+
+    def test_what_is_passed_over_is_told(self):
+        self.discs("a.ssd")
+        os.mkdir(self.at("discs/below"))
+        put(self.at("discs/below/b.ssd"), b"b")
+        for name in ("c.ADL", "d.hfe", "e.txt"):
+            put(self.at("discs/" + name))
+        with zipfile.ZipFile(self.at("discs/f.zip"), "w") as archive:
+            archive.writestr("notes", b"x")
+        done = self.suite()
+        self.assertEqual(sorted(done.err.splitlines()), ["suite: below: a folder, which --recursive looks into", "suite: c.ADL: a file that beebtube does not read",
+                                                         "suite: d.hfe: a file that beebtube does not read", "suite: f.zip: an archive without a disc"])
+        self.assertEqual(self.lines(self.suite("--recursive", "--keep", "kept")), ["done a.ssd", "done below/b.ssd"])
+        self.assertTrue(os.path.exists(self.at("kept/below/b.ssd/out.manifest")))
+
+    def test_discs_in_archives(self):
+        self.discs("a.ssd")
+        data = text_of(self.at("discs/a.ssd"))
+        with zipfile.ZipFile(self.at("discs/b.zip"), "w", zipfile.ZIP_DEFLATED) as archive:
+            for name, more in (("in/a.ssd", data), ("B.DSD", b"double"), ("../up.ssd", b"up"), ("bomb.ssd", bytes(3 << 20)), ("readme", b"x")):
+                archive.writestr(name, more)
+        put(self.at("discs/c.dsd.gz"), gzip.compress(b"double", mtime=0))
+        put(self.at("discs/d.ssd.gz"), gzip.compress(b"cut")[:-4])
+        put(self.at("discs/e.zip"), b"none")
+        done = self.suite(status=1)
+        self.assertEqual([line[:36] for line in self.lines(done)],
+                         ["done a.ssd", "failed b.zip/../up.ssd: b.zip/../up.s", "done b.zip/B.DSD", "failed b.zip/bomb.ssd: too long disc", "done b.zip/in/a.ssd", "done c.dsd.gz",
+                          "failed d.ssd.gz: cannot unpack discs", "failed e.zip: cannot unpack discs/e."][:1]
+                         + [line[:36] for line in ("failed b.zip/../up.ssd: b.zip/../up.ssd: each", "done b.zip/B.DSD", "failed b.zip/bomb.ssd: too long discs/b.zip/bomb.ssd", "done b.zip/in/a.ssd",
+                                                   "done c.dsd.gz", "failed d.ssd.gz: cannot unpack discs/d", "failed e.zip: cannot unpack discs/e.zip")])
+        table = self.table()
+        self.assertEqual((table["b.zip/in/a.ssd"]["key"], table["c.dsd.gz"]["key"]), (table["a.ssd"]["key"], table["b.zip/B.DSD"]["key"]))
+        self.assertIn("disc0.dsd=", table["c.dsd.gz"]["inputs"])
 
     def test_progress_on_a_terminal(self):
         self.discs("a.ssd", "b.ssd", "c.ssd")
@@ -176,17 +344,24 @@ class Running(Suite):
         self.assertEqual(self.counted(), 3)
 
     def test_where_there_is_no_room(self):
-        self.discs("a.ssd")
+        self.discs("a.ssd", "b.ssd")
         # No file may have more than 40,000 bytes: OUT.host fits, OUT.para does not.
         done = self.suite("--pages", "none", status=1, limit=40000)
         self.assertIn("failed a.ssd: it was cut short: cannot write out.para", done.out)
+        self.assertIn("suite: run 0, there before 0; ", done.out)
         self.assertEqual(self.runs(), [])
 
     @unittest.skipUnless(SMALL_DISK, "no small disk is there")
-    def test_on_a_full_disk(self):
-        self.discs("a.ssd")
-        self.assertIn("failed a.ssd", self.suite(status=1, env={"TMPDIR": SMALL_DISK}).out)
-        self.assertEqual(self.runs(), [])
+    def test_a_full_disk_ends_the_suite(self):
+        self.discs("a.ssd", "b.ssd", "c.ssd")
+        self.suite(name="discs", ticks="1")
+        env = {**self.counting(), "TMPDIR": SMALL_DISK}
+        done = self.suite("-j", "1", status=1, env=env)
+        self.assertEqual([line.split(":")[0] for line in self.lines(done)], ["failed a.ssd", "missing b.ssd", "missing c.ssd"])
+        self.assertIn("suite: stopped, since a disk is full: it was cut short: ", done.err)
+        self.assertIn("%s has no room\n" % SMALL_DISK, done.err)
+        self.assertEqual(self.counted(), 1)
+        self.assertEqual([row["state"] for row in self.table().values()], ["failed", "missing", "missing"])
         self.assertEqual([name for name in os.listdir(SMALL_DISK) if "beebtube" in name], [])
 
     @unittest.skipIf(IS_ROOT, "root may write everywhere")
@@ -254,10 +429,10 @@ class Once(Suite):
         for number in (signal.SIGTERM, signal.SIGINT, signal.SIGHUP):
             words = [os.path.join(TOP, "tools", "suite"), "-j", "2", "--ticks", "2000", "discs", "results", *WORDS]
             done = subprocess.Popen(words, cwd=self.folder, env={**os.environ, **env}, stdout=subprocess.PIPE, stderr=subprocess.PIPE, start_new_session=True)
-            worker = program = None
+            workers, program = [], None
             for _ in range(300):
-                worker = child_of(done.pid) if os.path.isdir(self.at("results/runs")) and len(self.runs()) == 3 else None
-                program = child_of(worker) if worker is not None else None
+                workers = children_of(done.pid) if os.path.isdir(self.at("results/runs")) and len(self.runs()) == 3 else []
+                program = next(filter(None, map(child_of, workers)), None)
                 if program is not None:
                     break
                 time.sleep(0.1)
@@ -265,26 +440,67 @@ class Once(Suite):
             done.send_signal(number)
             err = done.communicate(timeout=300)[1]
             self.assertEqual(done.returncode, 128 + number, err)
-            self.assertEqual((is_alive(worker), is_alive(program), os.listdir(self.at("own"))), (False, False, []))
+            self.assertEqual(([it for it in workers + [program] if is_alive(it)], os.listdir(self.at("own"))), ([], []))
             self.assertEqual(err, b"")
         self.assertEqual(self.counted(), 6)
         put(self.at("go-on"))
         done = self.suite(env=env)
         self.assertEqual((len(self.lines(done)), self.ran(done), self.counted()), (4, 1, 7))
 
-    def test_a_record_of_another_is_told(self):
+    def test_a_worker_that_is_killed(self):
+        """The program that it called is ended, the run is no result, and the others go on."""
+        self.discs("a.ssd", "b.ssd", "c.ssd")
+        put(self.at("discs/b.keys"), b"at 1 break\n")
+        os.mkdir(self.at("own"))
+        env = {**self.counting("case \"$*\" in *keys*) exec sleep 60 ;; esac"), "TMPDIR": self.at("own")}
+        words = [os.path.join(TOP, "tools", "suite"), "-j", "2", "--ticks", "2000", "discs", "results", *WORDS]
+        done = subprocess.Popen(words, cwd=self.folder, env={**os.environ, **env}, stdout=subprocess.PIPE, stderr=subprocess.PIPE)
+        program = None
+        for _ in range(300):
+            workers = children_of(done.pid) if os.path.isdir(self.at("results/runs")) and len(self.runs()) == 2 else []
+            worker = next((it for it in workers if child_of(it) is not None), None)
+            program = child_of(worker) if worker is not None else None
+            if program is not None:
+                break
+            time.sleep(0.1)
+        self.assertIsNotNone(program)
+        os.kill(worker, signal.SIGKILL)
+        said = done.communicate(timeout=300)[0].decode()
+        self.assertEqual(said.splitlines()[:3], ["done a.ssd", "failed b.ssd: its process was ended by signal 9", "done c.ssd"])
+        for _ in range(100):
+            if not is_alive(program):
+                break
+            time.sleep(0.1)
+        self.assertFalse(is_alive(program))
+        # The next suite removes what the killed one left.
+        os.unlink(self.at("discs/b.keys"))
+        self.suite(env={"TMPDIR": self.at("own")})
+        self.assertEqual(os.listdir(self.at("own")), [])
+
+    def test_a_damaged_part_of_a_result_is_made_again(self):
         self.discs("a.ssd", "b.ssd")
-        self.suite()
-        names = [self.at("results/runs/" + name) for name in self.runs()]
-        good = text_of(names[0])
-        for text in (b"", b"{}", b"[]", b"\xff", b"1" * 100, good[:-5], text_of(names[1]), good.replace(b'"status": 0', b'"status": "0"'), good.replace(b'"wrote": [', b'"wrote": [1, '),
-                     b"[" * 100000, good.replace(b'"out"', b"7")):
-            put(names[0], text)
-            done = self.suite(status=1)
-            self.assertIn("1 of 2 are good", done.out)
-            self.assertRegex(done.out, "failed .*(is no result|of another run|is no text)")
-        put(names[0], good)
-        self.suite()
+        self.suite("--shot")
+        good = {name: text_of(self.at("results/runs/" + name)) for name in self.runs("json") + self.runs("png") + self.runs("html")}
+        one, two = self.runs()
+
+        def same(name):
+            """The file is as it was, but for times."""
+            return [re.sub(rb'"(seconds|processor|sum)": [^,\n]*', b"", text) for text in (text_of(self.at("results/runs/" + name)), good[name])]
+        for text in (b"", b"{}", b"[]", b"\xff", b"1" * 100, good[one][:-5], good[two], good[one].replace(b'"status": 0', b'"status": 1'), b"[" * 100000, None):
+            os.unlink(self.at("results/runs/" + one))
+            if text is not None:
+                put(self.at("results/runs/" + one), text)
+            self.assertEqual(len(self.tool("suite", "--jobs", "--ticks", "2000", "--shot", "discs", "results", *WORDS).out.splitlines()), 1)
+            self.assertEqual(self.ran(self.suite("--shot")), 1)
+            self.assertEqual(*same(one))
+        for name in (one[:-4] + "png", one[:-4] + "html"):
+            for text in (b"", good[name][:-1] + b"x", None):
+                os.unlink(self.at("results/runs/" + name))
+                if text is not None:
+                    put(self.at("results/runs/" + name), text)
+                self.assertEqual(self.ran(self.suite("--shot")), 1)
+                self.assertEqual(*same(name))
+        self.assertEqual(self.ran(self.suite("--shot")), 0)
 
     def test_a_run_that_gives_another_result_is_told(self):
         self.discs("a.ssd")
@@ -292,10 +508,35 @@ class Once(Suite):
         name = self.at("results/runs/" + self.runs()[0])
         told = json.loads(text_of(name))
         told["wrote"][0][1] = "0" * 64
+        del told["sum"]
+        told["sum"] = results._sum_of_told(told)
         put(name, json.dumps(told).encode())
         done = self.suite("--keep", "kept", status=1)
         self.assertIn("failed a.ssd: two runs of the same words and files differ: d0", done.out)
         self.assertEqual(os.listdir(self.at("kept")), [])
+
+    def test_results_that_no_run_has_are_removed(self):
+        self.discs("a.ssd", "b.ssd")
+        self.suite("--shot")
+        os.unlink(self.at("discs/b.ssd"))
+        put(self.at("results/runs/notes.json"), b"mine")
+        put(self.at("results/runs/%064d.json" % 0), b"no result")
+        put(self.at("discs/broken.set"), b"--oss x\n")
+        self.suite("--clear", "--shot", status=1)
+        self.assertEqual(len(self.runs("png")), 2)
+        os.unlink(self.at("discs/broken.set"))
+        self.assertEqual(self.suite("--clear", "--shot").out, "suite: removed 1 results, 3 files; 1 results are of runs of discs\n")
+        self.assertEqual((len(self.runs("png")), len(self.runs("html")), len(self.runs())), (1, 1, 3))
+        self.assertEqual(self.ran(self.suite("--shot")), 0)
+
+    def test_seconds(self):
+        self.discs("a.ssd")
+        self.tool("suite", "--seconds", "0.0005", "discs", "results", *WORDS)
+        self.assertEqual(self.table()["a.ssd"]["ticks"], "3000")
+        self.tool("suite", "--seconds", "0.0005", "discs", "results", *WORDS, "--speed", "4")
+        self.assertEqual(self.table()["a.ssd"]["ticks"], "6000")
+        self.assertIn("at most", self.tool("suite", "--seconds", "180", "discs", "results", *WORDS, status=1).err)
+        self.suite("--seconds", "1", status=2)
 
     def test_pages(self):
         self.discs("a.ssd")
@@ -303,13 +544,23 @@ class Once(Suite):
         self.assertNotIn("<a href=\"runs/", self.page())
         self.assertEqual(self.ran(self.suite()), 1)
         page = text_of(self.at("results/runs/" + self.runs("html")[0])).decode()
-        self.assertIn("<h1>a.ssd</h1>", page)
+        self.assertIn("<h1>Run %s</h1>" % self.runs("html")[0][:16], page)
         self.assertIn("The trace was not read for this page.", page)
         self.assertEqual(page.count("the same here"), 8)
         self.assertEqual((self.ran(self.suite("--pages", "whole")), len(self.runs("whole.html"))), (1, 1))
         self.assertIn('href="runs/' + self.runs("whole.html")[0], self.page())
         self.assertIn("register 1", text_of(self.at("results/runs/" + self.runs("whole.html")[0])).decode())
         self.assertEqual(self.ran(self.suite("--pages", "plain")), 0)
+
+    def test_a_page_that_cannot_be_made_is_no_success(self):
+        self.discs("a.ssd")
+        put(self.at("odd"), b"#!/bin/sh\necho nothing >out.report\n")
+        os.chmod(self.at("odd"), 0o755)
+        done = self.suite(status=1, env={"BEEBTUBE": self.at("odd")})
+        self.assertEqual(self.lines(done), ["done a.ssd: no page: no report: the line 'nothing'"])
+        self.assertIn("suite: 0 of 1 are good: done 1\n", done.out)
+        self.assertEqual(call(["sh", "-c", self.suite("--jobs", env={"BEEBTUBE": self.at("odd")}).out], "/", env={"BEEBTUBE": self.at("odd")}).status, 1)
+        self.suite("--pages", "none", env={"BEEBTUBE": self.at("odd")})
 
     def test_a_listing_has_no_page(self):
         self.pair()
@@ -335,13 +586,13 @@ class Lists(Suite):
                                        "alone,,model.set,replay host /dev/null,,,,,\n"
                                        "\"two\nlines\",1,,,,,,,\n"
                                        "spelled,,,run 7 out --wav x --save below/y,,,,,\n".encode())
-        found = {entry.name: entry for entry in entries_of(self.at("below/list.csv"), order_of(["--tube", "tube", "--speed", "4"], "").over(Order("run", {"TICKS": "5"})))}
+        found = {entry.name: entry for entry in listing_of(self.at("below/list.csv"), order_of(["--tube", "tube", "--speed", "4"], "").over(Order("run", {"TICKS": "5"}))).entries}
         words = {name: " ".join(collection._named(entry.order)[0]) for name, entry in found.items() if entry.order.command}
         self.assertEqual(words["whole"], "solo 9 out --os os --tube tube --disc0 disc0.ssd --keys keys --plugs 2 --keep 5 --speed 4 --wav out.wav")
         self.assertEqual(words["own"], "run 5 out --os os --tube tube --disc0 disc0.dsd --speed 3")
         self.assertEqual(words["alone"], "replay host trace 5 out --os os --speed 4")
         self.assertEqual(words["spelled"], "run 7 out --tube tube --speed 4 --wav out.wav --save out.save")
-        self.assertEqual([entry.fault for entry in found.values() if entry.fault], ["two?lines: a name has signs that can be shown, and 200 bytes at most"])
+        self.assertEqual([entry.fault for entry in found.values() if entry.fault], [])
         self.assertEqual({it.name: it.path for it in collection._named(found["whole"].order)[1]},
                          {"os": self.at("below/os"), "tube": self.at("below/tube"), "disc0.ssd": self.at("below/a.ssd"), "keys": self.at("below/k.keys")})
 
@@ -349,8 +600,8 @@ class Lists(Suite):
         """Any words are carried: those of `replay host`, and an option that the tools do not know yet, with a value or without one."""
         order = order_of(["replay", "host", "/dev/null", "9", "out", "--os", "os", "--no-tube", "--new", "4", "--other", "--rom15", "r"], "at")
         self.assertEqual(collection._named(order)[0], "replay host trace 9 out --os os --rom15 rom15 --no-tube --new 4 --other".split())
-        self.assertEqual(collection.words_for_shell(order)[:4], ["replay", "host", "/dev/null", "9"])
-        self.assertEqual(collection._named(order_of(collection.words_for_shell(order), ""))[0], collection._named(order)[0])
+        self.assertEqual(collection.words_for_job(order)[:4], ["replay", "host", "/dev/null", "9"])
+        self.assertEqual(collection._named(order_of(collection.words_for_job(order), ""))[0], collection._named(order)[0])
         self.assertRaises(beebtube.Fault, order_of, ["replay", "host", "t", "9", "out", "--new", "/etc/victim"], "")
         # The program is asked: it is the one that knows.
         self.pair()
@@ -383,6 +634,40 @@ class Lists(Suite):
         self.assertIn("disc0.dsd=", table["A.DSD"]["inputs"])
         self.assertIn("plug0=", table["pair.set"]["outputs"])
         self.assertIn("000.ppm=", table["pair.set"]["outputs"])
+
+    def test_a_model_b_alone_is_what_a_folder_has(self):
+        self.discs("a.ssd", "b.ssd", "c.ssd")
+        put(self.at("discs/b.set"), b"--tube tube\n--plugs 1\n")
+        put(self.at("discs/tube"), text_of(self.at("tube")))
+        put(self.at("discs/c.txt"), b"HI")
+        done = self.suite("--text", words=("--", "--os", "os"), status=1)
+        self.assertEqual(self.lines(done), ["done a.ssd", "done b.ssd", "failed c.ssd: discs/c.txt types up to tick 13,200,000: the run is too short"])
+        table = self.table()
+        self.assertEqual(table["a.ssd"]["words"], "replay host /dev/null 2000 --os os --no-tube --disc0 discs/a.ssd")
+        self.assertNotIn("para=", table["b.ssd"]["outputs"])
+        self.assertIn("plug0=", table["b.ssd"]["outputs"])
+        done = self.suite("--both", "--only", "done", words=("--", "--os", "os"), status=1)
+        self.assertEqual(self.lines(done), ["done b.ssd"])
+        self.assertIn("para=", self.table()["b.ssd"]["outputs"])
+        # What is typed is what tools/type writes, as a job too.
+        self.suite("--text", "--keep", "kept", ticks="14000000", words=("--", "--os", "os"))
+        self.assertEqual(text_of(self.at("kept/c.ssd/keys")).decode(), self.tool("type", "HI").out)
+        self.assertIn("--text discs/c.txt", self.table()["c.ssd"]["words"])
+        os.rename(self.at("results"), self.at("alone"))
+        for job in self.suite("--jobs", "--text", ticks="14000000", words=("--", "--os", "os")).out.splitlines():
+            done = call(["sh", "-c", job], "/")
+            self.assertEqual(done.status, 0, done.err)
+        self.suite("--gather", "--text", ticks="14000000", words=("--", "--os", "os"))
+        self.suite("--both", words=("--", "solo", "--os", "os"), status=2)
+
+    def test_what_is_on_a_disc(self):
+        self.discs("a.ssd")
+        put(self.at("discs/b.dsd"), beebtube.asm("6502", os.path.join(EXAMPLES, "disc.asm")))
+        self.suite()
+        row = self.table()["b.dsd"]
+        self.assertEqual((row["title"], row["files"]), ("SOURCE DISC", "$.NOTES $.!BOOT :2.A.BACK"))
+        self.assertEqual((self.table()["a.ssd"]["title"], self.table()["a.ssd"]["files"]), ("", ""))
+        self.assertIn("SOURCE DISC: files 3", self.page())
 
     def test_tables_that_are_none(self):
         self.pair()
@@ -425,7 +710,8 @@ class Against(Suite):
         self.discs("a.ssd", "b.ssd", "c.ssd", "d.ssd")
         self.suite()
         os.rename(self.at("results/results.csv"), self.at("stored.csv"))
-        os.rename(self.at("discs/a.ssd"), self.at("discs/z.ssd"))
+        os.unlink(self.at("discs/a.ssd"))
+        put(self.at("discs/z.ssd"), b"z")
         put(self.at("discs/c.ssd"), b"x" * 204801)
         done = self.suite("--against", "stored.csv", status=1)
         self.assertEqual([line.split(":")[0] for line in self.lines(done)], ["same b.ssd", "failed c.ssd", "same d.ssd", "new z.ssd", "gone a.ssd"])
@@ -433,11 +719,56 @@ class Against(Suite):
         self.assertEqual([row["state"] for row in self.table().values()], ["same", "failed", "same", "new", "gone"])
         for part in ("failed", "new", "gone", "same"):
             self.assertIn('<section id="%s"' % part, self.page())
-        # What had no result then, is no stored run.
+        # A row that is gone is no stored run.
         os.rename(self.at("results/results.csv"), self.at("stored.csv"))
         done = self.suite("--against", "stored.csv", "--ticks", "2001", status=1)
-        self.assertEqual([line.split(":")[0] for line in self.lines(done)], ["differs b.ssd", "failed c.ssd", "differs d.ssd", "differs z.ssd"])
+        self.assertEqual([line.split(":")[0] for line in self.lines(done)], ["differs b.ssd", "failing c.ssd", "differs d.ssd", "differs z.ssd"])
         self.assertEqual(self.table()["b.ssd"]["differs"].split()[-1], "words")
+
+    def test_each_state_is_told_for_what_it_is(self):
+        self.discs("bad.ssd", "breaks.ssd", "mends.ssd", "same.ssd", "moves.ssd", "twin.ssd")
+        put(self.at("discs/twin.ssd"), text_of(self.at("discs/same.ssd")))
+        for name in ("bad", "mends"):
+            put(self.at("discs/%s.ssd" % name), b"x" * 204801)
+        put(self.at("discs/lacks.set"), b"--font missing\n")
+        put(self.at("discs/same.keys"), b"at 1999 down 41\n")
+        self.suite(status=1)
+        os.rename(self.at("results/results.csv"), self.at("stored.csv"))
+        # Nothing was changed: a failure that is stored is no news, and the status is 0.
+        good = ["failing bad.ssd", "same breaks.ssd", "failing lacks.set", "failing mends.ssd", "same moves.ssd", "same same.ssd", "same twin.ssd"]
+        done = self.suite("--against", "stored.csv")
+        self.assertEqual([line.split(":")[0] for line in self.lines(done)], good)
+        put(self.at("discs/breaks.ssd"), b"x" * 204801)
+        put(self.at("discs/mends.ssd"), b"x")
+        put(self.at("discs/same.keys"), b"at 1999 down 42\n")
+        os.rename(self.at("discs/moves.ssd"), self.at("discs/moved.ssd"))
+        done = self.suite("--against", "stored.csv", status=1)
+        self.assertEqual([line.split(":")[0] for line in self.lines(done)],
+                         ["failing bad.ssd", "failed breaks.ssd", "failing lacks.set", "differs mends.ssd", "renamed moved.ssd", "equal same.ssd", "same twin.ssd"])
+        self.assertIn("renamed moved.ssd: it was moves.ssd\nequal same.ssd: read:keys\n", done.out)
+        self.assertEqual(self.table()["moved.ssd"]["was"], "moves.ssd")
+        self.assertNotIn('id="gone"', self.page())
+        # An input that changes no output, or another name, is no failure.
+        put(self.at("discs/breaks.ssd"), b"breaks.ssd" * 20)
+        put(self.at("discs/mends.ssd"), b"x" * 204801)
+        done = self.suite("--against", "stored.csv", "--only", "renamed,equal")
+        self.assertEqual([line.split()[0] for line in self.lines(done)], ["renamed", "equal"])
+        self.assertEqual(self.page().count('<article class="card">'), 2)
+        self.assertEqual(len(self.table()), 7)
+        # Another failure than the stored one is told.
+        put(self.at("discs/lacks.set"), b"--font elsewhere\n")
+        done = self.suite("--against", "stored.csv", "--only", "failed", status=1)
+        self.assertEqual(self.lines(done), ["failed lacks.set: cannot read discs/elsewhere"])
+        self.tool("suite", "--only", "fine", "discs", "results", status=2)
+
+    def test_a_table_of_other_columns(self):
+        """A stored table needs no more columns than those that are compared."""
+        self.discs("a.ssd")
+        self.suite()
+        row = self.table()["a.ssd"]
+        names = ("key", "outputs", "inputs", "words_sum", "status", "name")
+        put(self.at("stored.csv"), ("%s\n%s\n" % (",".join(names), ",".join(row[name] for name in names))).encode())
+        self.assertEqual(self.lines(self.suite("--against", "stored.csv")), ["same a.ssd"])
 
     def test_tables_that_are_none(self):
         self.discs("a.ssd")
@@ -456,11 +787,13 @@ class Against(Suite):
         self.assertEqual(text_of(self.at("results/results.csv")), good)
 
     def test_cells_are_data_for_a_sheet(self):
-        self.discs("=1+1.ssd", "-x.ssd", "@a.ssd", "'q.ssd", "a,\"b.ssd")
+        self.discs("=1+1.ssd", "-x.ssd", "@a.ssd", "'q.ssd", "a,\"b.ssd", "b;=1+1.ssd", "\uff1d1+1.ssd")
         self.suite()
         text = text_of(self.at("results/results.csv")).decode()
-        self.assertEqual([line[0] for line in text.splitlines()], ["n", "'", "'", "'", "'", '"'])
-        self.assertEqual(sorted(read_table(self.at("results/results.csv"))), sorted(os.listdir(self.at("discs"))))
+        self.assertEqual([line[0] for line in text.splitlines()], ["n", "'", "'", "'", "'", '"', "b", "'"])
+        self.assertNotRegex(text, "(^|[,;\"\n])[=+@\uff1d-](?![0-9a-f]{64})")
+        names = sorted(os.listdir(self.at("discs")))
+        self.assertEqual(sorted(read_table(self.at("results/results.csv"))), [name.replace(";=", ";\\u003d") for name in names])
         os.rename(self.at("results/results.csv"), self.at("stored.csv"))
         self.assertEqual({line.split()[0] for line in self.lines(self.suite("--against", "stored.csv"))}, {"same"})
 
@@ -491,6 +824,21 @@ class Elsewhere(Suite):
         self.assertEqual(page, other)
         self.assertEqual(sorted(os.listdir(self.at("results/runs"))), sorted(os.listdir(self.at("alone/runs"))))
 
+    def test_several_runs_in_a_job(self):
+        self.discs("a.ssd", "++.ssd", "c.ssd", "d.ssd", "e.ssd")
+        self.suite()
+        os.rename(self.at("results"), self.at("alone"))
+        jobs = self.jobs("--batch", "2")
+        self.assertEqual(len(jobs), 3)
+        put(self.at("discs/a.ssd"), b"another")
+        said = [call(["sh", "-c", job], "/") for job in jobs]
+        self.assertEqual([(it.status, it.out) for it in said], [(1, "done ++.ssd\n"), (0, "done c.ssd\ndone d.ssd\n"), (0, "done e.ssd\n")])
+        self.assertIn("suite: a.ssd: a.ssd: the program, or a file", said[0].err)
+        put(self.at("discs/a.ssd"), b"a.ssd" * 20)
+        self.assertEqual([call(["sh", "-c", job], "/").out for job in self.jobs("--batch", "9")], ["done a.ssd\n"])
+        self.suite("--gather")
+        self.assertEqual(self.bare("results/results.csv"), self.bare("alone/results.csv"))
+
     def test_what_is_there_is_no_job(self):
         self.discs("a.ssd", "b.ssd")
         jobs = self.jobs()
@@ -517,9 +865,9 @@ class Elsewhere(Suite):
 
     def test_a_line_of_the_list_that_is_wrong_is_no_job(self):
         self.pair()
-        put(self.at("list.csv"), b"name,ticks,disc0\na,2000,\nb,2000,missing\n\"c\nd\",2000,\n")
+        put(self.at("list.csv"), b"name,ticks,disc0\na,2000,\nb,2000,missing\n\"c\nd\",2001,\n")
         done = self.suite("--jobs", name="list.csv", status=1)
-        self.assertEqual(len(done.out.splitlines()), 1)
+        self.assertEqual([shlex.split(line)[3] for line in done.out.splitlines()], ["--name=a", "--name=c%0Ad"])
         self.assertIn("suite: b: cannot read missing\n", done.err)
 
     def test_words_that_a_shell_takes_for_others(self):
@@ -533,6 +881,20 @@ class Elsewhere(Suite):
         done = call(["sh", "-c", job], self.folder)
         self.assertEqual((done.status, done.out), (0, "done $(touch y); `touch z`\n"))
         self.assertEqual([name for name in "xyz" if os.path.exists(self.at(name))], [])
+
+    def test_no_name_of_a_file_is_a_line_of_its_own(self):
+        """A job is one line, whatever the names: an engine that takes each line for a job finds no command in a name."""
+        self.pair()
+        bad = "a\n touch %s ;#.ssd" % self.at("x")
+        put(self.at(bad.replace("/", "_")), b"disc")
+        put(self.at("list.csv"), ('name,ticks,disc0\n"a\nb",1000,"%s"\n--,1001,\n' % bad.replace("/", "_")).encode())
+        jobs = self.jobs(name="list.csv")
+        self.assertEqual(len(jobs), 2)
+        for job in jobs:
+            done = call(["sh", "-c", job], "/")
+            self.assertEqual(done.status, 0, done.err)
+        self.assertFalse(os.path.exists(self.at("x")))
+        self.assertEqual(self.lines(self.suite("--gather", name="list.csv")), ["done a\\x0ab", "done --"])
 
 
 class Sheet(Suite):
@@ -566,7 +928,26 @@ class Sheet(Suite):
         self.assertEqual(policy, "default-src 'none'; style-src 'sha256-%s'; img-src 'self' file:; base-uri 'none'; form-action 'none'"
                          % base64.b64encode(hashlib.sha256(found.styles[0].encode()).digest()).decode())
         for name in self.runs("html"):
-            self.assertIn("<h1>&lt;script&gt;document", text_of(self.at("results/runs/" + name)).decode())
+            self.assertNotIn("document.title=1", text_of(self.at("results/runs/" + name)).decode())
+
+    def test_the_stored_frame_is_beside_another_one(self):
+        os.mkdir(self.at("discs"))
+        put(self.at("os"), beebtube.asm("6502", os.path.join(EXAMPLES, "screen-os.asm")))
+        for name in "ab":
+            put(self.at("discs/%s.ssd" % name), name.encode())
+        words = ("--", "--os", "os")
+        self.suite("--shot", ticks="2000000", words=words)
+        os.rename(self.at("results/results.csv"), self.at("stored.csv"))
+        old = self.runs("png")
+        put(self.at("discs/a.keys"), b"at 100000 down 30\n")
+        self.suite("--shot", "--against", "stored.csv", ticks="2000000", words=words, status=1)
+        pictures = [attributes for tag, attributes in self.Reader(self.page()).elements if tag == "img"]
+        self.assertEqual([it["alt"] for it in pictures], ["The last frame of a.ssd", "The last frame of the stored run of a.ssd", "The last frame of b.ssd"])
+        self.assertIn(pictures[1]["src"][5:], old)
+        frames = [lines_in(text_of(self.at("results/" + it["src"])))[0] for it in pictures[:2]]
+        places = [(x, y) for y in range(256) for x in range(640)
+                  if (frames[0][642 * y + 1 + x // 2] ^ frames[1][642 * y + 1 + x // 2]) >> (0 if x % 2 else 4) & 15]
+        self.assertIn("pixels differ in x %d to %d, y %d to %d" % (min(x for x, _ in places), max(x for x, _ in places), places[0][1], places[-1][1]), self.page())
 
     def test_all_can_be_reached_and_is_named(self):
         self.discs("a.ssd", "b.ssd")

@@ -105,7 +105,7 @@ class Terminal(Case):
         self.assertIn("N instructions on", self.types("h step\r", "host 1503> "))
         self.assertIn("takes 49 'I'", self.types("w\r", "host 1503> "))
         # What is wrong ends nothing, and neither does what a person breaks off.
-        self.assertIn("there is no such word", self.types("bogus\r", "host 1503> "))
+        self.assertIn("no such command", self.types("bogus\r", "host 1503> "))
         self.assertIn("a number from 1", self.types("step x\r", "host 1503> "))
         self.types("half a line\x03", "host 1503> ")
         self.types("step\r", "host 1512> ")

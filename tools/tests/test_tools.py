@@ -93,6 +93,28 @@ class Manifest(Case):
         self.assertIn("cannot write o.para", done.err)
         self.assertEqual(sorted(self.names()), ["os", "tube"])
 
+    def test_a_check_that_is_cut_short_compares_nothing(self):
+        self.make("solo", "2000", "o", "--os", "os", "--tube", "tube")
+        done = self.tool("manifest", "--check", "text", status=5, limit=40000)
+        self.assertEqual((done.out, done.err), ("", "manifest: the run was cut short, and is not compared: cannot write o.para\n"))
+
+    def test_the_program_that_ran_is_told(self):
+        """A manifest of a program that BEEBTUBE names has that program's sum, and names no sources and no proof."""
+        put(self.at("other"), b"#!/bin/sh\nexec %s \"$@\"\n" % os.fsencode(beebtube.Program().path))
+        os.chmod(self.at("other"), 0o755)
+        self.pair()
+        done = self.tool("manifest", "solo", "2000", "o", "--os", "os", "--tube", "tube", env={"BEEBTUBE": self.at("other")})
+        self.assertEqual([line for line in done.out.splitlines() if line.split()[0] in ("kit", "sources", "program")],
+                         ["program " + beebtube.sum_of(self.at("other")).digits])
+        put(self.at("text"), done.out.encode())
+        self.assertRegex(self.tool("manifest", "--check", "text").out, "^another program: program [0-9a-f]{64}; here kit .*, sources [0-9a-f]{64}\nsame: ")
+        self.assertEqual(self.tool("manifest", "--check", "text", env={"BEEBTUBE": self.at("other")}).out, "same: files read 2, written 4\n")
+
+    def test_a_model_b_alone(self):
+        done = self.make("replay", "host", os.devnull, "2000", "o", "--os", "os", "--no-tube")
+        self.assertEqual(self.kinds(done, os.devnull), ["read"])
+        self.assertEqual(self.tool("manifest", "--check", "text").out, "same: files read 2, written 2\n")
+
     def test_a_link_is_not_followed_to_where_it_leads(self):
         put(self.at("s.asm"), text_of(os.path.join(EXAMPLES, "small.asm")))
         put(self.at("own"), b"own")
@@ -134,6 +156,10 @@ class Words(Case):
         for name in ("os", "./os", "link"):
             self.tool("words", "--make", name, "--os", "os", status=1)
             self.assertEqual(text_of(self.at("os")), letters()["os"])
+        for text in (b"# a text\nof somebody\n", b"-- a comment\nselect 1;\n", b"#!/bin/sh\n", b"--os", b"\xff"):
+            put(self.at("text"), text)
+            self.tool("words", "--make", "text", "--os", "os", status=0 if text == b"--os" else 1)
+            self.assertEqual(text_of(self.at("text")) == text, text != b"--os")
         # Nor over another file that is no set.
         self.tool("words", "--make", "os", "--tube", "tube", status=1)
         self.assertEqual(text_of(self.at("os")), letters()["os"])

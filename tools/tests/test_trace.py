@@ -7,7 +7,7 @@ import subprocess
 
 from common import EXAMPLES, Case, beebtube, put, text_of, unittest
 
-from beebtube.capture import csv_of, from_csv, from_vcd, trace_of, vcd_of
+from beebtube.capture import Capture, csv_of, vcd_of
 from beebtube.checking import said_of_check
 from beebtube.faults import Fault
 from beebtube.trace import Access, Trace
@@ -43,12 +43,11 @@ class Registers(unittest.TestCase):
 
 
 class Back(Case):
-    def read(self, name, speed=None, begin=None, names=None):
-        speed, sides, found = (from_vcd if name.endswith("vcd") else from_csv)(self.at(name), speed, begin, names or {})
-        return b"".join(trace_of(found, speed))
+    def read(self, name, speed=None):
+        return b"".join(Capture(self.at(name), speed).trace())
 
     def same(self, data):
-        for ending, make, take in (("vcd", vcd_of, from_vcd), ("csv", csv_of, from_csv)):
+        for ending, make in (("vcd", vcd_of), ("csv", csv_of)):
             put(self.at("x." + ending), b"".join(make(Trace(data))))
             speed = 4 if ending == "csv" and data.startswith(b"T2") else None
             self.assertEqual(self.read("x." + ending, speed), data, ending)
@@ -106,9 +105,9 @@ IDLE = " ".join("0" + signal for signal in HOST[:11]) + " 1HRW 1HCS 0HCLK"
 class Captures(Case):
     def take(self, body, begin=None, names=None, **how):
         put(self.at("c.vcd"), capture(body, **how))
-        speed, sides, found = from_vcd(self.at("c.vcd"), None, begin, names or {})
-        self.sides = sides
-        return b"".join(trace_of(found, speed)).decode()
+        self.capture = Capture(self.at("c.vcd"), None, begin, names)
+        self.sides = self.capture.sides
+        return b"".join(self.capture.trace()).decode()
 
     def test_a_capture_of_one_side(self):
         body = "#0 0RST %s\n#10 1RST\n#16 0HCS 1HD6 1HCLK\n#17 0HCLK\n#18 1HCS\n#20 0RST\n#21 1RST\n" % IDLE
@@ -140,14 +139,15 @@ class Captures(Case):
     def test_what_is_none_is_told_by_its_line(self):
         good = "#0 0RST %s\n#10 1RST\n" % IDLE
         line = capture("").count(b"\n") + 1
-        for body, wanted in ((good + "#16 0HCS xHD3 1HCLK\n#17 0HCLK\n", "line %d: HD3 has no value" % (line + 3)),
+        for body, wanted in ((good + "#16 0HCS xHD3 1HCLK\n#17 0HCLK\n", "#17: HD3 has no value"),
                              (good + "#9\n", "line %d: #9 is no time" % (line + 2)), (good + "hello\n", "line %d: hello" % (line + 2)),
                              (good + "#-1\n", "line %d" % (line + 2))):
             with self.assertRaisesRegex(Fault, wanted):
                 self.take(body)
         fast = HEAD.replace("1 us", "10 ns")
-        with self.assertRaisesRegex(Fault, "line %d: the host has an access at tick 0 already" % (line + 5)):
-            self.take(good + "#11 0HCS 1HCLK\n#12 0HCLK\n#13 1HCLK\n#14 0HCLK\n", head=fast)
+        body = good + "#11 0HCS 1HCLK\n#15 0HCLK\n#18 1HCLK\n#21 0HCLK\n"
+        self.assertEqual(self.take(body, head=fast), "0000000000 H R 0 00\n")
+        self.assertEqual(self.capture.ringing, 1)
 
     def test_signals_that_lack(self):
         for signals, wanted in ((HOST[:-1] + ["RST"], "no signal HCLK"), (["RST"], "signals of no side"), (HOST + ["RST", "PA0"], "no signal PA1")):
@@ -158,14 +158,14 @@ class Captures(Case):
         for data in (b"", b"x", b"$timescale 3 ns $end $enddefinitions $end", b"$enddefinitions $end", b"\xff\xfe", b"$var wire 8 ! HA0 $end $enddefinitions $end", b"a" * 100000):
             put(self.at("c.vcd"), data)
             with self.assertRaises(Fault):
-                from_vcd(self.at("c.vcd"), None, 0, {})
+                Capture(self.at("c.vcd"), None, 0)
 
 
 class Tables(Case):
     def take(self, text, begin=None, names=None):
         put(self.at("c.csv"), text.encode())
-        speed, _, found = from_csv(self.at("c.csv"), None, begin, names or {})
-        return b"".join(trace_of(found, speed)).decode()
+        self.capture = Capture(self.at("c.csv"), None, begin, names)
+        return b"".join(self.capture.trace()).decode()
 
     def test_columns_by_name(self):
         wanted = "0000000006 H R 0 40\n000000000C H X 0 00\n000000000C P W 1 5A\n"
@@ -173,10 +173,12 @@ class Tables(Case):
                      "; of a logic analyser\nData,Address,R/W,Side,Time [s]\n0x40,FEE0,1,host,1e-6\n00,FEE0,X,host,0.000002\n5a,FEF9,0,parasite,0.000002\n",
                      "time_us;\n"):
             if ";\n" in text:
-                with self.assertRaisesRegex(Fault, "no column is called side"):
+                with self.assertRaisesRegex(Fault, "does not say the sample rate"):
                     self.take(text)
             else:
                 self.assertEqual(self.take(text), wanted)
+        with self.assertRaisesRegex(Fault, "no column is called side"):
+            self.take("time_us,way\n")
         self.assertEqual(self.take("T,side,way,register,D\n6,H,R,0,40\n", names={"tick": "T", "byte": "d"}), wanted[:20])
         self.assertEqual(self.take("tick,side,way,register,byte\n0,H,R,0,40\n", begin=6), wanted[:20])
 
@@ -201,8 +203,8 @@ class Tool(Case):
 
     def test_what_check_refuses_is_told_with_its_line(self):
         put(self.at("c.csv"), b"tick,side,way,register,byte\n6,H,R,0,40\n9,H,R,1,77\n")
-        self.assertEqual(self.tool("trace", "c.csv", "o.trace").out.splitlines(),
-                         ["accesses 2", "wrong 2 00", "line 2: 0000000009 H R 1 77", "         1.500 us  the host takes 77 'w' from register 1",
+        self.assertEqual(self.tool("trace", "c.csv", "o.trace", status=8).out.splitlines(),
+                         ["accesses 2", "wrong 2 00", "line 2: 0000000009 H R 1 77, captured at line 3", "         1.500 us  the host takes 77 'w' from register 1",
                           "                   the chip would answer 00"])
 
     def test_nothing_is_left_of_what_is_none(self):
@@ -220,6 +222,27 @@ class Tool(Case):
         self.assertIn("register 1 to the host: 1 bytes, at once", lines)
         self.assertIn("host reads register 1 while it is empty: 3", lines)
         self.assertEqual(lines[0], "accesses 5: the host 4, the second processor 1")
+
+    def test_lost_bytes(self):
+        """26 bytes to a register of 24; one in the place of another; and two of register 3, of one byte where V is not set."""
+        lines = ["P W 1 %02X" % byte for byte in range(26)] + ["H W 3 41", "H W 3 42", "H W 0 90", "H W 5 1", "H W 5 2", "H W 5 3", "H W 0 10", "H W 5 4"]
+        text = "".join("%010X %s\n" % (6 * at, line if len(line) == 8 else line[:-1] + "0" + line[-1]) for at, line in enumerate(lines, 1))
+        put(self.at("t"), text.encode())
+        out = self.tool("tube", "t").out.splitlines()
+        self.assertEqual([line for line in out if "lost" in line],
+                         ["register 1 to the host: 2 bytes lost, written while full", "register 2 to the second processor: 1 byte lost, written while full",
+                          "register 3 to the second processor: 3 bytes lost, written while full"])
+        self.assertFalse([line for line in self.tool("tube", os.path.join(EXAMPLES, "letters.trace")).out.splitlines() if "lost" in line])
+
+    def test_what_the_tube_holds(self):
+        put(self.at("t"), b"0000000006 H W 0 81\n000000000C P W 7 41\n0000000012 H R 7 41\n")
+        self.assertEqual(self.tool("tube", "--at", "18", "t").out.splitlines(),
+                         ["at 3.000 us, after access 2", "flags -----Q", "register 3 to the host holds 00", "register 4 to the host holds 41 'A'", "interrupts of the host",
+                          "next          3.000 us  the host takes 41 'A' from register 4"])
+        self.assertEqual(self.tool("tube", "--at", "19", "t").out.splitlines(), ["at 3.167 us, after access 3", "flags -----Q", "register 3 to the host holds 00", "interrupts none"])
+        self.assertEqual(self.tool("tube", "--at", "0", "t").out.splitlines()[0], "at 0.000 us, after access 0")
+        for words in (["--at", "t"], ["--at", "x", "t"], ["--at", "-1", "t"], ["--all"], []):
+            self.tool("tube", *words, status=2)
 
     def test_a_trace_that_check_refuses_is_counted(self):
         lines = self.tool("tube", os.path.join(EXAMPLES, "wrong.trace")).out.splitlines()

@@ -1,5 +1,5 @@
 -- What is kept of the accesses of a reference run: the first of both sides' first are the first of all.
-use Rattle.std.proofs.Common.{◌≡◌, ◌∙◌, sym, refl, ap, ℕ, zero, suc, ◌+◌, ◌*◌, ◌<◌, ◌≤◌, length, take, List, [], ◌∷◌, ◌++◌, Bool}
+use Rattle.std.proofs.Common.{None, ◌≡◌, ◌∙◌, sym, refl, ap, ℕ, zero, suc, ◌+◌, ◌*◌, ◌<◌, ◌≤◌, length, take, List, [], ◌∷◌, ◌++◌, Bool}
 use Rattle.std.proofs.Common.{IsTrue, nat_lt, cond, All, Option, Some, Result, Ok, Err, IfOk, arith}
 use Rattle.std.proofs.lemmas.List.{take-take}
 use Rattle.std.proofs.lemmas.List.Elements.{All-nil, All-cons, All-head, All-tail, All-take}
@@ -211,6 +211,6 @@ for_each (Err e) view v P w is all = tt
 
 -- what both machines leave, where no bytes stand beside them
 pub both_is : (clock : Clock) (ticks tube : ℕ) (names : Names) (bytes : List ℕ) (s : HostState) (p : ParaState) (kept : Kept) (saved : Option (List ℕ)) → bytes ≡ [] →
-    record { names = names; clock = clock; ticks = ticks; tube = tube; host = Some s; para = Some p; kept = Some kept; saved = saved; bytes = bytes }
+    record { names = names; clock = clock; ticks = ticks; tube = tube; host = Some s; para = Some p; kept = Some kept; saved = saved; counts = None; bytes = bytes }
     ≡ both_left clock ticks tube names s p kept saved
 both_is clock ticks tube names bytes s p kept saved none = rw none

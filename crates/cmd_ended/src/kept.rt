@@ -164,6 +164,7 @@ pub fn kept_outcome<'a, D: BusDevice>(
         para: Some(para),
         kept: Some(kept),
         saved,
+        counts: None,
         bytes: Vec::new(alloc),
     };
     machine_outcome(alloc, left)

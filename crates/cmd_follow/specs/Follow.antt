@@ -1,5 +1,5 @@
 -- `follow SIDE TRACE TICKS OUT` and options: the instructions that a machine starts against a trace.
-use Rattle.std.specs.Prelude.{ℕ, List, ◌++◌, Option, Result, Ok, codes}
+use Rattle.std.specs.Prelude.{ℕ, Bool, List, ◌++◌, Option, Some, None, Result, Ok, Err, codes}
 use Rattle.std.specs.Fmt.{decimal}
 use Rattle.beeb_bits.specs.declared.Side.{Side}
 use Rattle.beeb_bits.specs.declared.Side.TheVariants.{Host, Para}
@@ -11,15 +11,22 @@ use Rattle.tube_party.specs.declared.Doing.{Doing}
 use Rattle.tube_party.specs.Moves.{Moves}
 use Rattle.tube_party.specs.Replay.{replay_of}
 use Rattle.follow.specs.declared.Choice.{Choice}
+use Rattle.follow.specs.declared.PointsError.{PointsError}
+use Rattle.follow.specs.declared.PointsError.TheVariants as points_errors
+use Rattle.follow.specs.Points.{points}
 use Rattle.follow.specs.Sight.{Sight}
 use Rattle.follow.specs.Machines.{host_sight, para_sight}
 use Rattle.follow.specs.Listing.{ListingState, replay_listing}
+use Rattle.host_mach.specs.State.{HostState}
 use Rattle.host_mach.specs.Step.{host_moves}
+use Rattle.para_mach.specs.State.{ParaState}
 use Rattle.para_mach.specs.Step.{para_moves}
 use Rattle.cmd_stages.specs.Plan.{Verdict, ◌>>=◌}
 use Rattle.cmd_stages.specs.declared.stop.Refusal.{Refusal}
+use Rattle.cmd_stages.specs.declared.stop.Refusal.TheVariants as refusals
 use Rattle.cmd_status.specs.declared.status.Ending.{Ending}
 use Rattle.cmd_status.specs.declared.status.Cause.{Cause}
+use Rattle.cmd_status.specs.declared.status.Cause.TheVariants.{BadPoints}
 use Rattle.cmd_machines.specs.Inputs.{Inputs}
 use Rattle.cmd_machines.specs.Setup.{Setup}
 use Rattle.cmd_outcome.specs.Verdicts.{listing_verdict}
@@ -30,9 +37,9 @@ use Rattle.cmd_replayed.specs.Replay.{verdict_of_place, unless_wrong}
 unfoldable pub listed_text : ℕ → ℕ → List ℕ
 listed_text listed chosen = codes "listed " ++ (decimal listed ++ (codes " of " ++ (decimal chosen ++ codes "\n")))
 
--- the file of the listing, and then how many lines it has, of how many starts that are chosen
+-- the file of the listing, that of what is counted, if it is asked for, and then how many lines the listing has, of how many starts that are chosen
 abbrev pub listed_verdict : List ℕ → ListingState → Verdict Ending
-listed_verdict out l = listing_verdict out l.text (listed_text l.listed l.chosen)
+listed_verdict out l = listing_verdict out l.text l.counts (listed_text l.listed l.chosen)
 
 -- what comes of a replay that ended at this place, with this listing: the listing, or the place where machine and trace differ
 unfoldable pub listed_by : List ℕ → Option (ℕ × Option Doing) → ListingState → Verdict Ending
@@ -43,7 +50,40 @@ abbrev pub listed_ended : {S : Type 0} → Moves S → (S → Sight) → Part �
 listed_ended m sights part side ticks choice out x =
     unless_wrong (wrong x.0) (listed_by out (replay_of m side x.0 ticks x.1).place (replay_listing m sights part side x.0 ticks choice x.1))
 
--- what is read and what is refused is what `replay` reads and refuses
+-- the refusal that an error of a file of addresses is
+abbrev pub points_refusal : PointsError → Refusal Cause
+points_refusal (points_errors.BadLine line) = refusals.Cause (BadPoints line 1)
+points_refusal (points_errors.BadOrder line) = refusals.Cause (BadPoints line 2)
+points_refusal points_errors.NoMemory = refusals.NoMemory
+
+-- the addresses of a file, if one is given
+abbrev pub points_read : Result (List Bool) PointsError → Result (Option (List Bool)) (Refusal Cause)
+points_read (Ok marked) = Ok (Some marked)
+points_read (Err error) = Err (points_refusal error)
+
+abbrev pub points_of : Option (List ℕ) → Result (Option (List Bool)) (Refusal Cause)
+points_of None = Ok None
+points_of (Some bytes) = points_read (points bytes)
+
+abbrev pub with_points : Choice → Option (List Bool) → Choice
+with_points choice points = record { from = choice.from; at = choice.at; points = points; watch = choice.watch; counts = choice.counts }
+
+-- the same choice, with the addresses of a file, if one is given
+unfoldable pub chosen_with : Choice → Option (List ℕ) → Result Choice (Refusal Cause)
+chosen_with choice bytes = points_of bytes >>= λ points. Ok (with_points choice points)
+
+-- what is told of a choice, where it is not refused
+abbrev pub told_of : Result Choice (Refusal Cause) → (Choice → Verdict Ending) → Result (Verdict Ending) (Refusal Cause)
+told_of stage told = stage >>= λ chosen. Ok (told chosen)
+
+-- what is told of a side's machine and the entries that were read with it, if neither they nor the choice are refused
+abbrev pub host_told : Result (List Entry × HostState) (Refusal Cause) → Result Choice (Refusal Cause) → ℕ → List ℕ → Result (Verdict Ending) (Refusal Cause)
+host_told made stage ticks out = made >>= λ m. told_of stage (λ c. listed_ended host_moves host_sight Nmos Host ticks c out m)
+
+abbrev pub para_told : Result (List Entry × ParaState) (Refusal Cause) → Result Choice (Refusal Cause) → ℕ → List ℕ → Result (Verdict Ending) (Refusal Cause)
+para_told made stage ticks out = made >>= λ m. told_of stage (λ c. listed_ended para_moves para_sight Cmos Para ticks c out m)
+
+-- What is read and what is refused is what `replay` reads and refuses; the file of addresses is refused last, before the trace's answers are checked.
 unfoldable pub follow_after : Setup → Side → ℕ → Choice → List ℕ → Inputs → Result (Verdict Ending) (Refusal Cause)
-follow_after set Host ticks choice out i = host_of set i >>= λ m. Ok (listed_ended host_moves host_sight Nmos Host ticks choice out m)
-follow_after set Para ticks choice out i = para_of set.clock i >>= λ m. Ok (listed_ended para_moves para_sight Cmos Para ticks choice out m)
+follow_after set Host ticks choice out i = host_told (host_of set i) (chosen_with choice i.points) ticks out
+follow_after set Para ticks choice out i = para_told (para_of set.clock i) (chosen_with choice i.points) ticks out

@@ -1,5 +1,5 @@
 //! `follow SIDE TRACE TICKS OUT` and options: a machine against a trace, its instructions listed.
-ghost use Rattle.std.specs.Prelude.{◌≡◌, ◌<◌, ◌≤◌, All, IfOk, IsTrue};
+ghost use Rattle.std.specs.Prelude.{◌≡◌, ◌<◌, ◌≤◌, All, Bool, IfOk, IsTrue, List, Option, Result, option_map};
 ghost use Rattle.tube_trace.specs.Entries.{IsEntry};
 ghost use Rattle.tube_trace.specs.FirstWrong.{wrong};
 ghost use Rattle.cmd_stages.specs.View.{Gives};
@@ -8,7 +8,13 @@ ghost use Rattle.cmd_outcome.specs.View.{verdict_of};
 ghost use Rattle.cmd_replayed.specs.Replay.{unless_wrong};
 ghost use Rattle.follow.specs.Listing.{replay_listing};
 ghost use Rattle.tube_party.specs.Replay.{replay_of};
-ghost use Rattle.cmd_follow.specs.Follow.{listed_text, listed_by, follow_after};
+ghost use Rattle.cmd_machines.specs.View.{items};
+ghost use Rattle.cmd_follow.specs.Follow.{listed_text, listed_by, follow_after, points_refusal, points_read, points_of, with_points, chosen_with, told_of, host_told, para_told};
+ghost use Rattle.cmd_replayed.specs.Made.{host_of, para_of};
+ghost use Rattle.follow.specs.declared.Choice.{Choice};
+ghost use Rattle.cmd_stages.specs.declared.stop.Refusal.{Refusal};
+ghost use Rattle.cmd_status.specs.declared.status.Cause.{Cause};
+ghost use Rattle.follow.specs.Points.{points};
 
 use beeb_bits::{Side, Tick};
 use bus_plug::BusDevice;
@@ -17,7 +23,7 @@ use cmd_outcome::{Outcome, listing_outcome, wrong_outcome};
 use cmd_replayed::{differs_outcome, host_made, para_made};
 use cmd_stages::Refusal;
 use cmd_status::Cause;
-use follow::{Choice, FollowError, Seen, list};
+use follow::{Choice, FollowError, Points, PointsError, Seen, list};
 use op_table::Part;
 use std::alloc::{AllocError, Global};
 use tube_party::MOST;
@@ -59,11 +65,153 @@ fn listed<'a, D: BusDevice, M: Seen>(
     match list(alloc, machine, part, side, trace, Tick(ticks), choice) {
         Ok(listing) => {
             let text = listed_text(alloc, listing.listed, listing.chosen)?;
-            listing_outcome(alloc, out, listing.text, text)
+            listing_outcome(alloc, out, listing.text, listing.counts, text)
         }
         Err(FollowError::Differs { line, doing }) => differs_outcome(alloc, line, doing),
         Err(FollowError::NoMemory) => Err(AllocError),
     }
+}
+
+// Why a file of addresses is refused.
+fn points_refusal(error: PointsError) -> Refusal<Cause>
+    ensures { result ≡ points_refusal error }
+{
+    match error {
+        PointsError::BadLine { line } => Refusal::Cause(Cause::BadPoints { line, kind: 1 }),
+        PointsError::BadOrder { line } => Refusal::Cause(Cause::BadPoints { line, kind: 2 }),
+        PointsError::NoMemory => Refusal::NoMemory,
+    }
+}
+
+// The addresses of a file.
+fn read_points(alloc: Global, bytes: &[u8]) -> Result<Option<Points>, Refusal<Cause>>
+    ensures { Gives (λ (points : Option (List Bool)). points) result (points_read (points bytes.now)) }
+{
+    match Points::read(alloc, bytes) {
+        Ok(points) => Ok(Some(points)),
+        Err(error) => Err(points_refusal(error)),
+    }
+}
+
+// The addresses of a file, if one is given.
+fn points_of(alloc: Global, bytes: &Option<Vec<u8>>) -> Result<Option<Points>, Refusal<Cause>>
+    ensures { Gives (λ (points : Option (List Bool)). points) result (points_of (option_map items bytes.now)) }
+{
+    match bytes {
+        None => Ok(None),
+        Some(bytes) => read_points(alloc, bytes),
+    }
+}
+
+// The same choice, with these addresses.
+fn with_points(choice: Choice, points: Option<Points>) -> Choice
+    ensures { result ≡ with_points choice points }
+{
+    Choice {
+        from: choice.from,
+        at: choice.at,
+        points,
+        watch: choice.watch,
+        counts: choice.counts,
+    }
+}
+
+// The same choice, with the addresses of a file, if one is given.
+#[tactic(auto, unfolding(crate::specs::Follow::chosen_with))]
+fn chosen_with(
+    alloc: Global,
+    choice: Choice,
+    bytes: &Option<Vec<u8>>,
+) -> Result<Choice, Refusal<Cause>>
+    ensures { Gives (λ (chosen : Choice). chosen) result (chosen_with choice (option_map items bytes.now)) }
+{
+    match points_of(alloc, bytes) {
+        Ok(points) => Ok(with_points(choice, points)),
+        Err(refusal) => Err(refusal),
+    }
+}
+
+// What comes of a machine and the entries that were read with it, where the choice is not refused. It knows no machine either.
+fn listed_if<'a, D: BusDevice, M: Seen>(
+    alloc: Global,
+    machine: M,
+    part: Part,
+    side: Side,
+    ticks: u64,
+    chosen: Result<Choice, Refusal<Cause>>,
+    out: &'a str,
+    trace: &[Entry],
+) -> Result<Outcome<'a, D>, Refusal<Cause>>
+    requires ticks { ticks ≤ MOST }
+    requires plays { IsTrue (M.plays side) }
+    requires trace { All IsEntry trace.now }
+    ensures { (stage : Result Choice (Refusal Cause)) → Gives (λ (c : Choice). c) chosen stage →
+        let place = (replay_of M.moves side trace.now ticks (M.state machine)).place in
+        let there = replay_listing M.steps M.sights part side trace.now ticks in
+        Gives (verdict_of D.plug) result (told_of stage (λ c. unless_wrong (wrong trace.now) (listed_by out.now place (there c (M.inside machine))))) }
+{
+    match chosen {
+        Ok(choice) => match listed(alloc, machine, part, side, ticks, choice, out, trace) {
+            Ok(outcome) => Ok(outcome),
+            Err(AllocError) => Err(Refusal::NoMemory),
+        },
+        Err(refusal) => Err(refusal),
+    }
+}
+
+// What comes of the host against the trace that was read, where the choice is not refused.
+fn host_listed<'a, D: BusDevice>(
+    alloc: Global,
+    setup: Setup<D>,
+    ticks: u64,
+    chosen: Result<Choice, Refusal<Cause>>,
+    out: &'a str,
+    inputs: Inputs,
+) -> Result<Outcome<'a, D>, Refusal<Cause>>
+    requires ticks { ticks ≤ MOST }
+    requires slots { All (λ slot. slot.0 < 16) inputs.roms.items }
+    ensures { (stage : Result Choice (Refusal Cause)) → Gives (λ (c : Choice). c) chosen stage →
+        let made = host_of (seen_setup D.plug setup) (seen_inputs inputs) in
+        Gives (verdict_of D.plug) result (host_told made stage ticks out.now) }
+{
+    let (trace, machine) = host_made(alloc, setup, inputs)?;
+    listed_if(
+        alloc,
+        machine,
+        Part::Nmos,
+        Side::Host,
+        ticks,
+        chosen,
+        out,
+        &trace,
+    )
+}
+
+// The same of the second processor.
+fn para_listed<'a, D: BusDevice>(
+    alloc: Global,
+    setup: Setup<D>,
+    ticks: u64,
+    chosen: Result<Choice, Refusal<Cause>>,
+    out: &'a str,
+    inputs: Inputs,
+) -> Result<Outcome<'a, D>, Refusal<Cause>>
+    requires ticks { ticks ≤ MOST }
+    ensures { (stage : Result Choice (Refusal Cause)) → Gives (λ (c : Choice). c) chosen stage →
+        let made = para_of (seen_setup D.plug setup).clock (seen_inputs inputs) in
+        Gives (verdict_of D.plug) result (para_told made stage ticks out.now) }
+{
+    let (trace, machine) = para_made(alloc, setup.clock, inputs)?;
+    listed_if(
+        alloc,
+        machine,
+        Part::Cmos,
+        Side::Para,
+        ticks,
+        chosen,
+        out,
+        &trace,
+    )
 }
 
 /// What comes of the machine of a side against the trace that was read, its instructions listed.
@@ -82,14 +230,9 @@ pub fn follow_outcome<'a, D: BusDevice>(
     ensures { let after = follow_after (seen_setup D.plug setup) side ticks choice out.now (seen_inputs inputs) in
         Gives (verdict_of D.plug) result after }
 {
+    let chosen = chosen_with(alloc, choice, &inputs.points);
     match side {
-        Side::Host => {
-            let (trace, machine) = host_made(alloc, setup, inputs)?;
-            Ok(listed(alloc, machine, Part::Nmos, side, ticks, choice, out, &trace)?)
-        }
-        Side::Para => {
-            let (trace, machine) = para_made(alloc, setup.clock, inputs)?;
-            Ok(listed(alloc, machine, Part::Cmos, side, ticks, choice, out, &trace)?)
-        }
+        Side::Host => host_listed(alloc, setup, ticks, chosen, out, inputs),
+        Side::Para => para_listed(alloc, setup, ticks, chosen, out, inputs),
     }
 }

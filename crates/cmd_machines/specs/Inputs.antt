@@ -1,7 +1,7 @@
 -- The bytes that a command read, by what they are to it.
 use Rattle.std.specs.Prelude.{ℕ, ◌==◌, List, [], ◌∷◌, ◌++◌, Option, Some, None, if◌then◌else◌}
 use Rattle.cmd_words.specs.declared.keys.Slot.{Slot}
-use Rattle.cmd_words.specs.declared.keys.Slot.TheVariants.{Trace, Source, Image, State, Os, Tube, Font, Disc, Keys}
+use Rattle.cmd_words.specs.declared.keys.Slot.TheVariants.{Trace, Source, Image, State, Os, Tube, Font, Disc, Keys, Points}
 use Rattle.cmd_words.specs.declared.keys.Slot.TheVariants as slots
 use Rattle.rom_set.specs.Roms.{Rom}
 
@@ -20,6 +20,8 @@ pub record Inputs : Type 0 where
   pub disc0 : Option (List ℕ)
   pub disc1 : Option (List ℕ)
   pub keys : Option (List ℕ)
+  -- the addresses of the starts that are listed
+  pub points : Option (List ℕ)
 
 abbrev pub no_inputs : Inputs
 no_inputs = record {
@@ -34,6 +36,7 @@ no_inputs = record {
   disc0 = None;
   disc1 = None;
   keys = None;
+  points = None;
 }
 
 abbrev pub with_input : Slot → List ℕ → Inputs → Inputs
@@ -47,6 +50,7 @@ with_input (slots.Rom n) bytes i = record i { roms = i.roms ++ record { slot = n
 with_input Font bytes i = record i { font = Some bytes }
 with_input (Disc n) bytes i = if n == 0 then record i { disc0 = Some bytes } else record i { disc1 = Some bytes }
 with_input Keys bytes i = record i { keys = Some bytes }
+with_input Points bytes i = record i { points = Some bytes }
 
 abbrev pub with_inputs : List (Slot × List ℕ) → Inputs → Inputs
 with_inputs [] i = i

@@ -25,6 +25,7 @@ seen_inputs i = record {
   disc0 = option_map items i.disc0;
   disc1 = option_map items i.disc1;
   keys = option_map items i.keys;
+  points = option_map items i.points;
 }
 
 -- what the words say of the machines, by what the plugged devices are

@@ -21,6 +21,7 @@ pub struct Inputs {
     pub disc0: Option<Vec<u8>>,
     pub disc1: Option<Vec<u8>>,
     pub keys: Option<Vec<u8>>,
+    pub points: Option<Vec<u8>>,
 }
 
 impl Inputs {
@@ -39,6 +40,7 @@ impl Inputs {
             disc0: None,
             disc1: None,
             keys: None,
+            points: None,
         }
     }
 
@@ -57,6 +59,7 @@ impl Inputs {
             Slot::Disc(0) => self.disc0 = Some(bytes),
             Slot::Disc(_) => self.disc1 = Some(bytes),
             Slot::Keys => self.keys = Some(bytes),
+            Slot::Points => self.points = Some(bytes),
         }
         Ok(())
     }

@@ -92,7 +92,7 @@ fn part_of(alloc: Global, inputs: &Inputs, slot: Slot) -> Result<Option<Blob>, A
         Slot::Disc(0) => if_read(alloc, &inputs.disc0),
         Slot::Disc(_) => if_read(alloc, &inputs.disc1),
         Slot::Keys => if_read(alloc, &inputs.keys),
-        Slot::Trace | Slot::Source | Slot::Image | Slot::State => Ok(None),
+        Slot::Points | Slot::Trace | Slot::Source | Slot::Image | Slot::State => Ok(None),
     }
 }
 

@@ -12,7 +12,7 @@ use Rattle.frame_out.specs.Pixmap.{pixmap}
 use Rattle.report.specs.declared.Line.{Line}
 use Rattle.report.specs.Text.{text}
 use Rattle.cmd_outcome.specs.declared.output.Output.{Output}
-use Rattle.cmd_outcome.specs.declared.output.Output.TheVariants.{Report, Memory, Disc, Frame, Trace, Plug, Sound, Session, Listing, Bytes}
+use Rattle.cmd_outcome.specs.declared.output.Output.TheVariants.{Report, Memory, Disc, Frame, Trace, Plug, Sound, Session, Listing, Counts, Bytes}
 use Rattle.cmd_outcome.specs.Left.{Kept, Left}
 use Rattle.cmd_outcome.specs.Sound.{sound_bytes}
 
@@ -95,5 +95,6 @@ file_of l (Plug number) = (l.names.out ++ (codes ".plug" ++ decimal number), byt
 file_of l Sound = (own_name l.names.wav, bytes_in (sound_bytes l.clock l.ticks) l.host)
 file_of l Session = (own_name l.names.save, unwrap_or l.saved [])
 file_of l Listing = (l.names.out ++ codes ".list", l.bytes)
+file_of l Counts = (l.names.out ++ codes ".counts", unwrap_or l.counts [])
 -- under the given name itself
 file_of l Bytes = (l.names.out, l.bytes)

@@ -22,5 +22,7 @@ pub record Left : Type 0 where
   pub kept : Option Kept
   -- the session file of the run, if it is to be saved
   pub saved : Option (List ℕ)
+  -- what is counted of the starts of instructions, if it is asked for
+  pub counts : Option (List ℕ)
   -- bytes that are an output by themselves
   pub bytes : List ℕ

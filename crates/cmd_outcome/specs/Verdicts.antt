@@ -19,9 +19,14 @@ said_verdict ending text = record { ending = ending; files = []; said = text }
 abbrev pub file_verdict : List ℕ → List ℕ → Verdict Ending
 file_verdict out bytes = record { ending = Done; files = (out, bytes) ∷ []; said = [] }
 
--- the file of a listing, and then a text
-abbrev pub listing_verdict : List ℕ → List ℕ → List ℕ → Verdict Ending
-listing_verdict out bytes said = record { ending = Done; files = (out ++ codes ".list", bytes) ∷ []; said = said }
+-- the file of what is counted, if it is
+abbrev pub counts_file : List ℕ → Option (List ℕ) → List (List ℕ × List ℕ)
+counts_file out None = []
+counts_file out (Some counts) = (out ++ codes ".counts", counts) ∷ []
+
+-- the file of a listing, that of what is counted, if it is, and then a text
+abbrev pub listing_verdict : List ℕ → List ℕ → Option (List ℕ) → List ℕ → Verdict Ending
+listing_verdict out bytes counts said = record { ending = Done; files = (out ++ codes ".list", bytes) ∷ counts_file out counts; said = said }
 
 -- what machines leave where they ended
 unfoldable pub machine_verdict : Left → Verdict Ending
@@ -30,14 +35,14 @@ machine_verdict l = record { ending = Done; files = map (file_of l) (machine_out
 -- what the host leaves after a replay
 abbrev pub host_left : Clock → ℕ → ℕ → Names → HostState → Left
 host_left clock ticks tube names s =
-    record { names = names; clock = clock; ticks = ticks; tube = tube; host = Some s; para = None; kept = None; saved = None; bytes = [] }
+    record { names = names; clock = clock; ticks = ticks; tube = tube; host = Some s; para = None; kept = None; saved = None; counts = None; bytes = [] }
 
 -- what the second processor leaves after a replay
 abbrev pub para_left : Clock → ℕ → ℕ → Names → ParaState → Left
 para_left clock ticks tube names s =
-    record { names = names; clock = clock; ticks = ticks; tube = tube; host = None; para = Some s; kept = None; saved = None; bytes = [] }
+    record { names = names; clock = clock; ticks = ticks; tube = tube; host = None; para = Some s; kept = None; saved = None; counts = None; bytes = [] }
 
 -- what both machines leave after a run, with its session file, if it is to be saved
 abbrev pub both_left : Clock → ℕ → ℕ → Names → HostState → ParaState → Kept → Option (List ℕ) → Left
 both_left clock ticks tube names s p kept saved =
-    record { names = names; clock = clock; ticks = ticks; tube = tube; host = Some s; para = Some p; kept = Some kept; saved = saved; bytes = [] }
+    record { names = names; clock = clock; ticks = ticks; tube = tube; host = Some s; para = Some p; kept = Some kept; saved = saved; counts = None; bytes = [] }

@@ -36,6 +36,7 @@ left_seen plug l = record {
   para = l.para;
   kept = option_map kept_seen l.kept;
   saved = option_map items l.saved;
+  counts = option_map items l.counts;
   bytes = l.bytes.items;
 }
 

@@ -68,11 +68,11 @@ fn trace_in(kept: &Option<Kept>) -> &[u8]
     }
 }
 
-// The session file of a run that is to be saved.
-fn session_in(saved: &Option<Vec<u8>>) -> &[u8]
-    ensures { result.now ≡ unwrap_or (option_map items saved.now) [] }
+// Bytes that may be there: the session file of a run that is to be saved, and what is counted of the starts.
+fn bytes_there(there: &Option<Vec<u8>>) -> &[u8]
+    ensures { result.now ≡ unwrap_or (option_map items there.now) [] }
 {
-    match saved {
+    match there {
         Some(bytes) => bytes,
         None => &[],
     }
@@ -133,11 +133,15 @@ impl<'a, D: BusDevice> Leaves for Left<'a, D> {
             )),
             Output::Session => Ok((
                 String::from_str(alloc, self.names.save.unwrap_or(""))?,
-                CowSlice::Borrowed(session_in(&self.saved)),
+                CowSlice::Borrowed(bytes_there(&self.saved)),
             )),
             Output::Listing => Ok((
                 format!(in alloc; "{out}.list")?,
                 CowSlice::Borrowed(&self.bytes),
+            )),
+            Output::Counts => Ok((
+                format!(in alloc; "{out}.counts")?,
+                CowSlice::Borrowed(bytes_there(&self.counts)),
             )),
             Output::Bytes => Ok((
                 String::from_str(alloc, out)?,

@@ -31,6 +31,8 @@ pub struct Left<'a, D> {
     pub kept: Option<Kept>,
     /// The session file of the run, if it is to be saved.
     pub saved: Option<Vec<u8>>,
+    /// What is counted of the starts of instructions, if it is asked for.
+    pub counts: Option<Vec<u8>>,
     /// Bytes that are an output by themselves.
     pub bytes: Vec<u8>,
     ghost most: { ticks.0 ≤ 1073741824 },

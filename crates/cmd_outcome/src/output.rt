@@ -23,6 +23,8 @@ pub enum Output {
     Session,
     /// `OUT.list`: a listing of instructions, made before.
     Listing,
+    /// `OUT.counts`: what is counted of the starts of instructions.
+    Counts,
     /// `OUT`: bytes that were made before.
     Bytes,
 }

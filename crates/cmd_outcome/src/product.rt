@@ -1,7 +1,7 @@
 //! What comes of a command.
-ghost use Rattle.std.specs.Prelude.{◌≡◌, IfOk, Ok, []};
+ghost use Rattle.std.specs.Prelude.{◌≡◌, IfOk, Ok, [], option_map};
 ghost use Rattle.cmd_status.specs.declared.status.Ending.TheVariants.{Done};
-ghost use Rattle.cmd_outcome.specs.View.{left_seen, names_seen, verdict_of};
+ghost use Rattle.cmd_outcome.specs.View.{items, left_seen, names_seen, verdict_of};
 ghost use Rattle.cmd_outcome.specs.Names.{one_name};
 ghost use Rattle.cmd_outcome.specs.Verdicts.{said_verdict, file_verdict, listing_verdict, machine_verdict};
 
@@ -17,10 +17,15 @@ use std::alloc::{AllocError, Global};
 /// What comes of a command: how it ends, its outputs, its text, and what it leaves.
 pub type Outcome<'a, D> = cmd_stages::Outcome<Ending, Output, Left<'a, D>>;
 
-// Bytes under a name, and no machine.
-fn bytes_left<'a, D: BusDevice>(out: &'a str, bytes: Vec<u8>) -> Left<'a, D>
+// Bytes under a name, with what is counted, if it is, and no machine.
+fn bytes_left<'a, D: BusDevice>(
+    out: &'a str,
+    bytes: Vec<u8>,
+    counts: Option<Vec<u8>>,
+) -> Left<'a, D>
     ensures name { names_seen result.names ≡ one_name out.now }
     ensures bytes { result.bytes.items ≡ bytes.items }
+    ensures counts { result.counts ≡ counts }
 {
     Left {
         names: Names {
@@ -35,6 +40,7 @@ fn bytes_left<'a, D: BusDevice>(out: &'a str, bytes: Vec<u8>) -> Left<'a, D>
         para: None,
         kept: None,
         saved: None,
+        counts,
         bytes,
     }
 }
@@ -51,27 +57,40 @@ pub fn said_outcome<'a, D: BusDevice>(
         ending,
         outputs: Vec::new(alloc),
         said,
-        left: bytes_left("", Vec::new(alloc)),
+        left: bytes_left("", Vec::new(alloc), None),
     }
 }
 
-/// The file of a listing with these bytes, and a text.
+/// The file of a listing with these bytes, that of what is counted, if it is, and a text.
 pub fn listing_outcome<'a, D: BusDevice>(
     alloc: Global,
     out: &'a str,
     bytes: Vec<u8>,
+    counts: Option<Vec<u8>>,
     said: Vec<u8>,
 ) -> Result<Outcome<'a, D>, AllocError>
-    ensures { IfOk result (λ outcome. verdict_of D.plug outcome ≡ listing_verdict out.now bytes.items said.items) }
+    ensures { let counts = option_map items counts in
+        IfOk result (λ outcome. verdict_of D.plug outcome ≡ listing_verdict out.now bytes.items counts said.items) }
 {
     let mut outputs = Vec::new(alloc);
     outputs.push(Output::Listing)?;
-    Ok(cmd_stages::Outcome {
-        ending: Ending::Done,
-        outputs,
-        said,
-        left: bytes_left(out, bytes),
-    })
+    match counts {
+        None => Ok(cmd_stages::Outcome {
+            ending: Ending::Done,
+            outputs,
+            said,
+            left: bytes_left(out, bytes, None),
+        }),
+        Some(counts) => {
+            outputs.push(Output::Counts)?;
+            Ok(cmd_stages::Outcome {
+                ending: Ending::Done,
+                outputs,
+                said,
+                left: bytes_left(out, bytes, Some(counts)),
+            })
+        }
+    }
 }
 
 /// One file of this name with these bytes.
@@ -88,7 +107,7 @@ pub fn file_outcome<'a, D: BusDevice>(
         ending: Ending::Done,
         outputs,
         said: Vec::new(alloc),
-        left: bytes_left(out, bytes),
+        left: bytes_left(out, bytes, None),
     })
 }
 

@@ -35,6 +35,6 @@ module _ {S : Type 0} (moves : Moves S) (side : Side) (ticks : ℕ) (left : ℕ 
 
 -- what a machine leaves, where no bytes stand beside it
 pub left_is : (clock : Clock) (ticks tube : ℕ) (names : Names) (bytes : List ℕ) (parts shown : Option HostState × Option ParaState) → bytes ≡ [] → parts ≡ shown →
-    record { names = names; clock = clock; ticks = ticks; tube = tube; host = parts.0; para = parts.1; kept = None; saved = None; bytes = bytes }
+    record { names = names; clock = clock; ticks = ticks; tube = tube; host = parts.0; para = parts.1; kept = None; saved = None; counts = None; bytes = bytes }
     ≡ left_of clock ticks tube names shown
 left_is clock ticks tube names bytes parts shown none same = rw (none, same)

@@ -45,4 +45,4 @@ replay_after set Para ticks names i = para_of set.clock i >>= λ m. Ok (replayed
 -- what a replay leaves of the machine that it has
 abbrev pub left_of : Clock → ℕ → ℕ → Names → Option HostState × Option ParaState → Left
 left_of clock ticks tube names parts =
-    record { names = names; clock = clock; ticks = ticks; tube = tube; host = parts.0; para = parts.1; kept = None; saved = None; bytes = [] }
+    record { names = names; clock = clock; ticks = ticks; tube = tube; host = parts.0; para = parts.1; kept = None; saved = None; counts = None; bytes = [] }

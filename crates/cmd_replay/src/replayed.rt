@@ -54,6 +54,7 @@ fn replayed<'a, D: BusDevice, M: Parts<D>>(
                 para,
                 kept: None,
                 saved: None,
+                counts: None,
                 bytes: Vec::new(alloc),
             };
             machine_outcome(alloc, left)

@@ -2,7 +2,7 @@
 use Rattle.std.specs.Prelude.{ℕ, List, [], ◌++◌, Option, Some, None, Result, Ok, Err, codes}
 use Rattle.std.specs.Fmt.{decimal}
 use Rattle.cmd_status.specs.declared.status.Status.{Status}
-use Rattle.cmd_status.specs.declared.status.Status.TheVariants.{Done, Usage, ReadFault, TooLong, BadImage, BadScript, BadTrace, BadSource, BadState, WriteFault, NoThread, NoMemory, Wrong, Differs}
+use Rattle.cmd_status.specs.declared.status.Status.TheVariants.{Done, Usage, ReadFault, TooLong, BadImage, BadScript, BadPoints, BadTrace, BadSource, BadState, WriteFault, NoThread, NoMemory, Wrong, Differs}
 use Rattle.cmd_status.specs.declared.status.Ending.{Ending}
 use Rattle.cmd_status.specs.declared.status.Ending.TheVariants as endings
 use Rattle.cmd_status.specs.declared.status.Cause.{Cause}
@@ -19,6 +19,7 @@ number (ReadFault name) = 2
 number (TooLong name) = 2
 number (BadImage which len) = 3
 number (BadScript line kind) = 4
+number (BadPoints line kind) = 4
 number (BadTrace line kind) = 4
 number (BadSource line kind) = 4
 number (BadState at) = 4
@@ -44,6 +45,7 @@ text (ReadFault name) = codes "cannot read " ++ name
 text (TooLong name) = codes "too long " ++ name
 text (BadImage which len) = codes "bad image " ++ which_text which ++ codes " " ++ decimal len
 text (BadScript line kind) = codes "bad script " ++ decimal line
+text (BadPoints line kind) = codes "bad points " ++ decimal line
 text (BadTrace line kind) = codes "bad trace " ++ decimal line
 text (BadSource line kind) = codes "bad source " ++ decimal line
 text (BadState at) = codes "bad state " ++ decimal at
@@ -61,6 +63,7 @@ end_of (ReadFault name) = Some (Err (stops.ReadFault name))
 end_of (TooLong name) = Some (Err (stops.TooLong name))
 end_of (BadImage which len) = Some (Err (stops.Refused (causes.BadImage which len)))
 end_of (BadScript line kind) = Some (Err (stops.Refused (causes.BadScript line kind)))
+end_of (BadPoints line kind) = Some (Err (stops.Refused (causes.BadPoints line kind)))
 end_of (BadTrace line kind) = Some (Err (stops.Refused (causes.BadTrace line kind)))
 end_of (BadSource line kind) = Some (Err (stops.Refused (causes.BadSource line kind)))
 end_of (BadState at) = Some (Err (stops.Refused (causes.BadState at)))

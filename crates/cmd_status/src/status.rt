@@ -40,6 +40,8 @@ pub enum Status {
     BadImage { which: Which, len: u64 },
     /// The key script's first line, counted from 1, that is outside its form (kind 1) or its order (kind 2), or has the 257th shot (kind 3).
     BadScript { line: u64, kind: u8 },
+    /// The first line of the file of addresses, counted from 1, that is outside its form (kind 1) or does not rise (kind 2).
+    BadPoints { line: u64, kind: u8 },
     /// The trace's first line, counted from 1, that is outside its form (kind 1) or its order (kind 2), line 1 of a trace of another clock (kind 4), or
     /// of any, where there is no Tube (kind 5).
     BadTrace { line: u64, kind: u8 },
@@ -80,6 +82,8 @@ pub enum Cause {
     BadImage { which: Which, len: u64 },
     /// The key script's first offending line, counted from 1, and the kind of its offence.
     BadScript { line: u64, kind: u8 },
+    /// The first offending line of the file of addresses, counted from 1, and the kind of its offence.
+    BadPoints { line: u64, kind: u8 },
     /// The trace's first line, counted from 1, that is outside its form (kind 1) or its order (kind 2), line 1 of a trace of another clock (kind 4), or
     /// of any, where there is no Tube (kind 5).
     BadTrace { line: u64, kind: u8 },
@@ -99,6 +103,7 @@ pub fn status_of(end: Result<Ending, Stop<Cause>>) -> Status
         Ok(Ending::Differs { line, doing }) => Status::Differs { line, doing },
         Err(Stop::Refused(Cause::BadImage { which, len })) => Status::BadImage { which, len },
         Err(Stop::Refused(Cause::BadScript { line, kind })) => Status::BadScript { line, kind },
+        Err(Stop::Refused(Cause::BadPoints { line, kind })) => Status::BadPoints { line, kind },
         Err(Stop::Refused(Cause::BadTrace { line, kind })) => Status::BadTrace { line, kind },
         Err(Stop::Refused(Cause::BadSource { line, kind })) => Status::BadSource { line, kind },
         Err(Stop::Refused(Cause::BadState { at })) => Status::BadState { at },
@@ -158,6 +163,7 @@ impl Status {
             Status::ReadFault { .. } | Status::TooLong { .. } => 2,
             Status::BadImage { .. } => 3,
             Status::BadScript { .. }
+            | Status::BadPoints { .. }
             | Status::BadTrace { .. }
             | Status::BadSource { .. }
             | Status::BadState { .. } => 4,
@@ -179,6 +185,7 @@ impl Status {
             Status::TooLong { name } => joined(alloc, "too long ", name.as_bytes()),
             Status::BadImage { which, len } => bad_image(alloc, *which, *len),
             Status::BadScript { line, .. } => numbered(alloc, "bad script ", *line),
+            Status::BadPoints { line, .. } => numbered(alloc, "bad points ", *line),
             Status::BadTrace { line, .. } => numbered(alloc, "bad trace ", *line),
             Status::BadSource { line, .. } => numbered(alloc, "bad source ", *line),
             Status::BadState { at } => numbered(alloc, "bad state ", *at),

@@ -34,12 +34,12 @@ use Rattle.cmd_machines.specs.Setup.{setup_of}
 use Rattle.cmd_outcome.specs.Names.{names_of}
 use Rattle.cmd_outcome.specs.Verdicts.{machine_verdict}
 use Rattle.cmd_ended.specs.Kept.{kept_verdict}
-use Rattle.cmd_follow.specs.Follow.{listed_verdict, listed_by, listed_ended, follow_after}
+use Rattle.cmd_follow.specs.Follow.{listed_verdict, listed_by, listed_ended, follow_after, chosen_with}
 use Rattle.cmd_top.specs.Plans.{after, plan, choice_of}
 use Rattle.cmd_top.specs.Commands.{EndsWith}
 use Rattle.cmd_top.specs.Gone.{IsResumed, IsListed, Gone}
-use Rattle.cmd_top.proofs.HeadlineLemmas.{say_nothing, stage_ok, done_as}
-use Rattle.cmd_top.proofs.HeardLemmas.{placed, session_done, was_read}
+use Rattle.cmd_top.proofs.HeadlineLemmas.{say_nothing, done_as}
+use Rattle.cmd_top.proofs.HeardLemmas.{placed, stage_two, session_done, was_read}
 
 module _ (plugs : List Plug) (old new : World) where
   abbrev Ends : Command → Type 0
@@ -64,22 +64,28 @@ module _ (plugs : List Plug) (old new : World) where
 
   -- a listing that ended as it was asked
   listed_gone : {S : Type 0} (c : Command) (made_of : Inputs → Result (List Entry × S) (Refusal Cause)) (m : Moves S) (sights : S → Sight) (part : Part) (side : Side) (choice : Choice)
-      (out : List ℕ) → ((i : Inputs) → after plugs c i ≡ (made_of i >>= λ x. Ok (listed_ended m sights part side (ticks_of c) choice out x))) → Ends c →
+      (out : List ℕ) → ((i : Inputs) → after plugs c i
+      ≡ (made_of i >>= λ x. chosen_with choice i.points >>= λ chosen. Ok (listed_ended m sights part side (ticks_of c) chosen out x))) → Ends c →
       IsListed c made_of m sights part side choice out old new
   unfolding listed_by
   listed_gone c made_of m sights part side choice out comes e =
       let read = was_read (plan plugs c) old.shelf.files e.ends.0 e.ends.1.0 in
       let i : Inputs = inputs_of read.0 in
-      let got = stage_ok (made_of i) (listed_ended m sights part side (ticks_of c) choice out) e.ends.0 (ap or_stop (sym (comes i)) ∙ read.2) in
-      let listing : ListingState = replay_listing m sights part side got.0.0 (ticks_of c) choice got.0.1 in
+      let got = stage_two (made_of i) (λ x. chosen_with choice i.points) (λ x chosen. listed_ended m sights part side (ticks_of c) chosen out x) e.ends.0
+      (ap or_stop (sym (comes i)) ∙ read.2) in
+      let listing : ListingState = replay_listing m sights part side got.0.0 (ticks_of c) got.1 got.0.1 in
       let is : e.ends.0 ≡ listed_verdict out listing =
-      placed (λ (l : ListingState). listed_verdict out l) listing (replay_of m side got.0.0 (ticks_of c) got.0.1).place (wrong got.0.0) e.ends.0 got.2 e.ends.2 in
+      placed (λ (l : ListingState). listed_verdict out l) listing (replay_of m side got.0.0 (ticks_of c) got.0.1).place (wrong got.0.0) e.ends.0 got.4 e.ends.2 in
       record {
         inputs = read.0;
         read = read.1;
         entries = got.0.0;
         machine = got.0.1;
-        made = got.1;
+        made = got.2;
+        chosen = got.1;
+        chosen_is = got.3;
+        listing = listing;
+        listing_is = refl;
         written = e.ends.3.files ∙ ap (λ (v : Verdict Ending). put_all v.files old.outlet.files) is;
         said = e.ends.3.said ∙ ap (λ (v : Verdict Ending). say v.said old.outlet.said) is;
       }

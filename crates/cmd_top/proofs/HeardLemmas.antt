@@ -126,7 +126,7 @@ no_place : {S : Type 0} (done : S → Verdict Ending) (s : S) (place : Option (�
 no_place done s None is = refl
 no_place done s (Some place) is = cc
 
-stage_two : {A B : Type 0} (r : Result A (Refusal Cause)) (g : A → Result B (Refusal Cause)) (f : A → B → Verdict Ending) (v : Verdict Ending) →
+pub stage_two : {A B : Type 0} (r : Result A (Refusal Cause)) (g : A → Result B (Refusal Cause)) (f : A → B → Verdict Ending) (v : Verdict Ending) →
     or_stop (r >>= λ x. g x >>= λ y. Ok (f x y)) ≡ Ok v → (x : A) × (y : B) × (r ≡ Ok x) × (g x ≡ Ok y) × (v ≡ f x y)
 stage_two (Err e) g f v is = cc
 stage_two (Ok x) g f v is = let got = stage_ok (g x) (f x) v is in (x, got.0, refl, got.1, got.2)

@@ -1,10 +1,10 @@
 -- The theorems of sessions and of listings: what stands when `resume` and `follow` have ended as they were asked.
-use Rattle.std.specs.Prelude.{◌≡◌, ⊤, ℕ, List, ◌++◌, Option, Some, Result, Ok, codes}
+use Rattle.std.specs.Prelude.{◌≡◌, ⊤, ℕ, List, ◌∷◌, ◌++◌, Option, Some, Result, Ok, codes}
 use Rattle.beeb_bits.specs.declared.Side.{Side}
 use Rattle.beeb_bits.specs.declared.Side.TheVariants.{Host, Para}
 use Rattle.op_table.specs.declared.names.Part.{Part}
 use Rattle.op_table.specs.declared.names.Part.TheVariants.{Nmos, Cmos}
-use Rattle.beeb_files.specs.Files.{put, say}
+use Rattle.beeb_files.specs.Files.{say}
 use Rattle.cmd_words.specs.declared.keys.Slot.{Slot}
 use Rattle.cmd_words.specs.Command.{Command, resume, follow, ticks_of}
 use Rattle.cmd_words.specs.Given.{Values, clock_of, save_of}
@@ -25,7 +25,7 @@ use Rattle.save_state.specs.Saved.{Session}
 use Rattle.follow.specs.declared.Choice.{Choice}
 use Rattle.follow.specs.Sight.{Sight}
 use Rattle.follow.specs.Machines.{host_sight, para_sight}
-use Rattle.follow.specs.Listing.{replay_listing}
+use Rattle.follow.specs.Listing.{ListingState, replay_listing}
 use Rattle.cmd_machines.specs.Inputs.{Inputs, inputs_of}
 use Rattle.cmd_machines.specs.Setup.{setup_of}
 use Rattle.cmd_machines.specs.Machines.{machines_of}
@@ -34,7 +34,8 @@ use Rattle.cmd_outcome.specs.Names.{names_of}
 use Rattle.cmd_replayed.specs.Made.{host_of, para_of}
 use Rattle.cmd_ended.specs.Kept.{kept_verdict}
 use Rattle.cmd_session.specs.Session.{state_of}
-use Rattle.cmd_follow.specs.Follow.{listed_text}
+use Rattle.cmd_outcome.specs.Verdicts.{counts_file}
+use Rattle.cmd_follow.specs.Follow.{listed_text, chosen_with}
 use Rattle.cmd_top.specs.Heard.{WereRead}
 use Rattle.cmd_top.specs.Plans.{choice_of}
 
@@ -55,7 +56,7 @@ pub record IsResumed (plugs : List Plug) (c : Command) (keep : ℕ) (out : List 
   -- nothing was said
   pub said : new.outlet.said ≡ old.outlet.said
 
--- What was written is the listing of the machine's replay, and then its number of lines was said.
+-- What was written is the listing of the machine's replay, and what is counted, if it is asked for; and then its number of lines was said.
 pub record IsListed {S : Type 0} (c : Command) (made_of : Inputs → Result (List Entry × S) (Refusal Cause)) (m : Moves S) (sights : S → Sight) (part : Part) (side : Side)
     (choice : Choice) (out : List ℕ) (old new : World) : Type 0 where
   pub inputs : plans.Inputs Slot
@@ -63,13 +64,13 @@ pub record IsListed {S : Type 0} (c : Command) (made_of : Inputs → Result (Lis
   pub entries : List Entry
   pub machine : S
   pub made : made_of (inputs_of inputs) ≡ Ok (entries, machine)
-  pub written :
-      new.outlet.files ≡ put (out ++ codes ".list") (replay_listing m sights part side entries (ticks_of c) choice machine).text old.outlet.files
-  pub said :
-      new.outlet.said
-      ≡ say (listed_text (replay_listing m sights part side entries (ticks_of c) choice machine).listed
-      (replay_listing m sights part side entries (ticks_of c) choice machine).chosen)
-      old.outlet.said
+  -- what is chosen, with the addresses of the file that the words name, if they do
+  pub chosen : Choice
+  pub chosen_is : chosen_with choice (inputs_of inputs).points ≡ Ok chosen
+  pub listing : ListingState
+  pub listing_is : listing ≡ replay_listing m sights part side entries (ticks_of c) chosen machine
+  pub written : new.outlet.files ≡ put_all ((out ++ codes ".list", listing.text) ∷ counts_file out listing.counts) old.outlet.files
+  pub said : new.outlet.said ≡ say (listed_text listing.listed listing.chosen) old.outlet.said
 
 unfoldable pub Gone : List Plug → Option Command → World → World → Type 0
 Gone plugs (Some (resume state ticks out keep given)) old new = IsResumed plugs (resume state ticks out keep given) keep out given old new

@@ -1,10 +1,10 @@
 -- What each command reads and comes to. A new command has its line in `after`.
-use Rattle.std.specs.Prelude.{List, Result}
+use Rattle.std.specs.Prelude.{List, None, Result}
 use Rattle.cmd_stages.specs.Plan.{Verdict, Plan}
 use Rattle.cmd_stages.specs.declared.stop.Refusal.{Refusal}
 use Rattle.cmd_words.specs.declared.keys.Slot.{Slot}
 use Rattle.cmd_words.specs.Command.{Command, check, asm, dis, replay, solo, run, resume, follow, gen, is_paired}
-use Rattle.cmd_words.specs.Given.{Values, at_of, from_of, watch_of}
+use Rattle.cmd_words.specs.Given.{Values, at_of, counts_of, from_of, watch_of}
 use Rattle.cmd_words.specs.Reads.{reads}
 use Rattle.follow.specs.declared.Choice.{Choice}
 use Rattle.cmd_status.specs.declared.status.Ending.{Ending}
@@ -21,9 +21,9 @@ use Rattle.cmd_session.specs.Session.{session_after}
 use Rattle.cmd_follow.specs.Follow.{follow_after}
 use Rattle.bus_plug.specs.Plug.{Plug}
 
--- which instructions are listed
+-- which instructions are listed, but for the addresses of a file, and whether they are counted
 abbrev pub choice_of : Values → Choice
-choice_of given = record { from = from_of given; at = at_of given; watch = watch_of given }
+choice_of given = record { from = from_of given; at = at_of given; points = None; watch = watch_of given; counts = counts_of given }
 
 -- what a command comes to by what it read, where these devices are handed in
 abbrev pub after : List Plug → Command → Inputs → Result (Verdict Ending) (Refusal Cause)

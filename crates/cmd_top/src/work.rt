@@ -29,14 +29,16 @@ use std::alloc::Global;
 use std::sync::Wait;
 use std::thread::Threads;
 
-// Which instructions are listed.
+// Which instructions are listed, but for the addresses of a file, and whether they are counted.
 fn choice_of(given: &Given<'_>) -> Choice
     ensures { result ≡ choice_of (seen_given given.now) }
 {
     Choice {
         from: given.from(),
         at: given.at(),
+        points: None,
         watch: given.watch(),
+        counts: given.counts(),
     }
 }
 

@@ -1,5 +1,5 @@
 -- The words that stand alone among the options.
-use Rattle.std.specs.Prelude.{ℕ, ◌&&◌, ◌==◌, Bool, true, false, not, List, [], ◌∷◌, Option, Some, None, if◌then◌else◌, codes}
+use Rattle.std.specs.Prelude.{ℕ, ◌&&◌, ◌||◌, ◌==◌, Bool, true, false, not, List, [], ◌∷◌, Option, Some, None, if◌then◌else◌, codes}
 use Rattle.std.specs.Str.{bytes_eq}
 
 -- a word that begins with `-`
@@ -9,7 +9,7 @@ is_dashed (b ∷ bs) = b == 45
 
 -- an option that is one word, with no value behind it
 abbrev pub is_flag : List ℕ → Bool
-is_flag word = bytes_eq word (codes "--no-tube")
+is_flag word = bytes_eq word (codes "--no-tube") || bytes_eq word (codes "--counts")
 
 -- a key, with its value behind it: every other word that begins with `-`
 abbrev pub takes_value : List ℕ → Bool

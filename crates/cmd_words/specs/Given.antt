@@ -106,6 +106,10 @@ from_of values = from_in (value_of values (codes "--from"))
 abbrev pub tube_of : Values → Bool
 tube_of values = is_none (value_of values (codes "--no-tube"))
 
+-- the starts of each address are counted: if `--counts` is given
+abbrev pub counts_of : Values → Bool
+counts_of values = is_some (value_of values (codes "--counts"))
+
 abbrev pub has_os : Values → Bool
 has_os values = is_some (value_of values (codes "--os"))
 
@@ -122,8 +126,12 @@ has_images Resume values = true
 has_images FollowHost values = has_os values
 has_images FollowPara values = has_tube values
 
+-- one address is given, and a file of addresses as well
+abbrev pub has_both : Values → Bool
+has_both values = is_some (value_of values (codes "--at")) && is_some (value_of values (codes "--points"))
+
 abbrev pub if_images : Taker → Values → Option Values
-if_images taker values = if has_images taker values then Some values else None
+if_images taker values = if has_images taker values && not (has_both values) then Some values else None
 
 -- the options among the words, where each has its value
 unfoldable pub closed_options : Taker → List (List ℕ) → Option Values

@@ -3,7 +3,7 @@ use Rattle.std.specs.Prelude.{ℕ, ◌+◌, ◌&&◌, ◌==◌, nat_le, Bool, tr
 use Rattle.std.specs.List.{list_all}
 use Rattle.std.specs.Str.{bytes_eq}
 use Rattle.cmd_words.specs.declared.keys.Slot.{Slot}
-use Rattle.cmd_words.specs.declared.keys.Slot.TheVariants.{Os, Tube, Rom, Font, Disc, Keys}
+use Rattle.cmd_words.specs.declared.keys.Slot.TheVariants.{Os, Tube, Rom, Font, Disc, Keys, Points}
 use Rattle.cmd_words.specs.declared.keys.Taker.{Taker}
 use Rattle.cmd_words.specs.declared.keys.Taker.TheVariants.{ReplayHost, ReplayPara, Solo, Run, Resume, FollowHost, FollowPara}
 use Rattle.cmd_words.specs.declared.keys.Takers.{Takers}
@@ -86,6 +86,7 @@ keys =
     ∷ key (codes "--disc0") hosts (file (Disc 0))
     ∷ key (codes "--disc1") hosts (file (Disc 1))
     ∷ key (codes "--keys") hosts (file Keys)
+    ∷ key (codes "--points") lists (file Points)
     ∷ key (codes "--plugs") hosts (numeric 0 8)
     ∷ key (codes "--keep") runs (numeric 0 4194304)
     ∷ key (codes "--speed") machines (one_of (codes "3" ∷ codes "4" ∷ []))
@@ -95,6 +96,7 @@ keys =
     ∷ key (codes "--watch") lists four_digits
     ∷ key (codes "--from") lists (numeric 0 1073741824)
     ∷ key (codes "--no-tube") host_alone (one_of (codes "--no-tube" ∷ []))
+    ∷ key (codes "--counts") lists (one_of (codes "--counts" ∷ []))
     ∷ []
 
 -- no command

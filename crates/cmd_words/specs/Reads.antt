@@ -2,14 +2,19 @@
 use Rattle.std.specs.Prelude.{ℕ, ◌+◌, ◌≤◌, ◌&&◌, nat_le, nat_lt, Bool, true, IsTrue, List, [], ◌∷◌, ◌++◌, map, Option, Some, None}
 use Rattle.std.specs.List.{filter_map}
 use Rattle.cmd_words.specs.declared.keys.Slot.{Slot}
-use Rattle.cmd_words.specs.declared.keys.Slot.TheVariants.{Trace, Source, Image, State, Rom}
+use Rattle.cmd_words.specs.declared.keys.Slot.TheVariants.{Trace, Source, Image, State, Rom, Points}
 use Rattle.cmd_words.specs.Keys.{Value, file, Key, keys}
 use Rattle.cmd_words.specs.Given.{Values}
 use Rattle.cmd_words.specs.Command.{Command, check, asm, dis, replay, solo, run, resume, follow, gen, ticks_of, keep_of}
 
+-- the most bytes of a file that an option gives
+abbrev pub cap_of : Slot → ℕ
+cap_of Points = 327680
+cap_of slot = 1048576
+
 -- the file that an option gives
 abbrev pub file_of : Value → Option (List ℕ) → List (Slot × List ℕ × ℕ)
-file_of (file slot) (Some name) = (slot, name, 1048576) ∷ []
+file_of (file slot) (Some name) = (slot, name, cap_of slot) ∷ []
 file_of value given = []
 
 -- the files that the options give, in the order of their keys

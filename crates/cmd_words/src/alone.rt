@@ -16,7 +16,7 @@ fn is_dashed(word: &str) -> bool
 pub(crate) fn is_flag(word: &str) -> bool
     ensures { result ≡ is_flag word.now }
 {
-    word == "--no-tube"
+    word == "--no-tube" || word == "--counts"
 }
 
 /// A key, with its value behind it: every other word that begins with `-`.

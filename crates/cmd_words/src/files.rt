@@ -1,7 +1,7 @@
 //! The files that a command reads.
 ghost use Rattle.std.specs.Prelude.{◌≡◌, ◌∷◌, ◌++◌, [], map, IfOk, option_copied};
 ghost use Rattle.cmd_words.specs.Keys.{keys};
-ghost use Rattle.cmd_words.specs.Reads.{reads, file_of, files_of};
+ghost use Rattle.cmd_words.specs.Reads.{reads, cap_of, file_of, files_of};
 ghost use Rattle.cmd_words.specs.View.{seen_command, seen_given, seen_value, seen_want};
 
 use crate::command::Command;
@@ -18,6 +18,9 @@ const SOURCE_CAP: u64 = 4_194_304;
 /// The most bytes of a session file.
 const STATE_CAP: u64 = 33_554_432;
 
+/// The most bytes of a file of addresses: a line for each.
+const POINTS_CAP: u64 = 327_680;
+
 /// The most bytes of every other file.
 const FILE_CAP: u64 = 1_048_576;
 
@@ -33,6 +36,16 @@ fn one<'a>(alloc: Global, want: Want<'a>) -> Result<Vec<Want<'a>>, AllocError>
     Ok(wants)
 }
 
+// The most bytes of a file that an option gives.
+fn cap_of(slot: Slot) -> u64
+    ensures { result ≡ cap_of slot }
+{
+    match slot {
+        Slot::Points => POINTS_CAP,
+        _ => FILE_CAP,
+    }
+}
+
 // These files, and that of one option, if it gives one.
 fn with_option<'a>(
     wants: Vec<Want<'a>>,
@@ -45,7 +58,7 @@ fn with_option<'a>(
     match (kind, name) {
         (Value::File(slot), Some(name)) => {
             let mut wants = wants;
-            wants.push((slot, name, FILE_CAP))?;
+            wants.push((slot, name, cap_of(slot)))?;
             Ok(wants)
         }
         _ => Ok(wants),

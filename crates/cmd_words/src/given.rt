@@ -3,7 +3,7 @@ ghost use Rattle.std.specs.Prelude.{◌≡◌, ◌<◌, ◌≤◌, map, length, 
 ghost use Rattle.std.specs.Prelude.{string_bytes};
 ghost use Rattle.cmd_words.specs.Given.{options_of, closed_options, value_at, value_of, put_at, put_option};
 ghost use Rattle.cmd_words.specs.Given.{keep_in, keep_of, plugs_in, plugs_of, clock_in, clock_of, wav_of, save_of, at_of, watch_of};
-ghost use Rattle.cmd_words.specs.Given.{from_in, from_of, tube_of, has_os, has_tube, has_images};
+ghost use Rattle.cmd_words.specs.Given.{from_in, from_of, tube_of, counts_of, has_os, has_tube, has_images, has_both};
 ghost use Rattle.cmd_words.specs.Keys.{address_of};
 ghost use Rattle.cmd_words.specs.View.{seen_given, word_at};
 
@@ -175,6 +175,13 @@ impl<'a> Given<'a> {
         self.value_of("--no-tube").is_none()
     }
 
+    /// Whether the starts of each address are counted: if `--counts` is given.
+    pub fn counts(&self) -> bool
+        ensures { result ≡ counts_of (seen_given self.now) }
+    {
+        self.value_of("--counts").is_some()
+    }
+
     fn has_os(&self) -> bool
         ensures { result ≡ has_os (seen_given self.now) }
     {
@@ -185,6 +192,13 @@ impl<'a> Given<'a> {
         ensures { result ≡ has_tube (seen_given self.now) }
     {
         self.value_of("--tube").is_some()
+    }
+
+    // The words give both one address and a file of addresses.
+    fn has_both(&self) -> bool
+        ensures { result ≡ has_both (seen_given self.now) }
+    {
+        self.value_of("--at").is_some() && self.value_of("--points").is_some()
     }
 
     // The machines of a command have their image.
@@ -274,7 +288,7 @@ pub(crate) fn options_among(words: &[String], taker: Taker) -> Option<Given<'_>>
     ensures { option_map seen_given result ≡ options_of taker (map string_bytes words.now) }
 {
     match put_options(words, taker) {
-        Some(given) if given.has_images(taker) => Some(given),
+        Some(given) if given.has_images(taker) && !given.has_both() => Some(given),
         _ => None,
     }
 }

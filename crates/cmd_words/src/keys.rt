@@ -31,6 +31,8 @@ pub enum Slot {
     Disc(u8),
     /// The key script.
     Keys,
+    /// The addresses of the starts that are listed.
+    Points,
 }
 
 /// A command that takes options.
@@ -171,13 +173,15 @@ pub const MOST_KEEP: u64 = 4_194_304;
 pub(crate) const MOST_TICKS: u64 = 1_073_741_824;
 
 /// The number of keys.
-pub(crate) const COUNT: usize = 31;
+pub(crate) const COUNT: usize = 33;
 
 /// The speeds of the second processor, in MHz.
 const SPEEDS: &[&str] = &["3", "4"];
 
 /// A flag is its own value.
 const NO_TUBE: &[&str] = &["--no-tube"];
+
+const COUNTS: &[&str] = &["--counts"];
 
 // A row of the table.
 fn row(word: &'static str, takers: Takers, value: Value) -> Key
@@ -218,6 +222,7 @@ fn table() -> [Key; COUNT]
         row("--disc0", HOSTS, Value::File(Slot::Disc(0))),
         row("--disc1", HOSTS, Value::File(Slot::Disc(1))),
         row("--keys", HOSTS, Value::File(Slot::Keys)),
+        row("--points", LISTS, Value::File(Slot::Points)),
         row("--plugs", HOSTS, Value::Number { least: 0, most: 8 }),
         row(
             "--keep",
@@ -241,6 +246,7 @@ fn table() -> [Key; COUNT]
             },
         ),
         row("--no-tube", HOST_ALONE, Value::OneOf(NO_TUBE)),
+        row("--counts", LISTS, Value::OneOf(COUNTS)),
     ]
 }
 

@@ -1,3 +1,7 @@
+pub mod Tallying
+pub mod Pointing
+pub mod Bounds
+pub mod Adding
 pub mod Noting
 pub mod Watching
 pub mod Listed

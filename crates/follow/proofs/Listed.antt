@@ -1,5 +1,5 @@
 -- A replay of a party that is watched is one of the party, and the starts of its run are kept.
-use Rattle.std.proofs.Common.{ℕ, zero, suc, ◌≡◌, ◌∙◌, nat_lt, refl, sym, List, [], ◌∷◌, ◌++◌, Bool, true, false, Option, if◌then◌else◌, append_assoc, arith}
+use Rattle.std.proofs.Common.{ℕ, zero, suc, ◌≡◌, ◌∙◌, ◌≤◌, nat_lt, refl, sym, ap, List, [], ◌∷◌, ◌++◌, Bool, true, false, Option, if◌then◌else◌, append_assoc, arith}
 use Rattle.std.proofs.lemmas.List.{append-nil}
 use Rattle.beeb_bits.specs.declared.Side.{Side}
 use Rattle.tube_chip.specs.Act.{Query}
@@ -11,10 +11,13 @@ use Rattle.op_table.specs.declared.names.Part.{Part}
 use Rattle.follow.specs.declared.choice.Choice.{Choice}
 use Rattle.follow.specs.Sight.{Sight, IsSame}
 use Rattle.follow.specs.Start.{StartState}
-use Rattle.follow.specs.Listing.{step_run, run_from, run_of, starts_of, is_chosen, chosen_from, listing_of_chosen, replay_listing}
-use Rattle.follow.specs.CodeNotes.{Kept, none_kept, keep, keep_all}
+use Rattle.follow.specs.Counts.{is_counted, counted_of}
+use Rattle.follow.specs.Listing.{step_run, run_from, run_of, starts_of, is_chosen, chosen_from, chosen_of, listing_with, replay_listing}
+use Rattle.follow.specs.CodeNotes.{Kept, none_kept, keep, keep_all, listing_noted}
 use Rattle.follow.specs.CodeWatched.{Order, order, Watched, watched_of, watched_moves, noted}
 use Rattle.follow.proofs.Inside.{place_inside}
+use Rattle.follow.proofs.Tallying.{text_if_same}
+use Rattle.follow.proofs.Bounds.{counted_few, counted_low}
 
 -- what is kept of some starts, and of those that are chosen
 some_more : (is : Bool) (x : StartState) (xs ys zs : List StartState) → zs ≡ (if is then xs ++ x ∷ [] else xs) ++ ys → zs ≡ xs ++ (if is then x ∷ ys else ys)
@@ -24,6 +27,10 @@ some_more false x xs ys zs e = e
 pub chosen_kept : (choice : Choice) (kept : Kept) (starts : List StartState) → (keep_all choice kept starts).chosen ≡ kept.chosen ++ chosen_from choice kept.before starts
 chosen_kept choice kept [] = sym (append-nil kept.chosen)
 chosen_kept choice kept (x ∷ starts) = some_more (is_chosen choice kept.before x.tick x.regs.pc x.watched) x kept.chosen _ _ (chosen_kept choice (keep choice kept x) starts)
+
+pub counted_kept : (choice : Choice) (kept : Kept) (starts : List StartState) → (keep_all choice kept starts).counted ≡ kept.counted ++ counted_of choice starts
+counted_kept choice kept [] = sym (append-nil kept.counted)
+counted_kept choice kept (x ∷ starts) = some_more (is_counted choice x.tick) x kept.counted _ _ (counted_kept choice (keep choice kept x) starts)
 
 module _ {S : Type 0} (m : Moves S) (sights : S → Sight) (set : Order) where
   abbrev v : Moves (Watched S)
@@ -74,6 +81,12 @@ module _ {X S T : Type 0} {state : X → S} {m : Moves S} {inside : X → T} {w 
       → (replay_of m side trace n (state x)).place ≡ place
   place_told one two none is = rw (is, one, two, none, replay_watched) (sym (place_inside same side trace n x))
 
-  pub listing_told : {part p : Part} {choice c : Choice} {kept : Kept} {new : Watched T} → p ≡ part → c ≡ choice → kept ≡ none_kept → new ≡ (replayed p c kept).machine
-      → listing_of_chosen new.order.part new.kept.chosen ≡ replay_listing w sights part side trace n choice (inside x)
-  listing_told one two none is = rw (is, one, two, none, replay_watched, chosen_kept)
+  pub listing_told : {part p : Part} {choice c : Choice} {kept : Kept} {new : Watched T} → n ≤ 1073741824 → p ≡ part → c ≡ choice → kept ≡ none_kept
+      → new ≡ (replayed p c kept).machine
+      → listing_noted new.order.part new.order.choice n new.kept.chosen new.kept.counted ≡ replay_listing w sights part side trace n choice (inside x)
+  listing_told {part = part} {choice = choice} most one two none is =
+      let starts : List StartState = starts_of w sights choice.watch (run_of w side trace n (inside x)) in
+      rw (is, one, two, none, replay_watched, chosen_kept, counted_kept)
+      (ap (listing_with part (chosen_of choice starts))
+      (text_if_same choice.counts n (counted_of choice starts) most (counted_few w side trace n sights choice.watch choice (inside x) most)
+      (counted_low w side trace n sights choice.watch choice (inside x) most)))

@@ -5,23 +5,31 @@ use Rattle.tube_machine.specs.declared.pass.Passing.{Passing}
 use Rattle.tube_machine.specs.Passing.{IsOver}
 use Rattle.follow.specs.declared.choice.Choice.{Choice}
 use Rattle.follow.specs.Start.{StartState, watched_byte}
-use Rattle.follow.specs.Listing.{is_chosen, lines_of_starts}
+use Rattle.follow.specs.Counts.{is_counted}
+use Rattle.follow.specs.Listing.{is_chosen, lines_of_starts, ListingState, listing_with}
+use Rattle.follow.specs.CodeTally.{text_if}
 
--- those that are chosen, and the byte that was watched at the last of all, if there was one
+-- those that are chosen, the byte that was watched at the last of all, if there was one, and those that are counted
 pub record Kept : Type 0 where
   pub chosen : List StartState
   pub before : Option (Option ℕ)
+  pub counted : List StartState
 
-abbrev pub kept_of : List StartState → Option (Option ℕ) → Kept
-kept_of chosen before = record { chosen = chosen; before = before }
+abbrev pub kept_of : List StartState → Option (Option ℕ) → List StartState → Kept
+kept_of chosen before counted = record { chosen = chosen; before = before; counted = counted }
 
 -- before any start
 abbrev pub none_kept : Kept
-none_kept = kept_of [] None
+none_kept = kept_of [] None []
 
 -- with one more start, and with more of them
+-- some starts, with one more if that is asked
+abbrev pub with_if : Bool → List StartState → StartState → List StartState
+with_if is starts x = if is then starts ++ x ∷ [] else starts
+
 abbrev pub keep : Choice → Kept → StartState → Kept
-keep choice k x = kept_of (if is_chosen choice k.before x.tick x.regs.pc x.watched then k.chosen ++ x ∷ [] else k.chosen) (Some x.watched)
+keep choice k x =
+    kept_of (with_if (is_chosen choice k.before x.tick x.regs.pc x.watched) k.chosen x) (Some x.watched) (with_if (is_counted choice x.tick) k.counted x)
 
 abbrev pub keep_all : Choice → Kept → List StartState → Kept
 keep_all choice k [] = k
@@ -32,8 +40,12 @@ pub record IsKept (part : Part) (starts : List StartState) (text : List ℕ) (is
   pub lines : is_short ≡ false → text ≡ lines_of_starts part starts
   pub count : chosen ≡ length starts
 
--- A start that is passed over is not chosen, and leaves the byte that was watched before it as it was.
+-- A start that is passed over is neither chosen nor counted, and leaves the byte that was watched before it as it was.
 abbrev pub LeavesKept : Choice → Option (Option ℕ) → Passing → Type 0
 LeavesKept choice before passing =
     (tick pc : ℕ) (peek : ℕ → Option ℕ) → IsOver passing tick pc peek →
-    (is_chosen choice before tick pc (watched_byte choice.watch peek) ≡ false) × (before ≡ Some (watched_byte choice.watch peek))
+    (is_chosen choice before tick pc (watched_byte choice.watch peek) ≡ false) × (is_counted choice tick ≡ false) × (before ≡ Some (watched_byte choice.watch peek))
+
+-- the listing of these chosen starts, and of what was counted start by start
+abbrev pub listing_noted : Part → Choice → ℕ → List StartState → List StartState → ListingState
+listing_noted part choice n chosen counted = listing_with part chosen (text_if choice.counts n counted)

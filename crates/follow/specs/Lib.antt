@@ -1,11 +1,15 @@
 pub mod Sight
 pub mod Start
+pub mod Points
+pub mod Counts
 pub mod Listing
 pub mod Steps
 pub mod Reference
+pub mod Adding
 pub mod Machines
 pub mod CodeStart
 pub mod CodeTrail
+pub mod CodeTally
 pub mod CodeNotes
 pub mod CodeWatched
 pub mod View

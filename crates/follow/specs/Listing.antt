@@ -1,5 +1,5 @@
 -- The listing of a replay: the starts of its run, those that are chosen, and a line for each of the first of them. (This project's own format.)
-use Rattle.std.specs.Prelude.{ℕ, zero, suc, ◌==◌, ◌&&◌, nat_le, nat_lt, min, not, List, [], ◌∷◌, ◌++◌, length, map, filter, take, flat_map, Bool, true, false, Option, None, Some, if◌then◌else◌, codes}
+use Rattle.std.specs.Prelude.{ℕ, zero, suc, ◌==◌, ◌&&◌, nat_le, nat_lt, min, not, List, [], ◌∷◌, ◌++◌, length, map, filter, take, slice_index_or, flat_map, Bool, true, false, Option, None, Some, if◌then◌else◌, codes}
 use Rattle.digits.specs.Hexadecimal.{hex_digits}
 use Rattle.beeb_bits.specs.declared.Side.{Side}
 use Rattle.op_table.specs.declared.names.Part.{Part}
@@ -16,6 +16,7 @@ use Rattle.tube_party.specs.Replay.{Numbered, own_from, is_that, chip_before}
 use Rattle.follow.specs.declared.choice.Choice.{Choice}
 use Rattle.follow.specs.Sight.{Sight}
 use Rattle.follow.specs.Start.{StartState, start_of}
+use Rattle.follow.specs.Counts.{counted_of, counts_of_counted}
 
 -- ---- The run: the states from which a replay does a step
 
@@ -50,6 +51,11 @@ abbrev pub is_at : Option ℕ → ℕ → Bool
 is_at None pc = true
 is_at (Some at) pc = at == pc
 
+-- its PC is among the addresses, if they are given
+abbrev pub is_in : Option (List Bool) → ℕ → Bool
+is_in None pc = true
+is_in (Some points) pc = slice_index_or points pc false
+
 -- two bytes that may be none
 abbrev pub is_same_byte : Option ℕ → Option ℕ → Bool
 is_same_byte None None = true
@@ -65,7 +71,7 @@ has_changed (Some at) (Some before) now = not (is_same_byte before now)
 
 -- a start at this tick and PC with this watched byte, by the watched byte of the start before it, if there was one
 abbrev pub is_chosen : Choice → Option (Option ℕ) → ℕ → ℕ → Option ℕ → Bool
-is_chosen choice before tick pc watched = nat_le choice.from tick && is_at choice.at pc && has_changed choice.watch before watched
+is_chosen choice before tick pc watched = nat_le choice.from tick && is_at choice.at pc && is_in choice.points pc && has_changed choice.watch before watched
 
 -- those that are chosen, of starts with this one before them
 abbrev pub chosen_from : Choice → Option (Option ℕ) → List StartState → List StartState
@@ -108,23 +114,29 @@ start_line part s =
 
 -- ---- The listing
 
--- its text, how many lines that has, and how many starts are chosen
+-- its text, how many lines that has, how many starts are chosen, and what is counted of the starts, if it is asked for
 pub record ListingState : Type 0 where
   pub text : List ℕ
   pub listed : ℕ
   pub chosen : ℕ
+  pub counts : Option (List ℕ)
 
 -- the lines of the first 1,048,576 chosen starts
 unfoldable pub lines_of_starts : Part → List StartState → List ℕ
 lines_of_starts part chosen = flat_map (λ s. start_line part s) (take 1048576 chosen)
 
-abbrev pub listing_of_chosen : Part → List StartState → ListingState
-listing_of_chosen part chosen = record { text = lines_of_starts part chosen; listed = min (length chosen) 1048576; chosen = length chosen }
+abbrev pub listing_with : Part → List StartState → Option (List ℕ) → ListingState
+listing_with part chosen counts =
+    record { text = lines_of_starts part chosen; listed = min (length chosen) 1048576; chosen = length chosen; counts = counts }
 
-abbrev pub listing_of : Part → Choice → List StartState → ListingState
-listing_of part choice starts = listing_of_chosen part (chosen_of choice starts)
+-- of those that are chosen and those that are counted, of a run up to tick n
+abbrev pub listing_of_chosen : Part → Choice → ℕ → List StartState → List StartState → ListingState
+listing_of_chosen part choice n chosen counted = listing_with part chosen (counts_of_counted choice.counts n counted)
+
+abbrev pub listing_of : Part → Choice → ℕ → List StartState → ListingState
+listing_of part choice n starts = listing_of_chosen part choice n (chosen_of choice starts) (counted_of choice starts)
 
 -- The listing of the replay of a machine up to tick n against its side of a trace.
 abbrev pub replay_listing : {S : Type 0} → Moves S → (S → Sight) → Part → Side → List Entry → ℕ → Choice → S → ListingState
 replay_listing m sights part side trace n choice s =
-    listing_of part choice (starts_of m sights choice.watch (run_of m side trace n s))
+    listing_of part choice n (starts_of m sights choice.watch (run_of m side trace n s))

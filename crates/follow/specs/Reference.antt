@@ -22,7 +22,7 @@ module _ {S T X : Type 0} (h : Moves S) (p : Moves T) (m : Moves X) (state : Wor
 
   -- The listing of a side of the reference run of n ticks.
   abbrev pub reference_listing : (X → Sight) → Part → Choice → S → T → ℕ → ListingState
-  reference_listing sights part choice s t n = listing_of part choice (starts_of m sights choice.watch (reference_run n 0 (start s t)))
+  reference_listing sights part choice s t n = listing_of part choice n (starts_of m sights choice.watch (reference_run n 0 (start s t)))
 
   -- Replayed against the accesses of the reference run, the side has that listing.
   abbrev pub ListingIsReference : Side → (X → Sight) → Type 0

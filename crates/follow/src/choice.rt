@@ -1,14 +1,20 @@
-//! Which starts of instructions are listed.
+//! Which starts of instructions are listed, and which are counted.
 ghost use Rattle.std.specs.Prelude.{◌≡◌};
-ghost use Rattle.follow.specs.Listing.{is_at, is_same_byte, has_changed, is_chosen};
+ghost use Rattle.follow.specs.Listing.{is_at, is_in, is_same_byte, has_changed, is_chosen};
+ghost use Rattle.follow.specs.Counts.{is_counted};
 
-/// Which starts of instructions are listed: those at tick `from` or later for which the rest holds too. If `at` is given, PC is `at`. If `watch` is
-/// given, the byte at `watch` is not what it was at the start before, listed or not.
-#[derive(Clone, Copy, Debug, PartialEq, Eq)]
+use crate::points::Points;
+
+/// Which starts of instructions are listed: those at tick `from` or later for which the rest holds too. If `at` is given, PC is `at`. If `points` are
+/// given, PC is among them. If `watch` is given, the byte at `watch` is not what it was at the start before, listed or not. If `counts` is set, all
+/// starts at tick `from` or later are counted, listed or not.
+#[derive(Drop)]
 pub struct Choice {
     pub from: u64,
     pub at: Option<u16>,
+    pub points: Option<Points>,
     pub watch: Option<u16>,
+    pub counts: bool,
 }
 
 #[inline(always)]
@@ -18,6 +24,16 @@ fn is_at(at: Option<u16>, pc: u16) -> bool
     match at {
         None => true,
         Some(at) => at == pc,
+    }
+}
+
+#[inline(always)]
+fn is_in(points: &Option<Points>, pc: u16) -> bool
+    ensures { result ≡ is_in points.now pc }
+{
+    match points {
+        None => true,
+        Some(points) => points.has(pc),
     }
 }
 
@@ -57,6 +73,17 @@ impl Choice {
     ) -> bool
         ensures { result ≡ is_chosen self.now before tick pc watched }
     {
-        self.from <= tick && is_at(self.at, pc) && has_changed(self.watch, before, watched)
+        self.from <= tick
+            && is_at(self.at, pc)
+            && is_in(&self.points, pc)
+            && has_changed(self.watch, before, watched)
+    }
+
+    /// Whether a start at this tick is counted.
+    #[inline(always)]
+    pub(crate) fn counts_at(&self, tick: u64) -> bool
+        ensures { result ≡ is_counted self.now tick }
+    {
+        self.counts && self.from <= tick
     }
 }

@@ -1,5 +1,6 @@
 //! Laws of the runs of which listings tell.
 ghost use Rattle.follow.specs.Steps.{RunIsFollowed};
+ghost use Rattle.follow.specs.Adding.{CountsAddUp};
 ghost use Rattle.follow.specs.Reference.{HostListingIsReference, ParaListingIsReference};
 
 use crate::seen::Seen;
@@ -26,3 +27,9 @@ pub fn para_listing_is_reference<H: Party, P: Seen>()
 {
     reference_is_replayed::<H, Watcher<P>>();
 }
+
+/// What is counted of the starts of a replay adds up: the starts to those that a listing without a filter chooses, and the ticks to the time from the
+/// first of them to the end.
+pub fn counts_add_up<M: Seen>()
+    ensures { CountsAddUp M.steps M.sights }
+{}

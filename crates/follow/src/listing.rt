@@ -17,12 +17,14 @@ use thiserror::Error;
 use tube_party::{Doing, MOST, replay};
 use tube_trace::Entry;
 
-/// A listing: a line for each of the first 1,048,576 chosen starts, how many lines that are, and how many starts are chosen.
+/// A listing: a line for each of the first 1,048,576 chosen starts, how many lines that are, how many starts are chosen, and what is counted of the
+/// starts of each address, if it is asked for.
 #[derive(Drop)]
 pub struct Listing {
     pub text: Vec<u8>,
     pub listed: u64,
     pub chosen: u64,
+    pub counts: Option<Vec<u8>>,
 }
 
 /// Why there is no listing.
@@ -66,7 +68,7 @@ pub fn list<M: Seen>(
     let (watcher, place) = replay(watcher, side, trace, n);
     match place {
         Some((line, doing)) => Err(FollowError::Differs { line, doing }),
-        None => match watcher.notes.finish() {
+        None => match watcher.notes.finish(n) {
             Some(listing) => Ok(listing),
             None => Err(FollowError::NoMemory),
         },

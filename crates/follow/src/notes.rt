@@ -1,17 +1,23 @@
-//! What is kept of the starts so far: the lines of those that are chosen.
-ghost use Rattle.std.specs.Prelude.{◌≡◌, ◌+◌, ◌++◌, ◌≤◌, ◌<◌, ◌^◌, [], ◌∷◌, nat_lt, if◌then◌else◌, false, true, ℕ, length, Option, None, Some, IfSome};
-ghost use Rattle.follow.specs.Listing.{start_line, listing_of_chosen};
+//! What is kept of the starts so far: the lines of those that are chosen, and what is counted of all.
+ghost use Rattle.std.specs.Prelude.{◌≡◌, ◌+◌, ◌++◌, ◌≤◌, ◌<◌, ◌^◌, [], ◌∷◌, nat_lt, if◌then◌else◌, false, true, ℕ, length, Option, None, Some, IfSome, IfOk, List, option_map, ◌&&◌, is_none};
+ghost use Rattle.follow.specs.Listing.{start_line};
+ghost use Rattle.follow.specs.Counts.{is_counted};
+ghost use Rattle.follow.specs.Start.{StartState};
+ghost use Rattle.follow.specs.CodeTally.{IsTallied, tally_seen, none_tallied, text_if};
+ghost use Rattle.follow.specs.View.{items};
 ghost use Rattle.follow.specs.CodeStart.{start_seen, code_seen};
-ghost use Rattle.follow.specs.CodeNotes.{IsKept, LeavesKept, kept_of, none_kept, keep};
+ghost use Rattle.follow.specs.CodeNotes.{IsKept, LeavesKept, kept_of, none_kept, keep, with_if, listing_noted};
 ghost use Rattle.std.proofs.Props.{props};
 
 use crate::choice::Choice;
 use crate::line::push_line;
 use crate::listing::Listing;
 use crate::start::Start;
+use crate::tally::Tally;
 use crate::trail::Trail;
+use beeb_bits::Tick;
 use op_table::Part;
-use std::alloc::Global;
+use std::alloc::{AllocError, Global};
 use tube_machine::Passing;
 
 /// The most lines of a listing.
@@ -31,7 +37,53 @@ pub(crate) struct Notes {
     pub(crate) before: Option<Option<u8>>,
     // The chosen starts.
     pub(crate) trail: Trail,
+    // What is counted, if it is asked for and memory was not short.
+    tally: Option<Tally>,
+    // The counted starts.
+    pub(crate) counted: Trail,
     ghost kept: { IsKept part trail.starts text.items is_short chosen } by { Prim.hlevel props },
+    ghost tallied: { is_short ≡ false → IsTallied choice.counts tally counted.starts } by { Prim.hlevel props },
+}
+
+// A table for what is counted, if it is asked for and there is memory.
+fn tally_if(alloc: Global, counts: bool) -> Option<Tally>
+    ensures { IfSome result (λ t. tally_seen t ≡ none_tallied) }
+{
+    if !counts {
+        return None;
+    }
+    match Tally::new(alloc) {
+        Ok(tally) => Some(tally),
+        Err(_) => None,
+    }
+}
+
+// A table is asked for, and there was no memory for it.
+fn is_wanting(counts: bool, tally: &Option<Tally>) -> bool
+    ensures { result ≡ (counts && is_none tally.now) }
+{
+    counts && tally.is_none()
+}
+
+// The text of what is counted, if it is asked for.
+fn text_if(
+    alloc: Global,
+    counts: bool,
+    tally: Option<Tally>,
+    n: Tick,
+) -> Result<Option<Vec<u8>>, AllocError>
+    ensures { (starts : List StartState) → IsTallied counts tally starts → IfOk result (λ text. option_map items text ≡ text_if counts n.0 starts) }
+{
+    if !counts {
+        return Ok(None);
+    }
+    match tally {
+        None => Ok(None),
+        Some(tally) => match tally.text(alloc, n.0) {
+            Ok(text) => Ok(Some(text)),
+            Err(error) => Err(error),
+        },
+    }
 }
 
 // Appends the line of a chosen start, if fewer than the most stand there and memory was not short. Whether it is short.
@@ -63,17 +115,39 @@ impl Notes {
     pub(crate) fn new(alloc: Global, part: Part, choice: Choice) -> Notes
         ensures part { result.part ≡ part }
         ensures choice { result.choice ≡ choice }
-        ensures none { kept_of result.trail.starts result.before ≡ none_kept }
+        ensures none { kept_of result.trail.starts result.before result.counted.starts ≡ none_kept }
     {
+        let tally = tally_if(alloc, choice.counts);
+        let is_short = is_wanting(choice.counts, &tally);
         Notes {
             alloc,
             part,
             choice,
             text: Vec::new(alloc),
-            is_short: false,
+            is_short,
             chosen: 0,
             before: None,
             trail: Trail::new(),
+            tally,
+            counted: Trail::new(),
+        }
+    }
+
+    // Counts a start, if it is to be counted.
+    #[inline(always)]
+    fn count(&mut self, start: &Start)
+        ensures counted { self.new.counted.starts ≡ with_if (is_counted self.old.choice (start.now).tick) self.old.counted.starts (start_seen start.now) }
+        ensures trail { self.new.trail.starts ≡ self.old.trail.starts }
+        ensures before { self.new.before ≡ self.old.before }
+        ensures part { self.new.part ≡ self.old.part }
+        ensures choice { self.new.choice ≡ self.old.choice }
+    {
+        if !self.choice.counts_at(start.tick) {
+            return;
+        }
+        self.counted = self.counted.after(start);
+        if let Some(tally) = &mut self.tally {
+            tally.note(start);
         }
     }
 
@@ -81,12 +155,13 @@ impl Notes {
     pub(crate) fn note(&mut self, start: &Start)
         requires within { (start.now.regs).pc + length (code_seen start.now) ≤ 65536 }
         requires few { length self.old.trail.starts < 2 ^ 60 }
-        ensures kept { let old = kept_of self.old.trail.starts self.old.before in
-            kept_of self.new.trail.starts self.new.before ≡ keep self.old.choice old (start_seen start.now) }
+        ensures kept { let old = kept_of self.old.trail.starts self.old.before self.old.counted.starts in
+            kept_of self.new.trail.starts self.new.before self.new.counted.starts ≡ keep self.old.choice old (start_seen start.now) }
         ensures more { length self.new.trail.starts ≤ length self.old.trail.starts + 1 }
         ensures part { self.new.part ≡ self.old.part }
         ensures choice { self.new.choice ≡ self.old.choice }
     {
+        self.count(start);
         let is_chosen = self
             .choice
             .chooses(self.before, start.tick, start.regs.pc, start.watched);
@@ -106,41 +181,55 @@ impl Notes {
         self.chosen += 1;
     }
 
-    /// Starts from tick `now` on that may be passed over: they are not chosen, and leave what is kept. None are known before the first start, nor
-    /// where all are chosen.
+    /// Starts from tick `now` on that may be passed over: they are neither chosen nor counted, and leave what is kept. None are known before the first start, nor
+    /// where all are chosen or counted.
     #[inline(always)]
     pub(crate) fn passing(&self, now: u64) -> Option<Passing>
         ensures leaves { IfSome result (λ passing. LeavesKept self.now.choice self.now.before passing) }
-        ensures same { (at : ℕ) (byte : Option ℕ) → self.now.choice.watch ≡ Some at → self.now.before ≡ Some byte →
+        ensures same { (at : ℕ) (byte : Option ℕ) → self.now.choice.counts ≡ false → self.now.choice.watch ≡ Some at → self.now.before ≡ Some byte →
             result ≡ Some (Passing.Same at byte) }
         ensures before { let choice = self.now.choice in
             choice.watch ≡ None → now < choice.from → self.now.before ≡ Some None → result ≡ Some (Passing.Before choice.from) }
         ensures elsewhere { let choice = self.now.choice in
-            (at : ℕ) → choice.watch ≡ None → choice.from ≤ now → choice.at ≡ Some at → self.now.before ≡ Some None →
+            (at : ℕ) → choice.counts ≡ false → choice.watch ≡ None → choice.from ≤ now → choice.at ≡ Some at → self.now.before ≡ Some None →
             result ≡ Some (Passing.Elsewhere at) }
     {
         let Some(byte) = self.before else {
             return None;
         };
         match (self.choice.watch, self.choice.at, byte) {
-            (Some(watch), _, _) => Some(Passing::Same(watch, byte)),
             (None, _, None) if now < self.choice.from => Some(Passing::Before(self.choice.from)),
+            _ if self.choice.counts => None,
+            (Some(watch), _, _) => Some(Passing::Same(watch, byte)),
             (None, Some(at), None) => Some(Passing::Elsewhere(at)),
             _ => None,
         }
     }
 
     /// The listing, if memory was not short.
-    pub(crate) fn finish(self) -> Option<Listing>
-        ensures { IfSome result (λ l. listing_seen l ≡ listing_of_chosen self.part self.trail.starts) }
+    pub(crate) fn finish(self, n: Tick) -> Option<Listing>
+        ensures { IfSome result (λ l. listing_seen l ≡ listing_noted self.part self.choice n.0 self.trail.starts self.counted.starts) }
     {
         if self.is_short {
             return None;
         }
+        let Notes {
+            alloc,
+            text,
+            chosen,
+            tally,
+            choice,
+            ..
+        } = self;
+        let counts = match text_if(alloc, choice.counts, tally, n) {
+            Ok(counts) => counts,
+            Err(_) => return None,
+        };
         Some(Listing {
-            text: self.text,
-            listed: self.chosen.min(MOST_LINES),
-            chosen: self.chosen,
+            text,
+            listed: chosen.min(MOST_LINES),
+            chosen,
+            counts,
         })
     }
 }

@@ -27,8 +27,8 @@ impl<M: Seen> Watcher<M> {
     fn pass_over(&mut self, until: Tick, lines: &Lines, sure: Tick)
         requires { until.0 ≤ MOST }
         ensures { let moves = watched_moves M.steps M.sights in
-            let old_kept = kept_of self.old.notes.trail.starts self.old.notes.before in
-            let new_kept = kept_of self.new.notes.trail.starts self.new.notes.before in
+            let old_kept = kept_of self.old.notes.trail.starts self.old.notes.before self.old.notes.counted.starts in
+            let new_kept = kept_of self.new.notes.trail.starts self.new.notes.before self.new.notes.counted.starts in
             let old = watched_of (M.inside self.old.machine) (order self.old.notes.part self.old.notes.choice) old_kept in
             let new = watched_of (M.inside self.new.machine) (order self.new.notes.part self.new.notes.choice) new_kept in
             (k : ℕ) × Looks moves until.0 (shown_lines lines.now sure.0) k old new }
@@ -45,7 +45,7 @@ impl<M: Seen> Party for Watcher<M> {
 
     ghost State = { Watched M.Inside };
 
-    ghost state = { λ w. watched_of (M.inside w.machine) (order w.notes.part w.notes.choice) (kept_of w.notes.trail.starts w.notes.before) };
+    ghost state = { λ w. watched_of (M.inside w.machine) (order w.notes.part w.notes.choice) (kept_of w.notes.trail.starts w.notes.before w.notes.counted.starts) };
 
     ghost moves = { watched_moves M.steps M.sights };
 

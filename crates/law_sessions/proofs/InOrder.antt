@@ -24,6 +24,9 @@ use Rattle.tube_trace.specs.Trace.{trace}
 use Rattle.tube_trace.specs.FirstWrong.{wrong}
 use Rattle.tube_party.specs.declared.Doing.{Doing}
 use Rattle.tube_party.specs.Reference.{reference}
+use Rattle.follow.specs.declared.PointsError.{PointsError}
+use Rattle.follow.specs.declared.PointsError.TheVariants as points_errors
+use Rattle.follow.specs.Points.{points}
 use Rattle.follow.specs.Machines.{host_sight, para_sight}
 use Rattle.follow.specs.Listing.{replay_listing}
 use Rattle.host_mach.specs.State as host
@@ -46,7 +49,7 @@ use Rattle.cmd_stages.specs.Plan.{Verdict, Want, Plan, read_all, within, verdict
 use Rattle.cmd_stages.specs.Promise.{World, CarriesOut, EndsAs, IsReached, read_names, names, ending_of}
 use Rattle.cmd_stages.proofs.EndLemmas.{rose_not_stayed, thread_not_stayed}
 use Rattle.cmd_status.specs.declared.status.Status.{Status}
-use Rattle.cmd_status.specs.declared.status.Status.TheVariants.{Done, Usage, ReadFault, TooLong, BadImage, BadScript, BadTrace, BadSource, BadState, WriteFault, NoThread, NoMemory, Wrong, Differs}
+use Rattle.cmd_status.specs.declared.status.Status.TheVariants.{Done, Usage, ReadFault, TooLong, BadImage, BadScript, BadPoints, BadTrace, BadSource, BadState, WriteFault, NoThread, NoMemory, Wrong, Differs}
 use Rattle.cmd_status.specs.declared.status.Ending.{Ending}
 use Rattle.cmd_status.specs.declared.status.Ending.TheVariants as endings
 use Rattle.cmd_status.specs.declared.status.Cause.{Cause}
@@ -67,7 +70,7 @@ use Rattle.cmd_replayed.specs.Made as machines
 use Rattle.cmd_replayed.specs.Made.{host_of, para_of}
 use Rattle.cmd_replayed.specs.Replay.{verdict_of_place, unless_wrong}
 use Rattle.cmd_replay.specs.Replay.{side_count, replayed, replay_after}
-use Rattle.cmd_follow.specs.Follow.{listed_verdict, listed_by, follow_after}
+use Rattle.cmd_follow.specs.Follow.{listed_verdict, listed_by, follow_after, points_read, with_points, chosen_with}
 use Rattle.cmd_pair.specs.Solo.{solo_after}
 use Rattle.cmd_session.specs.Session.{state_of, state_refusal, session_ended, session_after}
 use Rattle.cmd_tools.specs.Asm as tools
@@ -77,7 +80,7 @@ use Rattle.follow.specs.declared.Choice.{Choice}
 use Rattle.cmd_top.specs.Plans.{plan, after, choice_of}
 use Rattle.cmd_top.specs.Commands.{EndsWith}
 use Rattle.law_sessions.specs.Refusals.{first_of, unread_by, unread, misfit, bad_trace, other_clock, bad_script_by, bad_script, bad_state, bad_source, wrong_by}
-use Rattle.law_sessions.specs.Refusals.{differs_at, held, entries_in, entries_at, events_by, events_in, host_at, trace_causes, entry_causes, replay_causes, pair_causes}
+use Rattle.law_sessions.specs.Refusals.{differs_at, held, entries_in, entries_at, events_by, events_in, host_at, trace_causes, entry_causes, made_causes, replay_causes, follow_causes, bad_points_by, bad_points, pair_causes}
 use Rattle.law_sessions.specs.Refusals.{session_causes, read_causes, causes, NoFault, ComesToWriting, RefusesInOrder, RefusalsInOrder}
 
 -- a command that comes to this tells the first of these causes
@@ -162,6 +165,19 @@ module _ (g : List Event → Result (Verdict Ending) (Refusal Cause)) (list : Li
   scripted None says = says
   scripted (Some text) says = scripted_by (script text) says
 
+-- ---- the addresses of a file
+
+module _ (choice : Choice) (g : Choice → Result (Verdict Ending) (Refusal Cause)) (list : List (Option Status)) (says : (chosen : Choice) → Says (g chosen) list) where
+  pointed_by : (p : Result (List Bool) PointsError) → Says ((points_read p >>= λ marked. Ok (with_points choice marked)) >>= g) (bad_points_by p ∷ list)
+  pointed_by (Ok marked) = says (with_points choice (Some marked))
+  pointed_by (Err (points_errors.BadLine line)) = refl
+  pointed_by p = refl
+
+  pointed : (bytes : Option (List ℕ)) → Says (chosen_with choice bytes >>= g) (bad_points bytes ∷ list)
+  unfolding chosen_with
+  pointed None = says (with_points choice None)
+  pointed (Some text) = pointed_by (points text)
+
 -- ---- a wrong answer and a difference
 
 ends_by : {S : Type 0} (w : Option (ℕ × ℕ)) (place : Option (ℕ × Option Doing)) (done : S → Verdict Ending) (s : S) → (done s).ending ≡ endings.Done →
@@ -179,24 +195,20 @@ bound (Err e) f g = refl
 
 module _ (lengths : LengthsComeFirst) where
   -- the host against its entries, whatever comes of them
-  host_told : (set : Setup) (i : Inputs) (place : Option (ℕ × Option Doing)) (g : List Entry × host.HostState → Result (Verdict Ending) (Refusal Cause)) →
-      Says (g (entries_at set.tube i.trace, host.with_tube set.tube (host_at set i))) (entry_causes (entries_at set.tube i.trace) place) →
-      Says (host_of set i >>= g)
-      (map misfit (host_images set.kinds i) ++ (trace_causes set.tube set.clock i.trace ++ bad_script i.keys ∷ entry_causes (entries_at set.tube i.trace) place))
+  host_told : (set : Setup) (i : Inputs) (last : List (Option Status)) (g : List Entry × host.HostState → Result (Verdict Ending) (Refusal Cause)) →
+      Says (g (entries_at set.tube i.trace, host.with_tube set.tube (host_at set i))) last → Says (host_of set i >>= g) (made_causes set Host i last)
   unfolding host_of
-  host_told set i place g says =
-      let last : List (Option Status) = entry_causes (entries_at set.tube i.trace) place in
+  host_told set i last g says =
       simp (bound, lengths.host)
       (all_fit _ (trace_causes set.tube set.clock i.trace ++ bad_script i.keys ∷ last) (host_images set.kinds i)
       (host_trace set.clock _ (bad_script i.keys ∷ last) set.tube i.trace (scripted _ last i.keys says)))
 
   -- the second processor against its entries
-  para_told : (clock : Clock) (i : Inputs) (place : Option (ℕ × Option Doing)) (g : List Entry × para.ParaState → Result (Verdict Ending) (Refusal Cause)) →
-      Says (g (entries_at true i.trace, para.power_on clock i.tube)) (entry_causes (entries_at true i.trace) place) →
-      Says (para_of clock i >>= g) (map misfit (para_images i) ++ (trace_causes true clock i.trace ++ entry_causes (entries_at true i.trace) place))
+  para_told : (clock : Clock) (i : Inputs) (last : List (Option Status)) (g : List Entry × para.ParaState → Result (Verdict Ending) (Refusal Cause)) →
+      Says (g (entries_at true i.trace, para.power_on clock i.tube)) last →
+      Says (para_of clock i >>= g) (map misfit (para_images i) ++ (trace_causes true clock i.trace ++ last))
   unfolding para_of
-  para_told clock i place g says =
-      let last : List (Option Status) = entry_causes (entries_at true i.trace) place in
+  para_told clock i last g says =
       simp (bound, lengths.para) (all_fit _ (trace_causes true clock i.trace ++ last) (para_images i) (para_trace clock _ last i.trace says))
 
   -- both machines
@@ -214,14 +226,16 @@ module _ (lengths : LengthsComeFirst) where
   replay_told set Para ticks names i =
       para_told set.clock i _ _ (ends_by _ _ (λ s. machine_verdict (para_left set.clock ticks (side_count Para ticks (entries_at true i.trace)) names s)) _ refl)
 
-  follow_told : (set : Setup) (side : Side) (ticks : ℕ) (choice : Choice) (out : List ℕ) (i : Inputs) → Says (follow_after set side ticks choice out i) (replay_causes set side ticks i)
+  follow_told : (set : Setup) (side : Side) (ticks : ℕ) (choice : Choice) (out : List ℕ) (i : Inputs) → Says (follow_after set side ticks choice out i) (follow_causes set side ticks i)
   unfolding follow_after listed_by
   follow_told set Host ticks choice out i =
       let start : host.HostState = host.with_tube set.tube (host_at set i) in
-      host_told set i _ _ (ends_by _ _ (listed_verdict out) (replay_listing host_moves host_sight Nmos Host (entries_at set.tube i.trace) ticks choice start) refl)
+      host_told set i _ _ (pointed choice _ _ (λ chosen.
+      ends_by _ _ (listed_verdict out) (replay_listing host_moves host_sight Nmos Host (entries_at set.tube i.trace) ticks chosen start) refl) i.points)
   follow_told set Para ticks choice out i =
       let start : para.ParaState = para.power_on set.clock i.tube in
-      para_told set.clock i _ _ (ends_by _ _ (listed_verdict out) (replay_listing para_moves para_sight Cmos Para (entries_at true i.trace) ticks choice start) refl)
+      para_told set.clock i _ _ (pointed choice _ _ (λ chosen.
+      ends_by _ _ (listed_verdict out) (replay_listing para_moves para_sight Cmos Para (entries_at true i.trace) ticks chosen start) refl) i.points)
 
   solo_told : (set : Setup) (ticks keep : ℕ) (names : Names) (i : Inputs) → Says (solo_after set ticks keep names i) (pair_causes set i)
   unfolding solo_after kept_verdict machine_verdict
@@ -292,6 +306,7 @@ status_by (Some (Ok (endings.Wrong line byte))) = Wrong line byte
 status_by (Some (Ok (endings.Differs line doing))) = Differs line doing
 status_by (Some (Err (stops.Refused (causes_of.BadImage which len)))) = BadImage which len
 status_by (Some (Err (stops.Refused (causes_of.BadScript line kind)))) = BadScript line kind
+status_by (Some (Err (stops.Refused (causes_of.BadPoints line kind)))) = BadPoints line kind
 status_by (Some (Err (stops.Refused (causes_of.BadTrace line kind)))) = BadTrace line kind
 status_by (Some (Err (stops.Refused (causes_of.BadSource line kind)))) = BadSource line kind
 status_by (Some (Err (stops.Refused (causes_of.BadState at)))) = BadState at

@@ -21,6 +21,9 @@ use Rattle.tube_trace.specs.Trace.{trace}
 use Rattle.tube_trace.specs.FirstWrong.{wrong}
 use Rattle.tube_party.specs.declared.Doing.{Doing}
 use Rattle.tube_party.specs.Replay.{replay_of}
+use Rattle.follow.specs.declared.PointsError.{PointsError}
+use Rattle.follow.specs.declared.PointsError.TheVariants as points_errors
+use Rattle.follow.specs.Points.{points}
 use Rattle.host_mach.specs.State as host
 use Rattle.host_mach.specs.Step.{host_moves}
 use Rattle.para_mach.specs.State as para
@@ -35,7 +38,7 @@ use Rattle.cmd_words.specs.Reads.{reads}
 use Rattle.cmd_stages.specs.Plan.{Verdict, Want, verdict}
 use Rattle.cmd_stages.specs.Promise.{World, HasCrewStayed, read_names, names}
 use Rattle.cmd_status.specs.declared.status.Status.{Status}
-use Rattle.cmd_status.specs.declared.status.Status.TheVariants.{Done, Usage, ReadFault, TooLong, BadImage, BadScript, BadTrace, BadSource, BadState, WriteFault, NoThread, NoMemory, Wrong, Differs}
+use Rattle.cmd_status.specs.declared.status.Status.TheVariants.{Done, Usage, ReadFault, TooLong, BadImage, BadScript, BadPoints, BadTrace, BadSource, BadState, WriteFault, NoThread, NoMemory, Wrong, Differs}
 use Rattle.cmd_status.specs.declared.status.Ending.{Ending}
 use Rattle.cmd_status.specs.declared.status.Which.TheVariants.{Image}
 use Rattle.cmd_status.specs.Status.{number}
@@ -98,6 +101,17 @@ bad_script_by (Err script_errors.NoMemory) = Some NoMemory
 abbrev pub bad_script : Option (List ℕ) → Option Status
 bad_script None = None
 bad_script (Some text) = bad_script_by (script text)
+
+-- a line of the file of addresses is outside its form, or does not rise
+abbrev pub bad_points_by : Result (List Bool) PointsError → Option Status
+bad_points_by (Ok marked) = None
+bad_points_by (Err (points_errors.BadLine line)) = Some (BadPoints line 1)
+bad_points_by (Err (points_errors.BadOrder line)) = Some (BadPoints line 2)
+bad_points_by (Err points_errors.NoMemory) = Some NoMemory
+
+abbrev pub bad_points : Option (List ℕ) → Option Status
+bad_points None = None
+bad_points (Some text) = bad_points_by (points text)
 
 -- a field of the session file is outside its set
 abbrev pub bad_state : Result Session StateError → Option Status
@@ -170,17 +184,29 @@ trace_causes false clock bytes = traced bytes ∷ []
 abbrev pub entry_causes : List Entry → Option (ℕ × Option Doing) → List (Option Status)
 entry_causes entries place = wrong_by (wrong entries) ∷ differs_at place ∷ []
 
--- a replay: lengths of images, the trace, the script, and what the machine does
-abbrev pub replay_causes : Setup → Side → ℕ → Inputs → List (Option Status)
-replay_causes set Host ticks i =
-    let entries : List Entry = entries_at set.tube i.trace in
+-- a machine and its trace: lengths of images, the trace, and the script, before others
+abbrev pub made_causes : Setup → Side → Inputs → List (Option Status) → List (Option Status)
+made_causes set Host i others =
     map misfit (host_images set.kinds i)
     ++ (trace_causes set.tube set.clock i.trace
-    ++ bad_script i.keys ∷ entry_causes entries (replay_of host_moves Host entries ticks (host.with_tube set.tube (host_at set i))).place)
-replay_causes set Para ticks i =
+    ++ bad_script i.keys ∷ others)
+made_causes set Para i others = map misfit (para_images i) ++ (trace_causes true set.clock i.trace ++ others)
+
+-- what the machine does
+abbrev pub replayed_causes : Setup → Side → ℕ → Inputs → List (Option Status)
+replayed_causes set Host ticks i =
+    let entries : List Entry = entries_at set.tube i.trace in
+    entry_causes entries (replay_of host_moves Host entries ticks (host.with_tube set.tube (host_at set i))).place
+replayed_causes set Para ticks i =
     let entries : List Entry = entries_at true i.trace in
-    map misfit (para_images i)
-    ++ (trace_causes true set.clock i.trace ++ entry_causes entries (replay_of para_moves Para entries ticks (para.power_on set.clock i.tube)).place)
+    entry_causes entries (replay_of para_moves Para entries ticks (para.power_on set.clock i.tube)).place
+
+abbrev pub replay_causes : Setup → Side → ℕ → Inputs → List (Option Status)
+replay_causes set side ticks i = made_causes set side i (replayed_causes set side ticks i)
+
+-- a listing: the file of addresses comes before what the machine does
+abbrev pub follow_causes : Setup → Side → ℕ → Inputs → List (Option Status)
+follow_causes set side ticks i = made_causes set side i (bad_points i.points ∷ replayed_causes set side ticks i)
 
 -- a run of both machines: lengths of images, then the script
 abbrev pub pair_causes : Setup → Inputs → List (Option Status)
@@ -205,7 +231,7 @@ read_causes plugs (replay side name ticks out given) i = replay_causes (setup_of
 read_causes plugs (solo ticks out keep given) i = pair_causes (setup_of given plugs) i
 read_causes plugs (run ticks out keep given) i = pair_causes (setup_of given plugs) i
 read_causes plugs (resume state ticks out keep given) i = bad_state (sessions.file i.state) ∷ session_causes plugs ticks (sessions.file i.state)
-read_causes plugs (follow side name ticks out given) i = replay_causes (setup_of given plugs) side ticks i
+read_causes plugs (follow side name ticks out given) i = follow_causes (setup_of given plugs) side ticks i
 read_causes plugs (gen seed) i = []
 
 -- the causes of the words that spell a command, or none: the files in the order in which they are wanted, and then what is in them

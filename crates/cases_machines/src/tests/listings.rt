@@ -158,6 +158,16 @@ fn address(digits: &str) -> Option<u16> {
     u16::from_str_radix(digits, 16).ok()
 }
 
+fn choice_of(at: Option<u16>, watch: Option<u16>) -> Choice {
+    Choice {
+        from: 0,
+        at,
+        points: None,
+        watch,
+        counts: false,
+    }
+}
+
 // The program, the ticks and what is chosen.
 fn head_of(row: &str) -> Option<(&str, u16, Choice)> {
     let mut words = row.split(' ');
@@ -165,7 +175,7 @@ fn head_of(row: &str) -> Option<(&str, u16, Choice)> {
     let ticks = words.next()?.parse().ok()?;
     let at = address(words.next()?);
     let watch = address(words.next()?);
-    Some((name, ticks, Choice { from: 0, at, watch }))
+    Some((name, ticks, choice_of(at, watch)))
 }
 
 // A line is a program, the ticks, the address of `--at` and that of `--watch` or `-`; behind `@` what is told; and behind another the trace.
@@ -313,11 +323,7 @@ fn a_byte_is_watched_against_a_trace_of_both(rt: HostRuntime) -> Result<(), Fail
     }
     trace.push_str(LAST_LINES)?;
     let machine = host(rt.alloc(), "letters")?;
-    let choice = Choice {
-        from: 0,
-        at: None,
-        watch: Some(0x70),
-    };
+    let choice = choice_of(None, Some(0x70));
     let want = "1 of 1;00000003CC C00C A=48 X=00 Y=00 S=FD P=24 INX;";
     let right = is_right(
         rt.alloc(),
@@ -353,11 +359,7 @@ fn first_bad_line(text: &[u8]) -> Option<usize> {
 #[test]
 fn a_million_lines_are_written_and_the_next_is_counted(rt: HostRuntime) -> Result<(), Fail> {
     let machine = para(rt.alloc(), "loop")?;
-    let choice = Choice {
-        from: 0,
-        at: None,
-        watch: None,
-    };
+    let choice = choice_of(None, None);
     let n = Tick(6_291_471);
     let listing = list(rt.alloc(), machine, Part::Cmos, Side::Para, &[], n, choice)?;
     assert_eq!(rt; listing.listed, 1_048_576);

@@ -521,6 +521,7 @@ pub(crate) fn told(alloc: Global, status: &Status, said: &[u8]) -> Result<Vec<u8
         told.extend_from_slice(&text)?;
     }
     if let Status::BadScript { kind, .. }
+    | Status::BadPoints { kind, .. }
     | Status::BadTrace { kind, .. }
     | Status::BadSource { kind, .. } = status
     {

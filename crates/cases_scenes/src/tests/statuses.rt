@@ -30,6 +30,7 @@ const TEXTS: &str = "\
 4 bad script 258
 6 no thread
 4 bad state 18877
+4 bad points 65536
 ";
 
 fn image_status(at: usize) -> Status {
@@ -82,6 +83,10 @@ fn status(alloc: Global, at: usize) -> Result<Status, AllocError> {
         17 => Status::BadScript { line: 258, kind: 3 },
         18 => Status::NoThread,
         19 => Status::BadState { at: 18_877 },
+        20 => Status::BadPoints {
+            line: 65_536,
+            kind: 2,
+        },
         _ => image_status(at),
     })
 }

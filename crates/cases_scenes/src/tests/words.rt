@@ -116,7 +116,7 @@ do asks follow host n 7 o --os rom --at C000 --watch 0070, follow para n 7 o --w
 ! follow both n 7 o --os rom
 ! follow host n 7 --os rom
 ! follow host n 7 o more --os rom
-do follow-not --wav w, --save s, --keep 7, --at c000, --at C00, --at 0C000, --at, --at C000 --at C000, --watch 70
+do follow-not --wav w, --save s, --keep 7, --at c000, --at C00, --at 0C000, --at, --at C000 --at C000, --points, --points p --points p, --points p --at C000, --points -p, --counts --counts, --watch 70
 do host-not --at C000
 do solo-not --watch 0070
 # Words of the demonstration.

@@ -34,7 +34,7 @@ returns-in-Some-finish-clause-follows g c =
 pub returns-in-Some-finish-clause-listing : goal.returns-in-Some-finish-clause-listing
 returns-in-Some-finish-clause-listing g c =
     c.in-Some-finish.ensures
-    ∙ listing_told g.met.M.Seen.same g.M.Seen.sights _ _ _ c.args.machine c.new.ensures.part c.new.ensures.choice c.new.ensures.none c.replay-watcher.ensures.machine
+    ∙ listing_told g.met.M.Seen.same g.M.Seen.sights _ _ _ c.args.machine c.requires.ticks c.new.ensures.part c.new.ensures.choice c.new.ensures.none c.replay-watcher.ensures.machine
 
 pub returns-clause-differs : goal.returns-clause-differs
 returns-clause-differs g c =

@@ -7,11 +7,11 @@ use Rattle.follow.proofs.watcher.Watcher.pass_over.Goals as goal
 pub invariant_of-self : goal.invariant_of-self
 invariant_of-self g c =
     let notes = c.args.self.now.notes in
-    let risen = passed_rise g.met.M.Seen.seen (order notes.part notes.choice) (kept_of notes.trail.starts notes.before) c.in-Some.passing
+    let risen = passed_rise g.met.M.Seen.seen (order notes.part notes.choice) (kept_of notes.trail.starts notes.before notes.counted.starts) c.in-Some.passing
     c.in-Some.ensures.leaves _ _ _ c.pass.ensures.0 _ _ c.pass.ensures.1 in
     record { few = omega (arith, c.args.self.now.few, risen) }
 
 pub returns-in-Some : goal.returns-in-Some
 returns-in-Some g c =
     let notes = c.args.self.now.notes in
-    passed g.met.M.Seen.seen (order notes.part notes.choice) (kept_of notes.trail.starts notes.before) c.in-Some.passing c.in-Some.ensures.leaves _ _ _ c.pass.ensures.0 _ _ c.pass.ensures.1
+    passed g.met.M.Seen.seen (order notes.part notes.choice) (kept_of notes.trail.starts notes.before notes.counted.starts) c.in-Some.passing c.in-Some.ensures.leaves _ _ _ c.pass.ensures.0 _ _ c.pass.ensures.1

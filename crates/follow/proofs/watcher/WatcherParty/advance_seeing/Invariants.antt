@@ -8,8 +8,8 @@ use Rattle.follow.proofs.watcher.WatcherParty.advance_seeing.Given as goal
 abbrev pub invariant-loop-tick : goal.invariant-loop-tick
 invariant-loop-tick g l =
     (k : ℕ) × Looks (watched_moves g.M.Seen.steps g.M.Seen.sights) l.until.0 (shown_lines l.lines l.sure.0) k
-    (watched_of (g.M.Seen.inside l.fn.self.machine) (order l.fn.self.notes.part l.fn.self.notes.choice) (kept_of l.fn.self.notes.trail.starts l.fn.self.notes.before))
-    (watched_of (g.M.Seen.inside l.self.machine) (order l.self.notes.part l.self.notes.choice) (kept_of l.self.notes.trail.starts l.self.notes.before))
+    (watched_of (g.M.Seen.inside l.fn.self.machine) (order l.fn.self.notes.part l.fn.self.notes.choice) (kept_of l.fn.self.notes.trail.starts l.fn.self.notes.before l.fn.self.notes.counted.starts))
+    (watched_of (g.M.Seen.inside l.self.machine) (order l.self.notes.part l.self.notes.choice) (kept_of l.self.notes.trail.starts l.self.notes.before l.self.notes.counted.starts))
 
 abbrev pub decreases-loop-tick : goal.decreases-loop-tick
 decreases-loop-tick g l = l.until.0 - g.M.Seen.steps.due (g.M.Seen.inside l.self.machine)

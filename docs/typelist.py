@@ -1,8 +1,8 @@
 #!/usr/bin/env python3
 """Makes the list of public types at the end of docs/MAP.md from the sources: the name of each, its room, and the first sentence of its comment.
 
-  docs/types.py make     writes it
-  docs/types.py check    says which types it lacks, or tells otherwise than the sources do, and which rooms of the sheets'
+  docs/typelist.py make     writes it
+  docs/typelist.py check    says which types it lacks, or tells otherwise than the sources do, and which rooms of the sheets'
                          words in docs/DEFINITIONS.md are not there, with status 1
 
 A type is public where its crate's lib.rt lets it out: by `pub mod`, by `pub use`, or as it stands there.
@@ -14,7 +14,7 @@ import sys
 
 TOP = os.path.dirname(os.path.dirname(os.path.realpath(__file__)))
 PAGE = TOP + "/docs/MAP.md"
-BEGIN = "## Public types\n\n<!-- made by docs/types.py -->\n"
+BEGIN = "## Public types\n\n<!-- made by docs/typelist.py -->\n"
 TYPE = re.compile(r"^pub (?:struct|enum|trait|type) (\w+)")
 HEAD = "| Type | Room | What it is |\n|---|---|---|\n"
 
@@ -100,7 +100,7 @@ def main():
         if lost:
             sys.exit(1)
         if wanted != got:
-            sys.exit("types: docs/types.py make writes the list anew")
+            sys.exit("types: docs/typelist.py make writes the list anew")
     else:
         sys.exit(__doc__.strip())
 

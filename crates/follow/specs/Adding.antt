@@ -1,0 +1,38 @@
+-- What is counted adds up: the starts to those that a listing of all chooses, and the ticks to the time from the first of them to the end.
+use Rattle.std.specs.Prelude.{ℕ, zero, suc, ◌≡◌, ◌+◌, ◌-◌, ◌≤◌, ◌<◌, true, List, [], ◌∷◌, length, All, None, ⊤}
+use Rattle.beeb_bits.specs.declared.Side.{Side}
+use Rattle.tube_trace.specs.declared.Entry.{Entry}
+use Rattle.tube_party.specs.Moves.{Moves}
+use Rattle.follow.specs.declared.choice.Choice.{Choice}
+use Rattle.follow.specs.Sight.{Sight}
+use Rattle.follow.specs.Start.{StartState}
+use Rattle.follow.specs.Counts.{counted_of, tick_or, count_at}
+use Rattle.follow.specs.Listing.{chosen_of, run_of, starts_of}
+
+-- the sum over so many addresses from one on, and over all
+abbrev pub sum_from : ℕ → ℕ → (ℕ → ℕ) → ℕ
+sum_from zero pc f = 0
+sum_from (suc k) pc f = f pc + sum_from k (pc + 1) f
+
+unfoldable pub sum_of_all : (ℕ → ℕ) → ℕ
+sum_of_all f = sum_from 65536 0 f
+
+-- PC is an address
+abbrev pub IsPlaced : StartState → Type 0
+IsPlaced s = s.regs.pc < 65536
+
+-- all starts from a tick on are listed, and counted
+abbrev pub all_from : ℕ → Choice
+all_from from = record { from = from; at = None; points = None; watch = None; counts = true }
+
+pub record AddUp (n : ℕ) (starts : List StartState) : Type 0 where
+  pub starts_are : sum_of_all (λ pc. (count_at n pc starts).starts) ≡ length starts
+  pub ticks_are : sum_of_all (λ pc. (count_at n pc starts).ticks) ≡ n - tick_or n starts
+
+-- those that are counted of a run are those that a listing without a filter chooses, and what is counted of them adds up
+pub record CountsAddUp {S : Type 0} (m : Moves S) (sights : S → Sight) : Type 0 where
+  pub same : (side : Side) (trace : List Entry) (n from : ℕ) (s : S) →
+      counted_of (all_from from) (starts_of m sights None (run_of m side trace n s)) ≡ chosen_of (all_from from) (starts_of m sights None (run_of m side trace n s))
+  pub sums : (side : Side) (trace : List Entry) (n from : ℕ) (s : S) →
+      All IsPlaced (counted_of (all_from from) (starts_of m sights None (run_of m side trace n s))) →
+      AddUp n (counted_of (all_from from) (starts_of m sights None (run_of m side trace n s)))

@@ -1,0 +1,64 @@
+"""Conditions of a start: `A=8C and S<10`, `pc outside C000..FFFF`, `(0070)=41`."""
+from __future__ import annotations
+
+import operator
+import re
+from typing import Callable, Dict, List, Tuple
+
+from .faults import Fault
+from .listings import Start
+
+TERM = re.compile(r"\s*(\([^()]+\)|[A-Za-z]+)\s*(<=|>=|!=|==|=|<|>|in\b|outside\b)\s*(\S+)\s*")
+TESTS: Dict[str, Callable[[int, int], bool]] = {
+    "=": operator.eq, "==": operator.eq, "!=": operator.ne, "<": operator.lt, ">": operator.gt,
+    "<=": operator.le, ">=": operator.ge}
+Address = Callable[[str], int]
+# The byte of the memory at an address before a start.
+Byte = Callable[[Start, int], int]
+Condition = Callable[[Start], bool]
+
+
+def value_of(word: str, address: Address) -> int:
+    """A number in hexadecimal digits, or the address of a label."""
+    bare = word.lstrip("&$")
+    return int(bare, 16) if re.fullmatch("[0-9A-Fa-f]{1,4}", bare) else address(word)
+
+
+def range_of(word: str, address: Address) -> Tuple[int, int]:
+    """`AAAA..BBBB`, or one address."""
+    low, dots, high = word.partition("..")
+    found = value_of(low, address), value_of(high if dots else low, address)
+    if found[0] > found[1]:
+        raise Fault(f"{word}: the range is empty")
+    return found
+
+
+def condition(text: str, address: Address, byte: Byte) -> Condition:
+    """The condition of a text; Fault if it is none. Registers are A, X, Y, S, P and PC; a byte
+    of memory is an address in brackets."""
+    terms: List[Condition] = []
+    for part in re.split(r"\band\b|&&", text):
+        match = TERM.fullmatch(part)
+        name = match.group(1).lower() if match else ""
+        if not match or not name.startswith("(") and name not in ("a", "x", "y", "s", "p", "pc"):
+            raise Fault(f"{part.strip()[:40]}: a condition is `A=8C`, `S<10`, `(0070)!=0` or"
+                        " `pc outside C000..FFFF`, with `and` between several")
+        terms.append(_term(match, name, address, byte))
+    return lambda start: all(term(start) for term in terms)
+
+
+def _term(match: "re.Match[str]", name: str, address: Address, byte: Byte) -> Condition:
+    way, word = match.group(2), match.group(3)
+    if name.startswith("("):
+        at = value_of(match.group(1)[1:-1].strip(), address)
+
+        def get(start: Start) -> int:
+            return byte(start, at)
+    else:
+        def get(start: Start) -> int:
+            return int(getattr(start.registers, name))
+    if way in TESTS:
+        test, wanted = TESTS[way], value_of(word, address)
+        return lambda start: test(get(start), wanted)
+    low, high = range_of(word, address)
+    return lambda start: (low <= get(start) <= high) == (way == "in")

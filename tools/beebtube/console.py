@@ -1,0 +1,205 @@
+"""The tool `tools/debug`: its options, and commands from a terminal or standard input."""
+from __future__ import annotations
+
+import contextlib
+import shlex
+import sys
+import time
+from typing import Callable, Dict, Iterator, List, Sequence
+
+from .command import Usage
+from .debugging import WORDS, Debugger
+from .faults import Fault
+from .files import LONGEST
+from .naming import Names
+from .naming import read as naming_read
+from .past import MOST_ACCESSES, SIDES, Past
+from .program import Program
+
+OPTIONS = ("-c", "--against", "--host-labels", "--para-labels")
+# The commands after which a label may stand.
+WITH_LABELS = ("until", "before", "at", "change", "who", "readers", "origin", "memory", "list",
+               "screen")
+
+
+class Asked:
+    """The tool's arguments: those of the run or the session, and its own options."""
+
+    def __init__(self, words: Sequence[str]):
+        self.rest: List[str] = []
+        self.options: Dict[str, List[str]] = {option: [] for option in OPTIONS}
+        left = list(words)
+        while left:
+            word = left.pop(0)
+            if word not in OPTIONS:
+                self.rest.append(word)
+            elif not left:
+                raise Usage(f"{word}: it needs a value")
+            else:
+                self.options[word].append(left.pop(0))
+        if not self.rest:
+            raise Usage("it needs the arguments of `run` or `solo`, those of a host after `host`,"
+                        " or a session file")
+        if len(self.options["--against"]) > 1:
+            raise Usage("--against: given twice")
+
+
+def past_of(program: Program, words: Sequence[str], progress: Callable[[str], None]) -> Past:
+    """The past of the arguments of a run, or of a session file."""
+    if len(words) == 1 and words[0] not in ("run", "solo", "host"):
+        return Past.of_session(program, words[0], progress)
+    return Past.of_words(program, words, progress)
+
+
+class Progress:
+    """How far a command is that takes longer than half a second, on one line of the terminal."""
+
+    def __init__(self) -> None:
+        self.begin()
+
+    def begin(self) -> None:
+        """A command begins."""
+        self._from, self._shown = time.monotonic(), False
+
+    def __call__(self, text: str) -> None:
+        if sys.stderr.isatty() and time.monotonic() - self._from > 0.5:
+            sys.stderr.write(f"\r{text:<40}")
+            sys.stderr.flush()
+            self._shown = True
+
+    def end(self) -> None:
+        """The line is cleared: something else is shown, or the command is done."""
+        if self._shown:
+            sys.stderr.write(f"\r{'':40}\r")
+            sys.stderr.flush()
+            self._shown = False
+
+
+class Clearing:
+    """Standard output, before which the line of a progress is cleared."""
+
+    def __init__(self, progress: Progress):
+        self._progress = progress
+
+    def write(self, text: str) -> int:
+        """Writes a text."""
+        self._progress.end()
+        return sys.stdout.write(text)
+
+    def flush(self) -> None:
+        """Writes what waits."""
+        self._progress.end()
+        sys.stdout.flush()
+
+
+def limit_of(past: Past) -> str:
+    """What of a run cannot be reached; nothing if all can."""
+    if past.end <= past.held:
+        return ""
+    return (f"a session holds {MOST_ACCESSES:,} accesses to the Tube at most, which are those up to"
+            f" tick {past.held}: after it, up to tick {past.end}, there are states, but no"
+            " instructions")
+
+
+def completions(debugger: Debugger, line: str, text: str) -> List[str]:
+    """What may stand in place of the last word of a line: a command, or a label after a command
+    that takes one."""
+    words = line[: len(line) - len(text)].rsplit(";", 1)[-1].split()
+    if not words:
+        return [word + " " for word in WORDS if word.startswith(text)]
+    with contextlib.suppress(Fault):
+        if debugger._word(words[0]) in WITH_LABELS:
+            names = debugger.names[debugger.side].labels.addresses
+            return sorted(name for name in names if name.startswith(text))
+        if debugger._word(words[0]) == "help":
+            return [word for word in WORDS if word.startswith(text)]
+    return []
+
+
+def ask(debugger: Debugger, progress: Progress) -> None:
+    """Commands of a person, line by line, with a history."""
+    with contextlib.suppress(ImportError):
+        import readline
+        readline.set_completer_delims(" \t;")
+        readline.set_completer(lambda text, number: (
+            completions(debugger, readline.get_line_buffer()[: readline.get_endidx()], text)
+            + [None])[number])  # type: ignore[list-item]
+        readline.parse_and_bind("tab: complete")
+    debugger.try_to("where")
+    debugger.forget()
+    while not debugger.ended:
+        progress.end()
+        try:
+            line = input(f"{debugger.side} {debugger.tick}> ")
+        except EOFError:
+            print()
+            return
+        except KeyboardInterrupt:
+            print()
+            continue
+        progress.begin()
+        try:
+            debugger.try_to(line)
+        except KeyboardInterrupt:
+            print()
+
+
+def _words_in(text: str) -> List[str]:
+    try:
+        return shlex.split(text)
+    except ValueError as error:
+        raise Usage(f"--against: {error}") from None
+
+
+def debug(words: Sequence[str]) -> int:
+    """The tool: 0, or 1 if a command of a script was wrong."""
+    asked, program, progress = Asked(words), Program(), Progress()
+    names = {side: Names([naming_read(name) for name in asked.options[f"--{side}-labels"]])
+             for side in SIDES}
+    with contextlib.ExitStack() as stack:
+        pasts = []
+        for given in [asked.rest, *map(_words_in, asked.options["--against"])]:
+            pasts.append(past_of(program, given, progress))
+            stack.callback(pasts[-1].close)
+        for past in pasts:
+            if limit_of(past):
+                sys.stderr.write(f"debug: {limit_of(past)}\n")
+        out = Clearing(progress)
+        debugger = Debugger(pasts[0], names, *pasts[1:], out=out)  # type: ignore[arg-type]
+        return _debugged(asked, debugger, progress)
+
+
+# The lines of standard input, as they come.
+def _given() -> Iterator[str]:
+    if sys.stdin is None:
+        raise Fault("cannot read -")
+    sys.stdin.reconfigure(errors="surrogateescape")  # type: ignore[union-attr]
+    while True:
+        try:
+            line = sys.stdin.readline(LONGEST)
+        except (OSError, ValueError):
+            raise Fault("cannot read -") from None
+        if not line:
+            return
+        if len(line) == LONGEST:
+            raise Fault(f"a line of standard input has {LONGEST:,} letters or more")
+        yield line
+
+
+def _debugged(asked: Asked, debugger: Debugger, progress: Progress) -> int:
+    debugger.compare()
+    progress.end()
+    if asked.options["-c"]:
+        for line in asked.options["-c"]:
+            debugger.try_to(line)
+    elif sys.stdin is not None and sys.stdin.isatty():
+        ask(debugger, progress)
+        return 0
+    else:
+        for line in _given():
+            if line.strip() and not debugger.ended:
+                debugger.try_to(line)
+    debugger.ended = False
+    WORDS["where"].method(debugger)
+    progress.end()
+    return 1 if debugger.wrong else 0

@@ -1,0 +1,306 @@
+"""One side of a run: its states, the starts of its instructions, and the changes of its memory."""
+from __future__ import annotations
+
+import os
+import re
+import threading
+from collections import OrderedDict
+from typing import TYPE_CHECKING, Iterator, List, NamedTuple, NoReturn, Optional, Sequence, Tuple
+
+from .faults import Fault, Refused
+from .listings import Change, Listing, Start
+from .report import Registers
+from .view import View
+
+if TYPE_CHECKING:
+    from .past import Past
+
+# Ticks whose instructions are listed at once, around a moment and where many are gone through.
+NEAR = 1 << 18
+FAR = 1 << 21
+# The same of the starts at one address, and of changes of one byte.
+SOME = 1 << 23
+WIDE = 1 << 27
+OVERLAP = 256  # a listing begins so many ticks earlier: a change is seen from the start before it
+MANY = 200000  # so many instructions are counted, and not gone through
+LISTED = re.compile(rb"listed ([0-9]+) of ([0-9]+)\n")
+
+
+class State(NamedTuple):
+    """The state of one side at a tick.
+
+    memory  32,768 bytes of the host, 65,536 of the second processor
+    held    the second processor is held by its reset line
+    """
+
+    registers: Registers
+    memory: bytes
+    held: bool = False
+
+
+class Machine:
+    """One side of a run.
+
+    bound  starts below this tick can be listed: the last tick at hand, and the one after it
+    view   what its processor reads
+    """
+
+    def __init__(self, past: "Past", side: str):
+        self.past, self.side = past, side
+        self.bound = past.held + 1
+        self.view = View(self)
+        self._states: "OrderedDict[int, State]" = OrderedDict()
+        # The one that was used last comes last.
+        self._lists: List[Tuple[Tuple[str, ...], Listing]] = []
+        self._lock = threading.Lock()
+
+    # --- States ---
+
+    def state(self, tick: int) -> State:
+        """Registers and memory once all ticks below this one are done."""
+        if tick in self._states:
+            return self._states[tick]
+        past = self.past
+        if tick > past.held:
+            return past.beyond(tick)[self.side]
+        out = past.fresh("state")
+        words = ["replay", self.side, past.cut(tick), str(tick), out]
+        past.program.done(words + past.options(self.side), past.folder)
+        found = past.state_of(out, self.side)
+        past.remove(out)
+        self._states[tick] = found
+        while len(self._states) > 64:
+            self._states.popitem(last=False)
+        return found
+
+    def states_at(self, ticks: List[int]) -> List[State]:
+        """The states at several ticks."""
+        if ticks:
+            self.past.cut(max(ticks))
+        return list(self.past.pool.map(self.state, ticks))
+
+    # --- Listings ---
+
+    def follow(self, low: int, high: int, extra: Sequence[str] = (),
+               keep: bool = True) -> Tuple[str, int]:
+        """The file of a listing of the starts from a tick on and below another, and how many
+        there are; without `keep` only their number."""
+        past, out = self.past, self.past.fresh("list")
+        place = os.path.join(past.folder, out + ".list")
+        if not keep:
+            os.symlink(os.devnull, place)
+        words = past.options(self.side) + list(extra) + (["--from", str(low)] if low else [])
+        high = min(high, self.bound)
+        try:
+            told = self._followed(high, out, words)
+        except Refused as refused:
+            # At the last tick there may be an access that is not at hand: no start is there.
+            if refused.status != 8 or high <= past.held:
+                raise
+            self.bound = past.held
+            told = self._followed(past.held, out, words)
+        match = LISTED.fullmatch(told)
+        if not match:
+            raise Fault("`follow` did not report how many it listed")
+        return place, int(match.group(2))
+
+    def _followed(self, high: int, out: str, words: List[str]) -> bytes:
+        past = self.past
+        first = ["follow", self.side, past.cut(high), str(high), out]
+        return past.program.done(first + words, past.folder).out
+
+    def count(self, low: int, high: int) -> int:
+        """How many starts there are from a tick on and below another."""
+        self.past.progress(f"tick {low}")
+        return self.follow(low, high, keep=False)[1]
+
+    def listing_count(self, kind: str, address: int) -> int:
+        """How many starts there are "at" an address, or after a change of the byte there,
+        "watch"."""
+        return self.follow(0, self.bound, [f"--{kind}", f"{address:04X}"], keep=False)[1]
+
+    def around(self, extra: Tuple[str, ...], tick: int, ticks: int = NEAR,
+               backwards: bool = False) -> Listing:
+        """A listing that has all starts of its kind at a tick and after it, or before it: of so
+        many ticks, unless there is one already."""
+        with self._lock:
+            for place in range(len(self._lists) - 1, -1, -1):
+                kind, listing = self._lists[place]
+                if kind == extra and listing.low <= tick < listing.covers:
+                    self._lists.append(self._lists.pop(place))
+                    return listing
+        before, behind = (ticks, NEAR // 2) if backwards else (NEAR // 2, ticks)
+        low, high = max(0, tick - before), min(self.past.held + 1, tick + behind)
+        while True:
+            self.past.progress(f"tick {low}")
+            path, total = self.follow(max(0, low - OVERLAP), high, extra)
+            listing = Listing(self.side, path, total, low, high)
+            with self._lock:
+                self._lists.append((extra, listing))
+                old = self._lists[:-32]
+                self._lists = self._lists[-32:]
+            for _, one in old:
+                one.close()
+            if tick < listing.covers:
+                return listing
+            low = listing.covers
+
+    def parts(self, tick: int, backwards: bool = False, ticks: int = NEAR) -> Iterator[Listing]:
+        """Listings one after another: from a tick on, or back from below it."""
+        while 0 < tick if backwards else tick < self.bound:
+            listing = self.around((), tick - 1 if backwards else tick, ticks, backwards)
+            yield listing
+            tick, ticks = listing.low if backwards else listing.covers, FAR
+        if not backwards:
+            self._nothing()
+
+    def outside(self) -> NoReturn:
+        """The Fault of a tick whose instructions are not at hand."""
+        raise Fault(f"the session holds the accesses to the Tube up to tick {self.past.held}: after"
+                    " it there are no instructions, but `go`, `where`, `memory`, `stack`, `screen`"
+                    " and `frame` show what is there")
+
+    # Nothing was found up to the last tick whose instructions are at hand.
+    def _nothing(self) -> None:
+        if self.past.held < self.past.end:
+            self.outside()
+
+    # --- Forwards and backwards ---
+
+    def following(self, tick: int, count: int = 1) -> Optional[Start]:
+        """The `count`th start after a tick; None if the run ends before it."""
+        low, left = tick + 1, count
+        while low < self.bound:
+            if left > MANY:
+                low, left = self._counted(low, left, 1)
+                continue
+            listing = self.around((), low, FAR if left > 4096 else NEAR)
+            place, found = listing.after(listing.place_of(low), left - 1)
+            if place < listing.size:
+                return listing.start(place)
+            low, left = listing.covers, left - found
+        self._nothing()
+        return None
+
+    def preceding(self, tick: int, count: int = 1) -> Optional[Start]:
+        """The `count`th start before a tick; None if there are fewer."""
+        if tick > self.past.held + 1:
+            self.outside()
+        high, left = min(tick, self.bound), count
+        while high > 0:
+            if left > MANY:
+                high, left = self._counted(high, left, -1)
+                continue
+            listing = self.around((), high - 1, FAR if left > 4096 else NEAR, backwards=True)
+            place, found = listing.before(listing.place_of(min(high, self.bound)), left)
+            if found == left:
+                return listing.start(place)
+            high, left = listing.low, left - found
+        return None
+
+    # A tick that many starts after or before another, but not all; and how many are left there.
+    def _counted(self, tick: int, count: int, way: int) -> Tuple[int, int]:
+        last, each = (self.bound if way > 0 else 0), 12.0
+        while count > MANY and tick != last:
+            far = tick + way * max(1, int(0.98 * each * count))
+            far = min(far, last) if way > 0 else max(far, last)
+            found = self.count(min(tick, far), max(tick, far))
+            each = abs(far - tick) / max(1, found)
+            if found < count:
+                tick, count = far, count - found
+        return tick, count
+
+    def current(self, tick: int) -> Optional[Start]:
+        """The last start at a tick or before it; None before the first one."""
+        return self.preceding(tick + 1)
+
+    # --- Starts at an address, and changes of a byte ---
+
+    def next_of(self, kind: str, address: int, tick: int) -> Optional[Start]:
+        """The first start after a tick at an address ("at"), or after a change of the byte there
+        ("watch")."""
+        extra, low, ticks = (f"--{kind}", f"{address:04X}"), tick + 1, SOME
+        while low < self.bound:
+            listing = self.around(extra, low, ticks)
+            place = listing.place_of(low)
+            if place < listing.size:
+                return listing.start(place)
+            low, ticks = listing.covers, WIDE
+        self._nothing()
+        return None
+
+    def last_of(self, kind: str, address: int, tick: int) -> Optional[Start]:
+        """The last such start below a tick."""
+        if tick > self.past.held + 1:
+            self.outside()
+        extra, high, ticks = (f"--{kind}", f"{address:04X}"), min(tick, self.bound), SOME
+        while high > 0:
+            listing = self.around(extra, high - 1, ticks, backwards=True)
+            place, found = listing.before(listing.place_of(min(high, self.bound)), 1)
+            if found:
+                return listing.start(place)
+            high, ticks = listing.low, WIDE
+        return None
+
+    def every(self, address: int, high: int) -> List[Start]:
+        """All starts at an address below a tick."""
+        extra, low, found = ("--at", f"{address:04X}"), 0, []
+        high = min(high, self.bound)
+        while low < high:
+            listing = self.around(extra, low, WIDE)
+            found += [it for it in listing.starts(listing.place_of(low)) if it.tick < high]
+            low = listing.covers
+        return found
+
+    def _byte(self, address: int, tick: int) -> int:
+        return self.state(tick).memory[address]
+
+    def last_change(self, address: int, tick: int) -> Optional[Change]:
+        """The last change of a byte of the memory before a tick; None if there is none."""
+        if tick > self.past.held + 1:
+            self.outside()
+        before = self.preceding(tick)
+        if before is None:
+            return None
+        here = self.current(tick)
+        if tick <= self.past.held and (here is None or here.tick < tick):
+            # In the midst of an instruction, which may have done it already.
+            old, new = (state.memory[address] for state in self.states_at([before.tick, tick]))
+            if old != new:
+                return Change(before, tick, old, new)
+        if self.view.is_under_rom(address):
+            return self.view.last_change_under_rom(address, tick)
+        return self._changed(address, self.last_of("watch", address, tick + 1))
+
+    # The change of which `watch` told the start after it.
+    def _changed(self, address: int, after: Optional[Start]) -> Optional[Change]:
+        before = None if after is None else self.preceding(after.tick)
+        if after is None or before is None:
+            return None
+        old, new = (it.memory[address] for it in self.states_at([before.tick, after.tick]))
+        return Change(before, after.tick, old, new)
+
+    def next_change(self, address: int, tick: int) -> Optional[Change]:
+        """The next change of a byte of the memory after a tick; None if there is none."""
+        here, after = self.current(tick), self.following(tick)
+        low = tick
+        if here is not None and here.tick < tick and after is not None:
+            # The instruction under way may have done it already, or do it still.
+            old, new = (it.memory[address] for it in self.states_at([tick, after.tick]))
+            if old != new:
+                return Change(here, after.tick, old, new)
+            low = after.tick
+        found = None
+        if self.view.is_under_rom(address):
+            found = self.view.next_change_under_rom(address, low)
+        elif low < self.past.held:
+            found = self._changed(address, self.next_of("watch", address, low))
+        if found is not None or tick >= self.past.held:
+            return found
+        # The last instruction of the run may have done it, and no start comes after it.
+        last = self.current(self.past.held)
+        if last is None or last.tick == self.past.held:
+            return None
+        old, new = (it.memory[address] for it in
+                    self.states_at([max(tick, last.tick), self.past.held]))
+        return Change(last, self.past.held, old, new) if old != new else None

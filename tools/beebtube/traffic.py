@@ -1,0 +1,175 @@
+"""The accesses to the Tube of a run, found by their ticks, and what they leave in the Tube.
+
+All is told by the one model of the Tube (tube.py). Where it is asked about one moment of a long
+run, it is given the accesses to one register from a moment on at which that was surely empty.
+"""
+from __future__ import annotations
+
+import re
+from typing import Dict, Iterator, List, Optional, Sequence, Tuple
+
+from .accesses import words_of
+from .faults import Fault
+from .trace import LENGTH, Access, access_of
+from .tube import Key, Tube
+
+KEYS: List[Key] = [(side, number) for number in (1, 2, 3, 4) for side in "HP"]
+CONTROL = re.compile(rb" H (?:W 0 |X 0 )")
+CLEARING = re.compile(rb" H (?:W 0 [C-F]|X 0 )")
+OTHER = {"H": "P", "P": "H"}
+
+
+class Traffic:
+    """The lines of a trace, without the one that tells its clock."""
+
+    def __init__(self, trace: bytes):
+        self.trace = trace
+        self.end = len(trace)
+
+    def place(self, tick: int) -> int:
+        """Where the first line of a tick or a later one begins."""
+        low, high = 0, self.end // LENGTH
+        while low < high:
+            middle = (low + high) // 2
+            if int(self.trace[LENGTH * middle : LENGTH * middle + 10], 16) < tick:
+                low = middle + 1
+            else:
+                high = middle
+        return LENGTH * low
+
+    def access(self, place: int) -> Access:
+        """The access of the line that holds a place."""
+        place -= place % LENGTH
+        found = access_of(self.trace[place : place + LENGTH])
+        if found is None:
+            raise Fault(f"the trace has a line outside its form at tick {self.tick(place)}")
+        return found
+
+    def tick(self, place: int) -> int:
+        """The tick of the line that holds a place."""
+        place -= place % LENGTH
+        return int(self.trace[place : place + 10], 16)
+
+    def words(self, place: int) -> str:
+        """The access of a line in words."""
+        access = self.access(place)
+        return f"{access.tick} {words_of(*access[1:])}"
+
+    def split(self, tick: int, side: str, after: bool) -> int:
+        """Where the lines before a side's step at a tick end; or those after it begin. At one tick
+        the host's access comes first."""
+        place = self.place(tick)
+        while place < self.end and self.tick(place) == tick:
+            own, host = self.trace[place + 11 : place + 12] == side.encode(), side == "H"
+            if not after and (own or host) or after and host and not own:
+                break
+            place += LENGTH
+        return place
+
+    def last(self, forms: Sequence[bytes], end: int) -> int:
+        """The line of the last of these before a place; below 0 if there is none."""
+        found = max(self.trace.rfind(form, 0, end) for form in forms)
+        return found - found % LENGTH if found >= 0 else -1
+
+    # --- What is in the Tube ---
+
+    def resets(self) -> Tuple[List[int], List[int]]:
+        """The ticks at which the host's BREAK comes, and those at which the second processor is
+        reset."""
+        tube, breaks, resets = Tube(), [], []
+        for match in CONTROL.finditer(self.trace):
+            access = self.access(match.start())
+            before = tube.flags & 32
+            tube.put(access)
+            if access.way == "X":
+                breaks.append(access.tick)
+            if access.way == "X" or tube.flags & 32 and not before:
+                resets.append(access.tick)
+        return breaks, resets
+
+    # The lines that give or take bytes of a register, from where it was empty last, and before
+    # a place: a status told so, but of register 3, which waits for two bytes at times.
+    def _lines(self, key: Key, end: int, known: int) -> Iterator[int]:
+        side, number = key
+        status = f" {side} R {2 * number - 2} "
+        first = -1
+        if number != 3:
+            first = self.last([f"{status}{digit}".encode() for digit in range(8)], known)
+        first = max(first, self.last([b" H X 0 ", *(f" H W 0 {it}".encode() for it in "CDEF")],
+                                     known), 0)
+        form = re.compile(f" (?:{side} R|{OTHER[side]} W) {2 * number - 1} ".encode())
+        return (match.start() - 10 for match in form.finditer(self.trace, first, end))
+
+    def tube(self, end: int, keys: Sequence[Key] = tuple(KEYS),
+             known: Optional[int] = None) -> Tube:
+        """The Tube after all lines before a place, right for these registers; they are followed
+        from where they were empty before `known`."""
+        begin = max(self.last([b" H X 0 "], end), 0)
+        places = [match.start() - 10 for match in CONTROL.finditer(self.trace, begin, end)]
+        for key in keys:
+            places += self._lines(key, end, end if known is None else known)
+        tube = Tube()
+        for place in sorted(places):
+            tube.put(self.access(place))
+        return tube
+
+    def taken(self, key: Key, end: int) -> Optional[Tuple[Access, Optional[Access]]]:
+        """The last access before a place that took a byte of a register, and the one that gave
+        it; None if none did."""
+        form = f" {key[0]} R {2 * key[1] - 1} ".encode()
+        place = self.last([form], end)
+        while place >= 0:
+            found = self.tube(place + LENGTH, [key], place).taken.get(key)
+            if found is not None and found[0] == self.access(place):
+                return found
+            place = self.last([form], place)
+        return None
+
+    def sender(self, side: str, end: int) -> Tuple[Access, Access]:
+        """The access by which a side took its last byte before a place, and the one by which the
+        other side gave it. Fault if there is none."""
+        found = [self.taken((side, number), end) for number in (1, 2, 3, 4)]
+        last = max((it for it in found if it is not None), key=lambda it: it[0], default=None)
+        if last is None:
+            raise Fault("this side has taken no byte from the Tube")
+        if last[1] is None:
+            raise Fault("that is the byte that a reset leaves in register 3")
+        return last[0], last[1]
+
+    def taker(self, giver: Access) -> Optional[Access]:
+        """The access that took the byte of another; None if it was lost or is still there."""
+        key = (OTHER[giver.side], giver.register // 2 + 1)
+        tube, place = self.tube(self.place(giver.tick), [key]), self.place(giver.tick)
+        data = f"(?:{key[0]} R|{giver.side} W) {giver.register}"
+        form = re.compile(f" (?:{data}|H (?:W 0|X 0)) ".encode())
+        for match in form.finditer(self.trace, place):
+            access = self.access(match.start())
+            tube.put(access)
+            if tube.taken.get(key, (None, None))[1] == giver:
+                return access
+            if access.tick > giver.tick and giver not in tube.givers[key]:
+                return None
+        return None
+
+    def loss(self, place: int, back: bool) -> int:
+        """The line of the next access that loses a byte from a line on, or of the last before it;
+        below 0 if there is none."""
+        form = re.compile(rb" (?:[HP] [RW] [1357] |H (?:W 0 |X 0 ))")
+        low, high = (max(0, place - (LENGTH << 12)), place) if back else (place, self.end)
+        while low < high:
+            tube, found = self.tube(low), -1
+            for match in form.finditer(self.trace, low, high):
+                before = sum(tube.lost.values())
+                tube.put(self.access(match.start()))
+                if sum(tube.lost.values()) > before:
+                    found = match.start() - 10
+                    if not back:
+                        return found
+            if found >= 0 or not back:
+                return found
+            low, high = max(0, low - 4 * (high - low)), low
+        return -1
+
+    def lost(self) -> Dict[Key, int]:
+        """How many bytes of each register were lost."""
+        return self.tube(self.end, known=0).lost

@@ -1,0 +1,163 @@
+"""The package as a test calls it: its options, its errors, and what comes of a call."""
+import multiprocessing
+import os
+import pickle
+import shutil
+import subprocess
+
+from common import EXAMPLES, TOP, Case, beebtube, call, letters, put, text_of, unittest
+from beebtube.script import BadScript
+
+PUBLIC = ["beebtube"] + ["beebtube." + name for name in (
+    "calling", "command", "disc", "entries", "executing", "execution", "explain", "faults", "files", "frame", "labels", "program", "report", "script", "trace")]
+DRAWS = os.path.join(EXAMPLES, "screen-os.asm")
+
+
+def refused(_):
+    beebtube.run(9, os=b"", tube=b"")
+
+
+class Errors(Case):
+    def test_they_can_be_pickled(self):
+        for fault in (beebtube.Refused(3, "bad image os 0", ["one", "two"]), BadScript(7, "why"), beebtube.Fault("text")):
+            again = pickle.loads(pickle.dumps(fault))
+            self.assertEqual((type(again), str(again), vars(again)), (type(fault), str(fault), vars(fault)))
+
+    def test_they_come_out_of_a_pool(self):
+        with multiprocessing.Pool(2) as pool:
+            with self.assertRaises(beebtube.Refused) as caught:
+                pool.map_async(refused, [0]).get(60)
+        self.assertEqual((caught.exception.status, caught.exception.text), (3, "bad image os 0"))
+
+    def test_they_name_the_callers_files(self):
+        os.chdir(self.folder)
+        self.addCleanup(os.chdir, TOP)
+        put("own.rom", bytes(2 * 16384))
+        put("own.ssd", bytes(204801))
+        put("own.keys", b"at x\n")
+        tube = letters()["tube"]
+
+        def said(call, **how):
+            with self.assertRaises(beebtube.Refused) as caught:
+                call(**how)
+            return str(caught.exception)
+        text = said(lambda: beebtube.run(9, os="own.rom", tube=tube))
+        self.assertEqual(text, "status 3: bad image os 32768\n--os own.rom has 32,768 bytes: an operating system has 16,384\n"
+                         "it may be 2 images one behind the other: `head -c 16384 own.rom` is the first")
+        self.assertIn("cannot read sub/missing", said(lambda: beebtube.run(9, os="sub/missing", tube=tube)))
+        self.assertIn("--disc0 own.ssd has 204,801 bytes", said(lambda: beebtube.host(9, os=letters()["os"], disc0="own.ssd")))
+        self.assertIn("line 1 of the script: at x", said(lambda: beebtube.host(9, os=letters()["os"], keys="own.keys")))
+        self.assertIn("cannot read missing", said(lambda: beebtube.asm("6502", "missing")))
+
+    def test_what_is_no_option(self):
+        pair = letters()
+        for how in ({"disk0": b""}, {"rom16": b""}, {"wav": "out.wav"}, {"save": "session"}, {"font": 7}, {"keys": ["a"]}):
+            with self.assertRaises(TypeError):
+                beebtube.run(9, **pair, **how)
+        with self.assertRaises(TypeError):
+            beebtube.run(9, 5.0, **pair)
+        with self.assertRaises(TypeError):
+            beebtube.run(9, os=pair["os"])
+
+
+class Calls(Case):
+    def test_texts(self):
+        source = beebtube.Source("org &C000\nstart: LDA #1\nRTS\n")
+        self.assertEqual(beebtube.asm("6502", source), b"\xa9\x01\x60")
+        self.assertEqual(beebtube.labels_of("6502", source)["start"], 0xC000)
+        self.assertEqual(beebtube.check(beebtube.Source("0000000001 H R 0 40\n")), 1)
+        self.assertEqual(repr(source[:3]), "'org'")
+
+    def test_follow_from_a_tick(self):
+        run = beebtube.run(2000, **letters())
+        whole = beebtube.follow("para", run.accesses, 2000, tube=letters()["tube"]).listing
+        part = beebtube.follow("para", run.accesses, 2000, tube=letters()["tube"], from_tick=1000).listing
+        self.assertTrue(part and whole.endswith(part) and len(part) < len(whole))
+        at = beebtube.follow("para", run.accesses, 2000, tube=letters()["tube"], at=0xF800).listing
+        self.assertEqual({line[11:15] for line in at.splitlines()}, {"F800"})
+
+    def test_sound_and_session(self):
+        run = beebtube.run(2000, **letters(), wav=True, save=True)
+        self.assertEqual((run.wav[:4], run.session[:4]), (b"RIFF", b"BTUB"))
+        self.assertEqual(beebtube.resume(run.session, 4000).memory, beebtube.run(4000, **letters()).memory)
+        with self.assertRaises(beebtube.Fault):
+            beebtube.run(9, **letters()).wav
+
+    def test_one_start_and_many_ends(self):
+        # A session goes on with other keys, as the run of all keys does.
+        image = beebtube.asm("6502", DRAWS)
+        os = {"os": image, "tube": letters()["tube"]}
+        first = beebtube.typed("7", start=0.1)
+        booted = beebtube.solo(3000000, **os, keys=first, save=True).session
+        for text in ("1", "2"):
+            keys = beebtube.typed(text, start=0.6)
+            whole = beebtube.Script(first.events + keys.events)
+            self.assertEqual(beebtube.resume(booted, 6000000, keys=keys).host, beebtube.solo(6000000, **os, keys=whole).host)
+        with self.assertRaisesRegex(beebtube.Fault, "before the session's 3,000,000"):
+            beebtube.resume(booted, 6000000, keys=beebtube.typed("1", start=0.2))
+        self.assertEqual(beebtube.typed("1", start=0.6).events, beebtube.typed("1", start=0.1).later(3000000).events)
+
+    def test_how_they_are_shown(self):
+        run = beebtube.run(2000, **letters())
+        self.assertEqual(repr(run), "<Run: run 2000 out --os os --tube tube>")
+        self.assertRegex(repr(run.registers["para"]), r"^Registers\(PC=F815 A=.. X=.. Y=.. S=.. P=..\)$")
+        self.assertEqual(repr(beebtube.Disc(bytes(512))), "<Disc: SSD, 512 bytes>")
+        self.assertEqual(repr(beebtube.Program("x"))[:9], "Program('")
+
+    def test_the_version(self):
+        self.assertEqual(beebtube.__version__ + "\n", text_of(os.path.join(TOP, "VERSION")).decode())
+        self.assertIn("\nversion: %s\n" % beebtube.__version__, text_of(os.path.join(TOP, "CITATION.cff")).decode())
+
+
+class LabelsOfFiles(Case):
+    def test_in_and_forms(self):
+        for text in ("C000 start\nC002 loop\n", "al 00C000 .start\nal 00C002 .loop\n", "[{'start':49152L,'.loop':49154L}]"):
+            labels = beebtube.Labels.parse(text)
+            self.assertTrue("start" in labels and "loop" in labels and "stop" not in labels)
+            self.assertEqual(list(labels), [(0xC000, "start"), (0xC002, "loop")])
+        self.assertEqual(repr(labels), "Labels({'start': 49152, 'loop': 49154})")
+        self.assertEqual([labels.place(at) for at in (0xC000, 0xC001, 0xBFFF, 0xE000)], ["start (C000)", "start+1 (C001)", "BFFF", "E000"])
+        put(self.at("labels"), text.encode())
+        self.assertEqual(beebtube.Labels.read(self.at("labels")).addresses, labels.addresses)
+        with self.assertRaises(beebtube.Fault):
+            beebtube.Labels.parse("no labels\n")
+
+    def test_names_at(self):
+        labels = beebtube.Labels({"a": 1, "b": 1, "c": 2, "d": 65535})
+        self.assertEqual([labels.names_at(at) for at in (0, 1, 2, 65535)], [[], ["a", "b"], ["c"], ["d"]])
+
+
+class Frames(Case):
+    def frame(self, *spots):
+        colours = bytearray(640 * 256)
+        for x, y, colour in spots:
+            colours[640 * y + x] = colour
+        return beebtube.Frame.of_colours(bytes(colours))
+
+    def test_pictures_and_differences(self):
+        one, other = self.frame((3, 4, 7), (639, 255, 2)), self.frame((3, 4, 7), (10, 20, 1), (8, 30, 5), (639, 255, 2))
+        for frame in (one, other):
+            self.assertEqual(beebtube.Frame.of_png(frame.png()), frame)
+            self.assertEqual(beebtube.Frame.of_png(frame.png()).pixmap, frame.pixmap)
+        self.assertEqual((one.box(other), other.box(one), one.box(one)), ((8, 20, 10, 30), (8, 20, 10, 30), None))
+        self.assertEqual(one.difference(other), self.frame((10, 20, 7), (8, 30, 7)))
+        self.assertRegex(repr(one), "^<Frame: colours 027, crc [0-9A-F]{8}>$")
+        with self.assertRaises(beebtube.Fault):
+            beebtube.Frame.of_png(beebtube.picture_of([one, other], 100))
+
+
+# Another version has other opinions, of needless comments too.
+@unittest.skipUnless(shutil.which("mypy") and "mypy 1.0." in call(["mypy", "--version"], "/").out, "mypy 1.0 is not there")
+class Types(Case):
+    def test_the_public_modules(self):
+        words = ["mypy", "--strict", "--follow-imports=silent", "--cache-dir", self.at("cache"), "--python-version", "3.9"]
+        for name in PUBLIC + ["user"]:
+            words += ["-m", name]
+        put(self.at("user.py"), b"import beebtube\nrun: beebtube.Run = beebtube.run(9, os=b'', tube='x', keys=beebtube.typed('a'))\n"
+            b"print(run.frames[0].png(), run.registers['host'].pc, beebtube.resume(run.session, 9, keys=beebtube.Script()))\n")
+        done = subprocess.run(words, cwd=os.path.join(TOP, "tools"), env={**os.environ, "MYPYPATH": self.folder}, stdout=subprocess.PIPE, stderr=subprocess.STDOUT)
+        self.assertEqual(done.returncode, 0, done.stdout.decode())
+
+
+if __name__ == "__main__":
+    unittest.main()

@@ -1,0 +1,469 @@
+"""The debug adapter, driven by a client over a pipe and over a socket."""
+import base64
+import io
+import json
+import os
+import queue
+import socket
+import subprocess
+import sys
+import threading
+import time
+import unittest
+from unittest import mock
+
+from common import EXAMPLES, TOP, Case, put
+
+import beebtube
+from beebtube.adapter import Adapter
+from beebtube.program import Program
+
+DAP = [sys.executable, "-B", os.path.join(TOP, "tools", "dap")]
+BUILT = os.path.join(EXAMPLES, "c", "built")
+LIMIT_C = os.path.join(EXAMPLES, "c", "limit.c")
+COUNTS = """        org &C000
+start:  LDX #&FF
+        TXS
+loop:   JSR count
+        JSR count
+        JMP loop
+count:  INC &70
+        LDA &70
+        AND #3
+        STA &71
+        RTS
+        org &FFFA
+        word start, start, start
+"""
+
+
+class Client:
+    """A client of the adapter at the other end of two streams."""
+
+    def __init__(self, source, target):
+        self.source, self.target = source, target
+        self.seq, self.events = 0, []
+        self.answers = {}
+        self.arrived = queue.Queue()
+        threading.Thread(target=self._read, daemon=True).start()
+
+    def _read(self):
+        while True:
+            length = None
+            for line in iter(self.source.readline, b"\r\n"):
+                if not line:
+                    self.arrived.put(None)
+                    return
+                if line.startswith(b"Content-Length: "):
+                    length = int(line.split()[1])
+            self.arrived.put(json.loads(self.source.read(length)))
+
+    def send(self, command, **arguments):
+        self.seq += 1
+        data = json.dumps(
+            {"seq": self.seq, "type": "request", "command": command, "arguments": arguments}
+        ).encode()
+        self.target.write(b"Content-Length: %d\r\n\r\n" % len(data) + data)
+        self.target.flush()
+        return self.seq
+
+    def _next(self):
+        message = self.arrived.get(timeout=100)
+        if message is None:
+            raise AssertionError("the adapter ended")
+        if message["type"] == "event":
+            self.events.append(message)
+        else:
+            self.answers[message["request_seq"]] = message
+        return message
+
+    def answer(self, seq):
+        while seq not in self.answers:
+            self._next()
+        return self.answers[seq]
+
+    def ask(self, command, **arguments):
+        """The body of an answer that succeeds."""
+        told = self.answer(self.send(command, **arguments))
+        if not told["success"]:
+            raise AssertionError("%s: %s" % (command, told["message"]))
+        return told["body"]
+
+    def refused(self, command, **arguments):
+        told = self.answer(self.send(command, **arguments))
+        assert not told["success"], told
+        return told["message"]
+
+    def event(self, name):
+        """The next event of a name, which is taken."""
+        while True:
+            for at, event in enumerate(self.events):
+                if event["event"] == name:
+                    return self.events.pop(at)["body"]
+            self._next()
+
+    def goes(self, command, **arguments):
+        """A request that ends with a stop; the reason, and the frames there."""
+        self.ask(command, threadId=self.thread, **arguments)
+        return self.stop()
+
+    def stop(self):
+        stopped = self.event("stopped")
+        self.thread = stopped["threadId"]
+        self.frames = self.ask("stackTrace", threadId=self.thread)["stackFrames"]
+        return stopped
+
+    def at(self):
+        return self.frames[0]["name"], self.frames[0]["line"]
+
+    def variables(self, scope, frame=0):
+        scopes = self.ask("scopes", frameId=self.frames[frame]["id"])["scopes"]
+        number = next(it["variablesReference"] for it in scopes if it["name"] == scope)
+        return {
+            it["name"]: it["value"]
+            for it in self.ask("variables", variablesReference=number)["variables"]
+        }
+
+
+class Adapters(Case):
+    def client(self, **launch):
+        child = subprocess.Popen(
+            DAP, stdin=subprocess.PIPE, stdout=subprocess.PIPE, cwd=self.folder
+        )
+        self.addCleanup(child.stdout.close)
+        self.addCleanup(child.wait, 60)
+        self.addCleanup(child.stdin.close)
+        client = Client(child.stdout, child.stdin)
+        self.capabilities = client.ask("initialize", adapterID="beebtube")
+        if launch:
+            client.ask("launch", **launch)
+            client.event("initialized")
+        return client
+
+    def begin(self, client):
+        client.ask("configurationDone")
+        return client.stop()
+
+    def limit(self, **more):
+        return self.client(
+            program=os.path.join(BUILT, "limit"),
+            paraLabels=[os.path.join(BUILT, "limit.labels")],
+            paraDebug=[os.path.join(BUILT, "limit.dbg")],
+            sourceFolder=TOP,
+            **more
+        )
+
+    def counts(self, **more):
+        put(self.at("os"), Program().asm("6502", COUNTS.encode()))
+        put(self.at("counts.asm"), COUNTS.encode())
+        return self.client(host=["60000", "x", "--os", "os"], hostSource=["counts.asm"], **more)
+
+
+class Programs(Adapters):
+    def test_a_program_in_c(self):
+        """Lines, calls, variables, and back in time to the line that wrote a variable."""
+        client = self.limit()
+        self.assertEqual(client.event("output")["output"], "the limit is 25\n")
+        self.assertTrue(self.capabilities["supportsStepBack"])
+        told = client.ask(
+            "setBreakpoints",
+            source={"path": LIMIT_C},
+            breakpoints=[{"line": 11}, {"line": 18}, {"line": 99}],
+        )
+        self.assertEqual([it["verified"] for it in told["breakpoints"]], [True, True, False])
+        self.begin(client)
+        self.assertEqual(client.at(), ("main", 16))
+        self.assertEqual(client.goes("continue")["reason"], "breakpoint")
+        self.assertEqual(client.at(), ("fill", 11))
+        self.assertEqual([it["name"] for it in client.frames][:2], ["fill", "main"])
+        self.assertEqual(
+            [(it["line"], os.path.realpath(it["source"]["path"])) for it in client.frames[:2]],
+            [(11, os.path.realpath(LIMIT_C)), (16, os.path.realpath(LIMIT_C))],
+        )
+        self.assertEqual(client.variables("Locals"), {"at": "1 (01)"})
+        for _ in range(4):
+            client.goes("continue")
+        self.assertEqual(client.variables("Locals"), {"at": "5 (05)"})
+        self.assertEqual(client.variables("Globals")["limit"], "100 (64 00)")
+        client.goes("continue")
+        self.assertEqual(client.at(), ("main", 18))
+        self.assertEqual(client.variables("Globals")["limit"], "25 (19 00)")
+        # Back to the line that changed it.
+        info = client.ask("dataBreakpointInfo", name="limit")
+        self.assertIn("write", info["accessTypes"])
+        client.ask("setBreakpoints", source={"path": LIMIT_C}, breakpoints=[])
+        client.ask(
+            "setDataBreakpoints", breakpoints=[{"dataId": info["dataId"], "accessType": "write"}]
+        )
+        stopped = client.goes("reverseContinue")
+        self.assertEqual(
+            (stopped["reason"], stopped["text"]), ("data breakpoint", "0BB1: 64 to 19")
+        )
+        self.assertEqual(
+            [(it["name"], it["line"]) for it in client.frames[1:3]], [("fill", 11), ("main", 16)]
+        )
+        stopped = client.goes("continue")
+        self.assertEqual(stopped["text"], "0BB1: 64 to 19")
+
+    def test_steps_by_lines(self):
+        client = self.limit()
+        self.begin(client)
+        self.assertEqual(client.at(), ("main", 16))
+        client.goes("next")
+        self.assertEqual(client.at(), ("main", 17))
+        client.goes("stepBack")
+        self.assertEqual(client.at(), ("main", 16))
+        client.goes("stepIn")
+        self.assertEqual(client.frames[0]["name"], "fill")
+        client.goes("next")
+        self.assertEqual(client.at(), ("fill", 11))
+        client.goes("next")
+        self.assertEqual(client.at(), ("fill", 10))
+        client.goes("stepBack")
+        self.assertEqual(client.at(), ("fill", 11))
+        client.goes("stepOut")
+        self.assertEqual(client.frames[0]["name"], "main")
+        client.goes("stepIn", granularity="instruction")
+        targets = client.ask("gotoTargets", source={"path": LIMIT_C}, line=11)["targets"]
+        self.assertIn("last before", targets[-1]["label"])
+        client.goes("goto", targetId=targets[-1]["id"])
+        self.assertEqual(client.at(), ("fill", 11))
+
+    def test_commands_and_values(self):
+        client = self.limit(at="end")
+        self.begin(client)
+        frame = client.frames[0]["id"]
+        self.assertEqual(
+            client.ask("evaluate", expression="_limit,2", context="hover", frameId=frame)["result"],
+            "25 (19 00)",
+        )
+        self.assertEqual(
+            client.ask("evaluate", expression="limit", context="watch")["result"], "25 (19 00)"
+        )
+        told = client.ask("evaluate", expression="who _limit", context="repl")["result"]
+        self.assertIn("0BB1: 64 to 19", told)
+        client.stop()
+        self.assertEqual(client.frames[1]["name"], "fill")
+        self.assertIn(
+            "no label", client.refused("evaluate", expression="who nowhere", context="repl")
+        )
+        self.assertIn(
+            "tube",
+            [it["label"] for it in client.ask("completions", text="tu", column=3)["targets"]],
+        )
+        self.assertEqual(
+            client.ask("evaluate", expression="a", context="watch")["result"],
+            client.variables("Registers")["A"],
+        )
+        self.assertIn("flags", client.variables("Tube"))
+        self.assertEqual(client.variables("Run")["boot ROM"], "out")
+        png = base64.b64decode(client.ask("beebtube/screen")["data"])
+        self.assertTrue(png.startswith(b"\x89PNG"))
+
+
+class Hosts(Adapters):
+    def test_breakpoints_of_all_kinds(self):
+        client = self.counts()
+        labels = beebtube.labels_of("6502", COUNTS.encode())
+        path = self.at("counts.asm")
+        told = client.ask(
+            "setBreakpoints",
+            source={"path": path},
+            breakpoints=[{"line": 7, "condition": "(0070)=05"}],
+        )
+        self.assertEqual(told["breakpoints"][0]["line"], 7)
+        self.begin(client)
+        self.assertEqual(client.frames[0]["line"], 2)
+        client.goes("continue")
+        self.assertEqual(
+            client.ask("evaluate", expression="0070", context="watch")["result"], "5 (05)"
+        )
+        self.assertEqual([it["line"] for it in client.frames], [7, 5])
+        client.ask(
+            "setBreakpoints", source={"path": path}, breakpoints=[{"line": 7, "hitCondition": "9"}]
+        )
+        client.goes("continue")
+        self.assertEqual(
+            client.ask("evaluate", expression="0070", context="watch")["result"], "8 (08)"
+        )
+        self.assertEqual(client.goes("continue")["text"], "the run's last tick")
+        client.ask("setBreakpoints", source={"path": path}, breakpoints=[])
+        told = client.ask(
+            "setFunctionBreakpoints", breakpoints=[{"name": "count"}, {"name": "nowhere"}]
+        )
+        self.assertEqual([it["verified"] for it in told["breakpoints"]], [True, False])
+        self.assertEqual(client.goes("reverseContinue")["reason"], "function breakpoint")
+        client.ask("setFunctionBreakpoints", breakpoints=[])
+        client.ask(
+            "setInstructionBreakpoints",
+            breakpoints=[
+                {"instructionReference": "host:%04X" % labels["loop"], "hitCondition": "% 3"}
+            ],
+        )
+        self.assertEqual(client.goes("reverseContinue")["reason"], "instruction breakpoint")
+        last = int(client.ask("evaluate", expression="0070", context="watch")["result"].split()[0])
+        client.goes("reverseContinue")
+        before = int(
+            client.ask("evaluate", expression="0070", context="watch")["result"].split()[0]
+        )
+        self.assertEqual((last - before) % 256, 6)
+        client.ask("setInstructionBreakpoints", breakpoints=[])
+        client.ask(
+            "setDataBreakpoints", breakpoints=[{"dataId": "host:0071:0071", "accessType": "write"}]
+        )
+        before = client.goes("reverseContinue")["text"]
+        self.assertEqual(client.goes("continue")["text"], before)
+        client.ask(
+            "setDataBreakpoints", breakpoints=[{"dataId": "host:0070:0070", "accessType": "read"}]
+        )
+        self.assertIn("is read", client.goes("continue")["text"])
+        told = client.ask("setDataBreakpoints", breakpoints=[{"dataId": "nonsense"}])
+        self.assertFalse(told["breakpoints"][0]["verified"])
+        self.assertEqual(client.goes("reverseContinue")["text"], "the run's first tick")
+
+    def test_memory_and_disassembly(self):
+        client = self.counts()
+        self.begin(client)
+        labels = beebtube.labels_of("6502", COUNTS.encode())
+        image = Program().asm("6502", COUNTS.encode())
+        told = client.ask("readMemory", memoryReference="host:C000", offset=2, count=5)
+        self.assertEqual((told["address"], base64.b64decode(told["data"])), ("0xC002", image[2:7]))
+        told = client.ask("readMemory", memoryReference="host:FFF0", count=32)
+        self.assertEqual((told["unreadableBytes"], len(base64.b64decode(told["data"]))), (16, 16))
+        told = client.ask(
+            "disassemble",
+            memoryReference="host:%04X" % labels["count"],
+            instructionOffset=-3,
+            instructionCount=6,
+        )["instructions"]
+        self.assertEqual(
+            [it["instruction"] for it in told],
+            ["JSR count", "JSR count", "JMP loop", "INC &70", "LDA &70", "AND #&03"],
+        )
+        self.assertEqual(
+            (told[3]["symbol"], told[3]["line"], told[3]["instructionBytes"]), ("count", 7, "E6 70")
+        )
+        told = client.ask(
+            "disassemble", memoryReference="host:C000", instructionOffset=2, instructionCount=2
+        )["instructions"]
+        self.assertEqual([it["address"] for it in told], ["0xC003", "0xC006"])
+        self.assertEqual(
+            len(
+                client.ask(
+                    "disassemble",
+                    memoryReference="host:0000",
+                    instructionOffset=-20,
+                    instructionCount=30,
+                )["instructions"]
+            ),
+            30,
+        )
+        self.assertEqual(
+            [os.path.basename(it["path"]) for it in client.ask("loadedSources")["sources"]],
+            ["counts.asm"],
+        )
+
+    def test_without_sources_the_disassembly_is_one(self):
+        put(self.at("os"), Program().asm("6502", COUNTS.encode()))
+        client = self.client(host=["60000", "x", "--os", "os"], at=3000)
+        self.begin(client)
+        frame = client.frames[0]
+        text = client.ask(
+            "source", sourceReference=frame["source"]["sourceReference"], source=frame["source"]
+        )["content"].splitlines()
+        self.assertTrue(
+            text[frame["line"] - 1].startswith(frame["instructionPointerReference"][5:])
+        )
+        client.goes("stepBack")
+        client.goes("next")
+
+    def test_both_machines_are_threads(self):
+        self.pair()
+        client = self.client(solo="2000 x --os os --tube tube", at="end", side="para")
+        self.begin(client)
+        self.assertEqual(
+            [(it["id"], it["name"]) for it in client.ask("threads")["threads"]],
+            [(1, "the host"), (2, "the second processor")],
+        )
+        self.assertEqual(client.thread, 2)
+        client.ask("setExceptionBreakpoints", filters=["lost", "reset", "interrupt"])
+        self.assertEqual(client.goes("reverseContinue")["text"], "the run's first tick")
+
+    def test_what_is_wrong(self):
+        client = self.client()
+        self.assertIn("nothing is launched", client.refused("threads"))
+        self.assertIn("no such request", client.refused("nonsense"))
+        self.assertIn("launch needs", client.refused("launch"))
+        self.assertIn("cannot read", client.refused("launch", session="missing"))
+        self.assertIn("not a folder", client.refused("launch", session="x", cwd="missing"))
+        self.assertTrue(client.refused("launch", program="missing"))
+        self.assertTrue(client.refused("launch", run="1 x"))
+        put(self.at("os"), Program().asm("6502", COUNTS.encode()))
+        client.ask("launch", host=["600", "x", "--os", "os"])
+        client.ask("configurationDone")
+        self.assertIn("not an address", client.refused("readMemory", memoryReference="zz", count=1))
+        client.ask("disconnect")
+        client.event("terminated")
+
+    def test_a_request_is_cancelled(self):
+        """A search of a long run ends when the client wishes."""
+        put(self.at("os"), Program().asm("6502", COUNTS.encode()))
+        client = self.client(host=["12000000", "x", "--os", "os"], at=0)
+        self.begin(client)
+        seq = client.send("evaluate", expression="until if A=99 and X=88", context="repl")
+        client.ask("cancel", requestId=seq)
+        told = client.answer(seq)
+        self.assertEqual((told["success"], told["message"]), (False, "cancelled"))
+        self.assertEqual(client.ask("evaluate", expression="x", context="watch")["result"], "00")
+
+    def test_requests_that_come_before_all_is_ready(self):
+        """What arrives while the adapter is made ends it like a later request."""
+        class Early:
+            def __init__(self, source, target, urgent):
+                urgent({"command": "disconnect"})
+
+            def next(self):
+                return None
+        with mock.patch("beebtube.adapter.Wire", Early):
+            Adapter(io.BytesIO(), io.BytesIO()).serve()
+
+    def test_wrong_forms_of_cancel(self):
+        """A request of another form than the protocol's is answered, and the next one too."""
+        asked = [{"command": "cancel", "arguments": [1]}, {"command": "cancel", "arguments": {"requestId": []}},
+                 {"command": "cancel", "seq": [1]}, {"command": "threads"}]
+        texts = [json.dumps({"type": "request", **it}).encode() for it in asked]
+        data = b"".join(b"Content-Length: %d\r\n\r\n" % len(text) + text for text in texts)
+        done = subprocess.run(DAP, input=data, stdout=subprocess.PIPE, stderr=subprocess.PIPE, cwd=self.folder, timeout=60)
+        self.assertEqual((done.returncode, done.stderr), (0, b""))
+        self.assertEqual(done.stdout.count(b'"response"'), 4)
+
+    def test_a_port(self):
+        put(self.at("os"), Program().asm("6502", COUNTS.encode()))
+        child = subprocess.Popen(
+            DAP + ["--port", "0"], stdin=subprocess.DEVNULL, stdout=subprocess.PIPE, cwd=self.folder
+        )
+        self.addCleanup(child.stdout.close)
+        self.addCleanup(child.wait, 60)
+        self.addCleanup(child.terminate)
+        port = int(child.stdout.readline())
+        for _ in range(2):
+            with socket.create_connection(("127.0.0.1", port), 60) as stream:
+                with stream.makefile("rb") as source, stream.makefile("wb") as target:
+                    client = Client(source, target)
+                    client.ask("initialize")
+                    client.ask("launch", host=["600", "x", "--os", "os"])
+                    self.begin(client)
+                    client.ask("disconnect")
+                    client.event("terminated")
+                    stream.shutdown(socket.SHUT_WR)
+                    while client.arrived.get(timeout=60) is not None:
+                        time.sleep(0)
+        self.tool("dap", "--port", "x", status=2)
+        self.tool("dap", "more", status=2)
+        self.assertIn(
+            "port 1", self.tool("dap", "--port", "1", status=1).err if os.getuid() else "port 1"
+        )
+
+
+if __name__ == "__main__":
+    unittest.main()
