@@ -72,18 +72,18 @@ with_points choice points = record { from = choice.from; at = choice.at; points 
 unfoldable pub chosen_with : Choice → Option (List ℕ) → Result Choice (Refusal Cause)
 chosen_with choice bytes = points_of bytes >>= λ points. Ok (with_points choice points)
 
--- what is told of a choice, where it is not refused
-abbrev pub told_of : Result Choice (Refusal Cause) → (Choice → Verdict Ending) → Result (Verdict Ending) (Refusal Cause)
-told_of stage told = stage >>= λ chosen. Ok (told chosen)
+-- the verdict of a choice, or the refusal of the choice
+abbrev pub verdict_of_choice : Result Choice (Refusal Cause) → (Choice → Verdict Ending) → Result (Verdict Ending) (Refusal Cause)
+verdict_of_choice stage verdict = stage >>= λ chosen. Ok (verdict chosen)
 
--- what is told of a side's machine and the entries that were read with it, if neither they nor the choice are refused
-abbrev pub host_told : Result (List Entry × HostState) (Refusal Cause) → Result Choice (Refusal Cause) → ℕ → List ℕ → Result (Verdict Ending) (Refusal Cause)
-host_told made stage ticks out = made >>= λ m. told_of stage (λ c. listed_ended host_moves host_sight Nmos Host ticks c out m)
+-- the verdict of a side's machine with its entries and a choice, or the first refusal: that of the machine, then that of the choice
+abbrev pub host_verdict : Result (List Entry × HostState) (Refusal Cause) → Result Choice (Refusal Cause) → ℕ → List ℕ → Result (Verdict Ending) (Refusal Cause)
+host_verdict made stage ticks out = made >>= λ m. verdict_of_choice stage (λ c. listed_ended host_moves host_sight Nmos Host ticks c out m)
 
-abbrev pub para_told : Result (List Entry × ParaState) (Refusal Cause) → Result Choice (Refusal Cause) → ℕ → List ℕ → Result (Verdict Ending) (Refusal Cause)
-para_told made stage ticks out = made >>= λ m. told_of stage (λ c. listed_ended para_moves para_sight Cmos Para ticks c out m)
+abbrev pub para_verdict : Result (List Entry × ParaState) (Refusal Cause) → Result Choice (Refusal Cause) → ℕ → List ℕ → Result (Verdict Ending) (Refusal Cause)
+para_verdict made stage ticks out = made >>= λ m. verdict_of_choice stage (λ c. listed_ended para_moves para_sight Cmos Para ticks c out m)
 
 -- What is read and what is refused is what `replay` reads and refuses; the file of addresses is refused last, before the trace's answers are checked.
 unfoldable pub follow_after : Setup → Side → ℕ → Choice → List ℕ → Inputs → Result (Verdict Ending) (Refusal Cause)
-follow_after set Host ticks choice out i = host_told (host_of set i) (chosen_with choice i.points) ticks out
-follow_after set Para ticks choice out i = para_told (para_of set.clock i) (chosen_with choice i.points) ticks out
+follow_after set Host ticks choice out i = host_verdict (host_of set i) (chosen_with choice i.points) ticks out
+follow_after set Para ticks choice out i = para_verdict (para_of set.clock i) (chosen_with choice i.points) ticks out

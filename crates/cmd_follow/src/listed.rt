@@ -9,7 +9,7 @@ ghost use Rattle.cmd_replayed.specs.Replay.{unless_wrong};
 ghost use Rattle.follow.specs.Listing.{replay_listing};
 ghost use Rattle.tube_party.specs.Replay.{replay_of};
 ghost use Rattle.cmd_machines.specs.View.{items};
-ghost use Rattle.cmd_follow.specs.Follow.{listed_text, listed_by, follow_after, points_refusal, points_read, points_of, with_points, chosen_with, told_of, host_told, para_told};
+ghost use Rattle.cmd_follow.specs.Follow.{listed_text, listed_by, follow_after, points_refusal, points_read, points_of, with_points, chosen_with, verdict_of_choice, host_verdict, para_verdict};
 ghost use Rattle.cmd_replayed.specs.Made.{host_of, para_of};
 ghost use Rattle.follow.specs.declared.Choice.{Choice};
 ghost use Rattle.cmd_stages.specs.declared.stop.Refusal.{Refusal};
@@ -148,7 +148,7 @@ fn listed_if<'a, D: BusDevice, M: Seen>(
     ensures { (stage : Result Choice (Refusal Cause)) → Gives (λ (c : Choice). c) chosen stage →
         let place = (replay_of M.moves side trace.now ticks (M.state machine)).place in
         let there = replay_listing M.steps M.sights part side trace.now ticks in
-        Gives (verdict_of D.plug) result (told_of stage (λ c. unless_wrong (wrong trace.now) (listed_by out.now place (there c (M.inside machine))))) }
+        Gives (verdict_of D.plug) result (verdict_of_choice stage (λ c. unless_wrong (wrong trace.now) (listed_by out.now place (there c (M.inside machine))))) }
 {
     match chosen {
         Ok(choice) => match listed(alloc, machine, part, side, ticks, choice, out, trace) {
@@ -172,7 +172,7 @@ fn host_listed<'a, D: BusDevice>(
     requires slots { All (λ slot. slot.0 < 16) inputs.roms.items }
     ensures { (stage : Result Choice (Refusal Cause)) → Gives (λ (c : Choice). c) chosen stage →
         let made = host_of (seen_setup D.plug setup) (seen_inputs inputs) in
-        Gives (verdict_of D.plug) result (host_told made stage ticks out.now) }
+        Gives (verdict_of D.plug) result (host_verdict made stage ticks out.now) }
 {
     let (trace, machine) = host_made(alloc, setup, inputs)?;
     listed_if(
@@ -199,7 +199,7 @@ fn para_listed<'a, D: BusDevice>(
     requires ticks { ticks ≤ MOST }
     ensures { (stage : Result Choice (Refusal Cause)) → Gives (λ (c : Choice). c) chosen stage →
         let made = para_of (seen_setup D.plug setup).clock (seen_inputs inputs) in
-        Gives (verdict_of D.plug) result (para_told made stage ticks out.now) }
+        Gives (verdict_of D.plug) result (para_verdict made stage ticks out.now) }
 {
     let (trace, machine) = para_made(alloc, setup.clock, inputs)?;
     listed_if(

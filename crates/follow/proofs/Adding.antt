@@ -1,5 +1,6 @@
 -- Sums over all addresses.
-use Rattle.std.proofs.Common.{ℕ, zero, suc, ◌≡◌, ◌+◌, ◌-◌, ◌≤◌, ◌<◌, ◌∙◌, inl, inr, refl, sym, ap, arith, nat_le, nat_lt, List, [], ◌∷◌, length, map, Bool, true, false, ◌&&◌, ◌==◌, Option, None, Some, if◌then◌else◌}
+use Rattle.std.proofs.Common.{ℕ, zero, suc, ◌≡◌, ◌+◌, ◌-◌, ◌≤◌, ◌<◌, ◌∙◌, inl, inr, refl, sym, ap, arith, nat_le, nat_lt}
+use Rattle.std.proofs.Common.{List, [], ◌∷◌, length, map, Bool, true, false, ◌&&◌, ◌==◌, Option, None, Some, if◌then◌else◌}
 use Rattle.std.specs.Prelude.{All, filter}
 use Rattle.std.proofs.lemmas.Bool.{cases_eq}
 use Rattle.std.proofs.lemmas.Bool.Decides.{nat_tests}

@@ -20,7 +20,7 @@ module _ {S : Type 0} (m : Moves S) (side : Side) (trace : List Entry) (n : ℕ)
   abbrev IsLow : S → Type 0
   IsLow s = m.due s ≤ n
 
-  -- so many states, each of which is low
+  -- at most k states, and the step of each is due at tick n or before
   record IsShort (k : ℕ) (states : List S) : Type 0 where
     few : length states ≤ k
     low : All IsLow states

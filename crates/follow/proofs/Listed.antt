@@ -1,5 +1,6 @@
 -- A replay of a party that is watched is one of the party, and the starts of its run are kept.
-use Rattle.std.proofs.Common.{ℕ, zero, suc, ◌≡◌, ◌∙◌, ◌≤◌, nat_lt, refl, sym, ap, List, [], ◌∷◌, ◌++◌, Bool, true, false, Option, if◌then◌else◌, append_assoc, arith}
+use Rattle.std.proofs.Common.{ℕ, zero, suc, ◌≡◌, ◌∙◌, ◌≤◌, nat_lt, refl, sym, ap, List, [], ◌∷◌}
+use Rattle.std.proofs.Common.{◌++◌, Bool, true, false, Option, if◌then◌else◌, append_assoc, arith}
 use Rattle.std.proofs.lemmas.List.{append-nil}
 use Rattle.beeb_bits.specs.declared.Side.{Side}
 use Rattle.tube_chip.specs.Act.{Query}

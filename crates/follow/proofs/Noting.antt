@@ -1,5 +1,6 @@
 -- One more start behind others.
-use Rattle.std.proofs.Common.{ℕ, ◌≡◌, ◌≤◌, ◌<◌, ◌+◌, ◌∙◌, arith, List, [], ◌∷◌, ◌++◌, length, take, true, false, nat_lt, if◌then◌else◌, length-append, take_all, ◌⊎◌, inl, inr}
+use Rattle.std.proofs.Common.{ℕ, ◌≡◌, ◌≤◌, ◌<◌, ◌+◌, ◌∙◌, arith, List, [], ◌∷◌, ◌++◌, length}
+use Rattle.std.proofs.Common.{take, true, false, nat_lt, if◌then◌else◌, length-append, take_all, ◌⊎◌, inl, inr}
 use Rattle.std.proofs.Common.{Option, Some, None, ◌&&◌, refl, sym, ap}
 use Rattle.std.specs.Prelude.{Bool, IfSome, is_none, flat_map}
 use Rattle.std.proofs.lemmas.Bool.Decides.{nat_tests}
@@ -67,5 +68,6 @@ module _ {choice c : Choice} {trail t d : List StartState} {before b : Option (O
   pub kept_left : is_chosen c b x.tick x.regs.pc x.watched ≡ false → kept_of t (Some x.watched) d ≡ keep choice (kept_of trail before counted) x
   kept_left is = let no = rw (three, two) at is in rw (one, four, no) refl
 
-  pub kept_more : {after : List StartState} → after ≡ t ++ x ∷ [] → is_chosen c b x.tick x.regs.pc x.watched ≡ true → kept_of after (Some x.watched) d ≡ keep choice (kept_of trail before counted) x
+  pub kept_more : {after : List StartState} → after ≡ t ++ x ∷ [] → is_chosen c b x.tick x.regs.pc x.watched ≡ true →
+      kept_of after (Some x.watched) d ≡ keep choice (kept_of trail before counted) x
   kept_more more is = let yes = rw (three, two) at is in rw (more, one, four, yes) refl

@@ -60,7 +60,8 @@ module _ {S T : Type 0} (h : Moves S) (sights : S → Sight) (p : Moves T) (set 
       (watched_of s set none_kept) ≡ record { machine = (reference hv p (watched_of s set none_kept) t n).host; place = None } →
       replay_listing h sights set.part Host (accesses (reference h p s t n).list) n set.choice s ≡ reference_listing h p h (λ w. w.host) sights set.part set.choice s t n
   host_replayed s t n replayed =
-      simp (chosen_kept, counted_kept) at (ap (λ (e : Ended (Watched S)). listing_of_chosen set.part set.choice n e.machine.kept.chosen e.machine.kept.counted) (rw (host_ticks n 0 (start s t) none_kept, replay_watched) at replayed))
+      simp (chosen_kept, counted_kept) at (ap (λ (e : Ended (Watched S)). listing_of_chosen set.part set.choice n e.machine.kept.chosen e.machine.kept.counted)
+      (rw (host_ticks n 0 (start s t) none_kept, replay_watched) at replayed))
 
 module _ {S T : Type 0} (h : Moves S) (p : Moves T) (sights : T → Sight) (set : Order) where
   abbrev pv : Moves (Watched T)
@@ -83,4 +84,5 @@ module _ {S T : Type 0} (h : Moves S) (p : Moves T) (sights : T → Sight) (set 
       (watched_of t set none_kept) ≡ record { machine = (reference h pv s (watched_of t set none_kept) n).para; place = None } →
       replay_listing p sights set.part Para (accesses (reference h p s t n).list) n set.choice t ≡ reference_listing h p p (λ w. w.para) sights set.part set.choice s t n
   para_replayed s t n replayed =
-      simp (chosen_kept, counted_kept) at (ap (λ (e : Ended (Watched T)). listing_of_chosen set.part set.choice n e.machine.kept.chosen e.machine.kept.counted) (rw (para_ticks n 0 (start s t) none_kept, replay_watched) at replayed))
+      simp (chosen_kept, counted_kept) at (ap (λ (e : Ended (Watched T)). listing_of_chosen set.part set.choice n e.machine.kept.chosen e.machine.kept.counted)
+      (rw (para_ticks n 0 (start s t) none_kept, replay_watched) at replayed))

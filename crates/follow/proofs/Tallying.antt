@@ -1,5 +1,7 @@
 -- What is counted start by start is what is counted of all starts.
-use Rattle.std.proofs.Common.{ℕ, zero, suc, ◌≡◌, ◌+◌, ◌-◌, ◌*◌, ◌^◌, ◌≤◌, ◌<◌, ◌∙◌, refl, sym, ap, arith, min, List, [], ◌∷◌, ◌++◌, length, replicate, slice_index_or, slice_set, Bool, true, false, ◌&&◌, ◌||◌, ◌==◌, Option, None, Some, if◌then◌else◌, length-set}
+use Rattle.std.proofs.Common.{ℕ, zero, suc, ◌≡◌, ◌+◌, ◌-◌, ◌*◌, ◌^◌, ◌≤◌, ◌<◌, ◌∙◌, refl}
+use Rattle.std.proofs.Common.{sym, ap, arith, min, List, [], ◌∷◌, ◌++◌, length, replicate, slice_index_or, slice_set, Bool}
+use Rattle.std.proofs.Common.{true, false, ◌&&◌, ◌||◌, ◌==◌, Option, None, Some, if◌then◌else◌, length-set}
 use Rattle.std.specs.Prelude.{All, filter}
 use Rattle.std.proofs.lemmas.Bool.{cases_eq}
 use Rattle.std.proofs.lemmas.Bool.Decides.{nat_tests}
@@ -8,8 +10,10 @@ use Rattle.std.proofs.lemmas.List.Elements.{All-head, All-tail}
 use Rattle.follow.specs.declared.count.Count.{Count}
 use Rattle.follow.specs.declared.tally.Last.{Last}
 use Rattle.follow.specs.Start.{StartState}
-use Rattle.follow.specs.Counts.{condition_at, is_branch, is_taken, is_of, starts_at, tick_or, ticks_at, branches_at, taken_at, is_some_there, count_at, count_line, count_lines, counts_text, counts_of_counted}
-use Rattle.follow.specs.CodeTally.{Tallied, tallied, no_count, none_counted, none_tallied, sum_of, with_ticks, with_start, ended_at, begun_at, last_of, tally, tally_all, table_lines, tallied_text, text_if}
+use Rattle.follow.specs.Counts.{condition_at, is_branch, is_taken, is_of, starts_at, tick_or, ticks_at, branches_at, taken_at}
+use Rattle.follow.specs.Counts.{is_some_there, count_at, count_line, count_lines, counts_text, counts_of_counted}
+use Rattle.follow.specs.CodeTally.{Tallied, tallied, no_count, none_counted, none_tallied, sum_of, with_ticks, with_start}
+use Rattle.follow.specs.CodeTally.{ended_at, begun_at, last_of, tally, tally_all, table_lines, tallied_text, text_if}
 
 -- one more start behind others
 pub tally_push : (t : Tallied) (starts : List StartState) (x : StartState) → tally_all t (starts ++ x ∷ []) ≡ tally (tally_all t starts) x
@@ -199,7 +203,8 @@ none_length = length-replicate 65536 no_count
 none_total : (n pc : ℕ) (starts : List StartState) → total n pc no_count None starts ≡ count_at n pc starts
 none_total n pc starts = same_count (omega arith) (omega arith) refl (omega arith)
 
-pub text_same : (n : ℕ) (starts : List StartState) → n ≤ 1073741824 → length starts ≤ 1073741824 → All IsBelow starts → tallied_text n (tally_all none_tallied starts) ≡ counts_text n starts
+pub text_same : (n : ℕ) (starts : List StartState) → n ≤ 1073741824 → length starts ≤ 1073741824 → All IsBelow starts →
+    tallied_text n (tally_all none_tallied starts) ≡ counts_text n starts
 unfolding counts_text
 text_same n starts most few low =
     let t : Tallied = tally_all none_tallied starts in

@@ -1,4 +1,4 @@
--- What is counted adds up: the starts to those that a listing of all chooses, and the ticks to the time from the first of them to the end.
+-- Counts add up: the starts to those that a listing without a filter chooses, and the ticks to the time from the first of them to the end.
 use Rattle.std.specs.Prelude.{ℕ, zero, suc, ◌≡◌, ◌+◌, ◌-◌, ◌≤◌, ◌<◌, true, List, [], ◌∷◌, length, All, None, ⊤}
 use Rattle.beeb_bits.specs.declared.Side.{Side}
 use Rattle.tube_trace.specs.declared.Entry.{Entry}
@@ -9,7 +9,7 @@ use Rattle.follow.specs.Start.{StartState}
 use Rattle.follow.specs.Counts.{counted_of, tick_or, count_at}
 use Rattle.follow.specs.Listing.{chosen_of, run_of, starts_of}
 
--- the sum over so many addresses from one on, and over all
+-- the sum of f over k addresses from pc on, and over all 65,536
 abbrev pub sum_from : ℕ → ℕ → (ℕ → ℕ) → ℕ
 sum_from zero pc f = 0
 sum_from (suc k) pc f = f pc + sum_from k (pc + 1) f
@@ -29,7 +29,7 @@ pub record AddUp (n : ℕ) (starts : List StartState) : Type 0 where
   pub starts_are : sum_of_all (λ pc. (count_at n pc starts).starts) ≡ length starts
   pub ticks_are : sum_of_all (λ pc. (count_at n pc starts).ticks) ≡ n - tick_or n starts
 
--- those that are counted of a run are those that a listing without a filter chooses, and what is counted of them adds up
+-- A run counts the starts that a listing without a filter chooses, and the counts of all addresses add up.
 pub record CountsAddUp {S : Type 0} (m : Moves S) (sights : S → Sight) : Type 0 where
   pub same : (side : Side) (trace : List Entry) (n from : ℕ) (s : S) →
       counted_of (all_from from) (starts_of m sights None (run_of m side trace n s)) ≡ chosen_of (all_from from) (starts_of m sights None (run_of m side trace n s))

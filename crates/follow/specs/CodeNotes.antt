@@ -22,11 +22,11 @@ kept_of chosen before counted = record { chosen = chosen; before = before; count
 abbrev pub none_kept : Kept
 none_kept = kept_of [] None []
 
--- with one more start, and with more of them
--- some starts, with one more if that is asked
+-- some starts, and one more if that is asked
 abbrev pub with_if : Bool → List StartState → StartState → List StartState
 with_if is starts x = if is then starts ++ x ∷ [] else starts
 
+-- with one more start, and with more of them
 abbrev pub keep : Choice → Kept → StartState → Kept
 keep choice k x =
     kept_of (with_if (is_chosen choice k.before x.tick x.regs.pc x.watched) k.chosen x) (Some x.watched) (with_if (is_counted choice x.tick) k.counted x)

@@ -1,5 +1,6 @@
 -- What is counted start by start.
-use Rattle.std.specs.Prelude.{ℕ, ◌≡◌, ◌+◌, ◌-◌, ◌^◌, ◌||◌, min, List, [], ◌∷◌, ◌++◌, replicate, slice_index_or, slice_set, Bool, true, false, Option, None, Some, IsSomeAnd, if◌then◌else◌}
+use Rattle.std.specs.Prelude.{ℕ, ◌≡◌, ◌+◌, ◌-◌, ◌^◌, ◌||◌, min, List, [], ◌∷◌, ◌++◌, replicate}
+use Rattle.std.specs.Prelude.{slice_index_or, slice_set, Bool, true, false, Option, None, Some, IsSomeAnd, if◌then◌else◌}
 use Rattle.follow.specs.declared.count.Count.{Count}
 use Rattle.follow.specs.declared.tally.Last.{Last}
 use Rattle.follow.specs.declared.tally.Tally.{Tally}

@@ -1,5 +1,6 @@
 -- What is counted of the starts of each address, and its text. (This project's own format.)
-use Rattle.std.specs.Prelude.{ℕ, zero, suc, ◌+◌, ◌-◌, ◌==◌, ◌&&◌, nat_le, nat_lt, List, [], ◌∷◌, ◌++◌, length, filter, Bool, true, false, Option, None, Some, if◌then◌else◌, codes}
+use Rattle.std.specs.Prelude.{ℕ, zero, suc, ◌+◌, ◌-◌, ◌==◌, ◌&&◌, nat_le, nat_lt, List, [], ◌∷◌, ◌++◌}
+use Rattle.std.specs.Prelude.{length, filter, Bool, true, false, Option, None, Some, if◌then◌else◌, codes}
 use Rattle.std.specs.Fmt.{decimal}
 use Rattle.digits.specs.Hexadecimal.{hex_digits}
 use Rattle.op_table.specs.declared.names.Mnemonic.{Mnemonic}
@@ -103,7 +104,7 @@ count_line pc c =
     if c.starts == 0 then []
     else hex_digits 4 pc ++ number_text c.starts ++ number_text c.ticks ++ taken_text c.branches c.taken ++ codes "\n"
 
--- the lines of so many addresses from one on
+-- the lines of k addresses from pc on
 abbrev pub count_lines : ℕ → ℕ → (ℕ → Count) → List ℕ
 count_lines zero pc count = []
 count_lines (suc k) pc count = count_line pc (count pc) ++ count_lines k (pc + 1) count

@@ -1,5 +1,6 @@
 -- The listing of a replay: the starts of its run, those that are chosen, and a line for each of the first of them. (This project's own format.)
-use Rattle.std.specs.Prelude.{ℕ, zero, suc, ◌==◌, ◌&&◌, nat_le, nat_lt, min, not, List, [], ◌∷◌, ◌++◌, length, map, filter, take, slice_index_or, flat_map, Bool, true, false, Option, None, Some, if◌then◌else◌, codes}
+use Rattle.std.specs.Prelude.{ℕ, zero, suc, ◌==◌, ◌&&◌, nat_le, nat_lt, min, not, List, [], ◌∷◌, ◌++◌, length, map, filter}
+use Rattle.std.specs.Prelude.{take, slice_index_or, flat_map, Bool, true, false, Option, None, Some, if◌then◌else◌, codes}
 use Rattle.digits.specs.Hexadecimal.{hex_digits}
 use Rattle.beeb_bits.specs.declared.Side.{Side}
 use Rattle.op_table.specs.declared.names.Part.{Part}

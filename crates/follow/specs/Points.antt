@@ -1,5 +1,6 @@
 -- The addresses of a file, one on each line: four upper-case hexadecimal digits and a line feed. They rise from line to line. (This project's own format.)
-use Rattle.std.specs.Prelude.{ℕ, ◌≡◌, ◌+◌, ◌==◌, ◌&&◌, nat_lt, Bool, true, false, List, [], ◌∷◌, length, map, take, replicate, slice_set, slice_index_or, Option, Some, None, Result, Ok, Err, if◌then◌else◌}
+use Rattle.std.specs.Prelude.{ℕ, ◌≡◌, ◌+◌, ◌==◌, ◌&&◌, nat_lt, Bool, true, false, List, [], ◌∷◌, length, map}
+use Rattle.std.specs.Prelude.{take, replicate, slice_set, slice_index_or, Option, Some, None, Result, Ok, Err, if◌then◌else◌}
 use Rattle.std.specs.List.{list_all}
 use Rattle.digits.specs.Hexadecimal.{hex_number, is_hex}
 use Rattle.digits.specs.Lines.{text_lines}

@@ -72,19 +72,15 @@ pub(crate) fn with_ticks(count: Count, ticks: u64) -> Count
 pub(crate) fn with_start(count: Count, holds: Option<bool>) -> Count
     ensures { result ≡ with_start count holds }
 {
-    match holds {
-        None => Count {
-            starts: count.starts.saturating_add(1),
-            ticks: count.ticks,
-            branches: count.branches,
-            taken: count.taken.saturating_add(0),
-        },
-        Some(holds) => Count {
-            starts: count.starts.saturating_add(1),
-            ticks: count.ticks,
-            branches: true,
-            taken: count.taken.saturating_add(u64::from(holds)),
-        },
+    let taken = match holds {
+        None => 0,
+        Some(holds) => u64::from(holds),
+    };
+    Count {
+        starts: count.starts.saturating_add(1),
+        ticks: count.ticks,
+        branches: count.branches || holds.is_some(),
+        taken: count.taken.saturating_add(taken),
     }
 }
 

@@ -1,5 +1,6 @@
 //! What is kept of the starts so far: the lines of those that are chosen, and what is counted of all.
-ghost use Rattle.std.specs.Prelude.{◌≡◌, ◌+◌, ◌++◌, ◌≤◌, ◌<◌, ◌^◌, [], ◌∷◌, nat_lt, if◌then◌else◌, false, true, ℕ, length, Option, None, Some, IfSome, IfOk, List, option_map, ◌&&◌, is_none};
+ghost use Rattle.std.specs.Prelude.{◌≡◌, ◌+◌, ◌++◌, ◌≤◌, ◌<◌, ◌^◌, [], ◌∷◌, nat_lt, if◌then◌else◌};
+ghost use Rattle.std.specs.Prelude.{false, true, ℕ, length, Option, None, Some, IfSome, IfOk, List, option_map, ◌&&◌, is_none};
 ghost use Rattle.follow.specs.Listing.{start_line};
 ghost use Rattle.follow.specs.Counts.{is_counted};
 ghost use Rattle.follow.specs.Start.{StartState};

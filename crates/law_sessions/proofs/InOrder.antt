@@ -49,7 +49,8 @@ use Rattle.cmd_stages.specs.Plan.{Verdict, Want, Plan, read_all, within, verdict
 use Rattle.cmd_stages.specs.Promise.{World, CarriesOut, EndsAs, IsReached, read_names, names, ending_of}
 use Rattle.cmd_stages.proofs.EndLemmas.{rose_not_stayed, thread_not_stayed}
 use Rattle.cmd_status.specs.declared.status.Status.{Status}
-use Rattle.cmd_status.specs.declared.status.Status.TheVariants.{Done, Usage, ReadFault, TooLong, BadImage, BadScript, BadPoints, BadTrace, BadSource, BadState, WriteFault, NoThread, NoMemory, Wrong, Differs}
+use Rattle.cmd_status.specs.declared.status.Status.TheVariants.{Done, Usage, ReadFault, TooLong, BadImage, BadScript, BadPoints, BadTrace}
+use Rattle.cmd_status.specs.declared.status.Status.TheVariants.{BadSource, BadState, WriteFault, NoThread, NoMemory, Wrong, Differs}
 use Rattle.cmd_status.specs.declared.status.Ending.{Ending}
 use Rattle.cmd_status.specs.declared.status.Ending.TheVariants as endings
 use Rattle.cmd_status.specs.declared.status.Cause.{Cause}
@@ -80,7 +81,8 @@ use Rattle.follow.specs.declared.Choice.{Choice}
 use Rattle.cmd_top.specs.Plans.{plan, after, choice_of}
 use Rattle.cmd_top.specs.Commands.{EndsWith}
 use Rattle.law_sessions.specs.Refusals.{first_of, unread_by, unread, misfit, bad_trace, other_clock, bad_script_by, bad_script, bad_state, bad_source, wrong_by}
-use Rattle.law_sessions.specs.Refusals.{differs_at, held, entries_in, entries_at, events_by, events_in, host_at, trace_causes, entry_causes, made_causes, replay_causes, follow_causes, bad_points_by, bad_points, pair_causes}
+use Rattle.law_sessions.specs.Refusals.{differs_at, held, entries_in, entries_at, events_by, events_in, host_at, trace_causes, entry_causes}
+use Rattle.law_sessions.specs.Refusals.{made_causes, replay_causes, follow_causes, bad_points_by, bad_points, pair_causes}
 use Rattle.law_sessions.specs.Refusals.{session_causes, read_causes, causes, NoFault, ComesToWriting, RefusesInOrder, RefusalsInOrder}
 
 -- a command that comes to this tells the first of these causes

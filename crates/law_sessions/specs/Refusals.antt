@@ -1,6 +1,7 @@
 -- Which status is told where several causes hold at once: that of the first in one list. Each cause is a condition on the words, on the files that the
 -- shelf holds and on the devices that are handed in, whether or not another cause holds too.
-use Rattle.std.specs.Prelude.{ℕ, ◌+◌, ◌≡◌, ◌⊎◌, ◌↔◌, nat_lt, Bool, true, false, List, [], ◌∷◌, ◌++◌, map, length, unwrap_or, Option, Some, None, Contains, IfSome, Result, Ok, Err, if◌then◌else◌}
+use Rattle.std.specs.Prelude.{ℕ, ◌+◌, ◌≡◌, ◌⊎◌, ◌↔◌, nat_lt, Bool, true, false, List, [], ◌∷◌, ◌++◌}
+use Rattle.std.specs.Prelude.{map, length, unwrap_or, Option, Some, None, Contains, IfSome, Result, Ok, Err, if◌then◌else◌}
 use Rattle.beeb_bits.specs.declared.clock.Clock.{Clock}
 use Rattle.beeb_bits.specs.declared.Side.{Side}
 use Rattle.beeb_bits.specs.declared.Side.TheVariants.{Host, Para}
@@ -38,7 +39,8 @@ use Rattle.cmd_words.specs.Reads.{reads}
 use Rattle.cmd_stages.specs.Plan.{Verdict, Want, verdict}
 use Rattle.cmd_stages.specs.Promise.{World, HasCrewStayed, read_names, names}
 use Rattle.cmd_status.specs.declared.status.Status.{Status}
-use Rattle.cmd_status.specs.declared.status.Status.TheVariants.{Done, Usage, ReadFault, TooLong, BadImage, BadScript, BadPoints, BadTrace, BadSource, BadState, WriteFault, NoThread, NoMemory, Wrong, Differs}
+use Rattle.cmd_status.specs.declared.status.Status.TheVariants.{Done, Usage, ReadFault, TooLong, BadImage, BadScript, BadPoints, BadTrace}
+use Rattle.cmd_status.specs.declared.status.Status.TheVariants.{BadSource, BadState, WriteFault, NoThread, NoMemory, Wrong, Differs}
 use Rattle.cmd_status.specs.declared.status.Ending.{Ending}
 use Rattle.cmd_status.specs.declared.status.Which.TheVariants.{Image}
 use Rattle.cmd_status.specs.Status.{number}

@@ -14,4 +14,5 @@ invariant_of-self g c =
 pub returns-in-Some : goal.returns-in-Some
 returns-in-Some g c =
     let notes = c.args.self.now.notes in
-    passed g.met.M.Seen.seen (order notes.part notes.choice) (kept_of notes.trail.starts notes.before notes.counted.starts) c.in-Some.passing c.in-Some.ensures.leaves _ _ _ c.pass.ensures.0 _ _ c.pass.ensures.1
+    passed g.met.M.Seen.seen (order notes.part notes.choice) (kept_of notes.trail.starts notes.before notes.counted.starts)
+    c.in-Some.passing c.in-Some.ensures.leaves _ _ _ c.pass.ensures.0 _ _ c.pass.ensures.1
