@@ -3,6 +3,7 @@ from __future__ import annotations
 
 import contextlib
 import shlex
+import signal
 import sys
 import time
 from typing import Callable, Dict, Iterator, List, Sequence
@@ -116,6 +117,18 @@ def completions(debugger: Debugger, line: str, text: str) -> List[str]:
     return []
 
 
+@contextlib.contextmanager
+def interruptible() -> Iterator[None]:
+    """Here a Ctrl-C is noticed within 0.2 s. `input` waits in select(), and notices a signal only
+    if it interrupts this call, not if it comes just before: so a timer interrupts it again."""
+    signal.signal(signal.SIGALRM, lambda *_: None)
+    signal.setitimer(signal.ITIMER_REAL, 0.2, 0.2)
+    try:
+        yield
+    finally:
+        signal.setitimer(signal.ITIMER_REAL, 0)
+
+
 def ask(debugger: Debugger, progress: Progress) -> None:
     """Commands of a person, line by line, with a history."""
     with contextlib.suppress(ImportError):
@@ -128,18 +141,15 @@ def ask(debugger: Debugger, progress: Progress) -> None:
     debugger.try_to("where")
     debugger.forget()
     while not debugger.ended:
-        progress.end()
         try:
-            line = input(f"{debugger.side} {debugger.tick}> ")
+            progress.end()
+            with interruptible():
+                line = input(f"{debugger.side} {debugger.tick}> ")
+            progress.begin()
+            debugger.try_to(line)
         except EOFError:
             print()
             return
-        except KeyboardInterrupt:
-            print()
-            continue
-        progress.begin()
-        try:
-            debugger.try_to(line)
         except KeyboardInterrupt:
             print()
 

@@ -4,21 +4,22 @@ import os
 import pty
 import re
 import select
+import sys
 import time
 
 from common import TOP, Case, put, signal, unittest
 
-LIMIT = 60
+LIMIT = 300
+DEBUG = os.path.join(TOP, "tools", "debug")
+WORDS = ["solo", "2000", "x", "--os", "os", "--tube", "tube"]
 
 
 class Terminal(Case):
     """A debugger in a pseudo-terminal."""
 
-    def setUp(self):
-        super().setUp()
+    def starts(self, words):
         self.pair()
         self.said, self.status = b"", None
-        words = [os.path.join(TOP, "tools", "debug"), "solo", "2000", "x", "--os", "os", "--tube", "tube"]
         if importlib.util.find_spec("readline") is None:
             self.skipTest("this python has no readline: there are no histories")
         try:
@@ -29,11 +30,10 @@ class Terminal(Case):
             os.chdir(self.folder)
             os.environ["TERM"], os.environ["INPUTRC"], os.environ["HOME"] = "xterm", "/dev/null", self.folder
             try:
-                os.execv(words[0], words)
+                os.execvp(words[0], words)
             finally:
                 os._exit(99)
         self.addCleanup(self.end)
-        self.wait("host 2000> ")
 
     def end(self):
         if self.status is None:
@@ -80,6 +80,13 @@ class Terminal(Case):
         self.fail("it did not end")
         return None
 
+
+class Sessions(Terminal):
+    def setUp(self):
+        super().setUp()
+        self.starts([DEBUG, *WORDS])
+        self.wait("host 2000> ")
+
     def test_a_session(self):
         """Words and their short forms, an empty line, the history, completion, help, wrong words, and the end."""
         self.assertIn("go 1503", self.types("go 1503\r", "host 1503> "))
@@ -125,6 +132,19 @@ class Terminal(Case):
         self.types("frame new.png; go 7\r", "host 7> ")
         self.assertEqual(self.names()["new.png"][:4], b"\x89PNG")
         self.assertEqual(self.leaves("q\r"), 0)
+
+
+class Interrupts(Terminal):
+    @unittest.skipUnless(importlib.util.find_spec("ctypes"), "this python has no ctypes")
+    def test_just_before_the_wait_for_keys(self):
+        """Python's readline calls a hook between the prompt and its wait: here a C function sends the signal."""
+        code = ("import ctypes, functools, readline, runpy, sys; sys.argv = sys.argv[1:];"
+                "interrupts = map(getattr(ctypes.CDLL(None), 'raise'), [2]);"
+                "readline.set_startup_hook(functools.partial(next, interrupts, None));"
+                "runpy.run_path(sys.argv[0], run_name='__main__')")
+        self.starts([sys.executable, "-c", code, DEBUG, *WORDS])
+        self.wait("host 2000> \nhost 2000> ")
+        self.assertEqual(self.leaves("quit\r"), 0)
 
 
 if __name__ == "__main__":
