@@ -296,6 +296,19 @@ class Ends(Case):
         self.assertEqual(child.wait(60), -9)
         child.stderr.close()
 
+    def test_a_file_above_the_system_s_limit(self):
+        """The program replaces a file whole or not at all (`ulimit -f`)."""
+        self.pair()
+        words = [beebtube.Program().path, "solo", "2000", "out", "--os", "os", "--tube", "tube"]
+        self.assertEqual(call(words, self.folder).status, 0)
+        whole = self.names()
+        for name in ("out.host", "out.para"):
+            put(self.at(name), b"as before")
+        # Python ignores SIGXFSZ, and so does the program then.
+        done = call(words, self.folder, limit=40000, restore_signals=False)
+        self.assertEqual((done.status, done.err.splitlines()[0]), (5, "cannot write out.para"))
+        self.assertEqual(self.names(), {**whole, "out.para": b"as before"})
+
 
 class Stubs(Case):
     """A clone that only pretends, whose program is a script, and whose prover and python3 are scripts too."""

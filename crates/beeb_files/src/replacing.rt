@@ -1,5 +1,5 @@
 //! A file that is replaced whole or not at all.
-ghost use Rattle.std.specs.Prelude.{◌<◌};
+ghost use Rattle.std.specs.Prelude.{◌<◌, IsOk};
 
 use std::fs::{Metadata, OpenFile, OpenOptions};
 use std::io::{ErrorKind, Write};
@@ -67,7 +67,37 @@ fn is_owned_alike<F: OpenFile>(file: &F, there: &Metadata) -> bool {
     }
 }
 
-// Writes the bytes to the file beside, and gives it the name; where either fails, the file goes and what had the name keeps it.
+// Gives the file beside the name. `written` is what the write to it gave.
+fn rename_written<R: Files>(
+    rt: &R,
+    written: &io::Result<()>,
+    beside: &str,
+    name: &str,
+) -> io::Result<()>
+    requires { IsOk written.now }
+{
+    let _ = written;
+    fs::rename(rt, beside, name)
+}
+
+// Gives the file beside the name if the write to it gave Ok. A fault of the write is the answer.
+fn rename_if_written<R: Files>(
+    rt: &R,
+    written: io::Result<()>,
+    beside: &str,
+    name: &str,
+) -> io::Result<()>
+    ensures { IsOk result → IsOk written }
+{
+    if written.is_ok() {
+        rename_written(rt, &written, beside, name)
+    } else {
+        written
+    }
+}
+
+// Writes the bytes to the file beside, and gives it the name. If either fails, the file goes and
+// what had the name keeps it.
 fn write_and_rename<R: Files>(
     rt: &R,
     mut file: R::File,
@@ -75,10 +105,8 @@ fn write_and_rename<R: Files>(
     name: &str,
     bytes: &[u8],
 ) -> io::Result<()> {
-    let mut done = file.write_all(bytes);
-    if done.is_ok() {
-        done = fs::rename(rt, beside, name);
-    }
+    let written = file.write_all(bytes);
+    let done = rename_if_written(rt, written, beside, name);
     if done.is_err() {
         let _ = fs::remove_file(rt, beside);
     }
