@@ -1,25 +1,28 @@
 #!/usr/bin/env python3
 """fuzz_tools.py [--seed S] [--from N] [--count N] [-j N] [--only TOOL]
 
-Calls the tools with made-up arguments and files in made-up surroundings, and reports where one
-does not what docs/TOOLS.md promises. Call N of seed S is always the same, but for the moments of
-signals. The count is 20,000 by default.
+Calls the tools with random arguments and files in random surroundings, and reports each call that
+does not do what docs/TOOLS.md promises. Call N of seed S is always the same, except for the moments
+of signals. The count is 20,000 by default.
 
-Files have bytes changed, cut, added or drawn at random, or are 20 GB of 00, or pipes that nobody
-writes; names have line feeds, ESC, quotes, bytes that are no text, or a `-` in front. Standard
-files are closed, full or without a reader; files may not grow; a disk is full (if this may mount
-one); the user has no rights (if this is root); a signal comes while the tool works; eight such
-calls run at once in one folder. After each call this checks:
+It changes, cuts, adds or draws bytes of files at random. Some files have 20 GB of zeros, and some
+are pipes without a writer. Some names contain line feeds, ESC, quotes, bytes that are not UTF-8, or
+begin with `-`. In some calls standard input, output or error is closed, full or has no reader. In
+some calls no file may grow above 300 bytes, or the disk is full (if this process may mount one), or
+the user has no rights (if this process is root). In some calls a signal comes while the tool works,
+and in some eight equal calls run at once in one folder. After each call this checks:
 
-- it ends by no signal of its own within one minute, without a traceback or a fault of the tool
-- the status is the one that follows from the files and the arguments as they were made
-- another status than 0 comes with a text, unless nobody reads it
-- status 0 is right: texts and files are those of the call in plain surroundings; the program agrees
-- no input changed; nothing was written under another name; nothing is left, no process either
-- after a signal each file is the old or the new one, and the next call in this folder is right
+- the tool ends within one minute, by no signal of its own, without a traceback or an internal error
+- its status is the one that follows from the files and arguments as they were made
+- a tool that ends with a status other than 0 prints a message, unless its output is closed
+- a tool that ends with status 0 prints and writes the same as in plain surroundings, and the
+  program agrees
+- the tool changes no input, writes no file of another name, and leaves no temporary file and no
+  process
+- after a signal each file is the old one or the new one, and the next call in this folder succeeds
 
-Each tool is compiled once and runs in a copy of this process; one call in twenty is a process of
-its own. What differs is printed with its number. The exit status is 1 if anything differs."""
+Each tool is compiled once and runs in a fork of this process. One call in twenty is a process of
+its own. If a check fails, this prints the call with its number, and the exit status is 1."""
 import argparse
 import atexit
 import codecs

@@ -343,7 +343,7 @@ class Generator:
         files["text"] = self.nearly(dice, text)
         return Made("manifest", ["--check", "text"], files, good=self.good_check)
 
-    # A text that is told to be the same has the files that were read, with their sums, and no other.
+    # If the check reports `same`, it counts each file that the manifest names, and no other.
     def good_check(self, made, at, out):
         lines = text_of(at + "/text").decode("utf-8", "replace").splitlines()
         wanted = [line for line in lines if line.startswith(("read ", "wrote "))]

@@ -40,8 +40,8 @@ LETTER = {"host": "H", "para": "P"}
 # --- Random programs ---
 
 HANDLED = "PLA\nPLA\n"
-# Parts of a program: lines of the loop, and subroutines behind it. @ is a number of its own; %r a
-# random byte.
+# The parts of a program: each has lines for the main loop, and a subroutine that follows the loop.
+# The generator replaces @ by a number that no other part has, and %r by a random byte.
 PARTS = {
     "count": ("INC &70\nDEC &71\nINC &0200", ""),
     "shift": ("LDX #%r\nSTX &72\nASL &72\nROL &73\nLSR &72\nROR &74", ""),

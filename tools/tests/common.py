@@ -5,6 +5,7 @@ import signal
 import subprocess
 import sys
 import tempfile
+import time
 import unittest
 
 TOP = os.path.dirname(os.path.dirname(os.path.dirname(os.path.realpath(__file__))))
@@ -125,6 +126,16 @@ def pretend_clone(folder):
     return folder
 
 
+def wait_until(condition):
+    """Waits until this gives something true, and gives it. Gives None after five minutes."""
+    for _ in range(6000):
+        found = condition()
+        if found:
+            return found
+        time.sleep(0.05)
+    return None
+
+
 def is_alive(pid):
     try:
         with open("/proc/%d/stat" % pid) as file:
@@ -154,4 +165,4 @@ def children_of(pid):
 
 
 __all__ = ["Case", "Done", "EXAMPLES", "IS_ROOT", "TOOLS", "TOP", "beebtube", "call", "child_of", "children_of", "is_alive", "letters", "pretend_clone", "put",
-           "signal", "text_of", "unittest"]
+           "signal", "text_of", "unittest", "wait_until"]

@@ -68,7 +68,7 @@ class Client:
         return self.seq
 
     def _next(self):
-        message = self.arrived.get(timeout=100)
+        message = self.arrived.get(timeout=300)
         if message is None:
             raise AssertionError("the adapter ended")
         if message["type"] == "event":
@@ -131,7 +131,7 @@ class Adapters(Case):
             DAP, stdin=subprocess.PIPE, stdout=subprocess.PIPE, cwd=self.folder
         )
         self.addCleanup(child.stdout.close)
-        self.addCleanup(child.wait, 60)
+        self.addCleanup(child.wait, 300)
         self.addCleanup(child.stdin.close)
         client = Client(child.stdout, child.stdin)
         self.capabilities = client.ask("initialize", adapterID="beebtube")
@@ -433,7 +433,7 @@ class Hosts(Adapters):
                  {"command": "cancel", "seq": [1]}, {"command": "threads"}]
         texts = [json.dumps({"type": "request", **it}).encode() for it in asked]
         data = b"".join(b"Content-Length: %d\r\n\r\n" % len(text) + text for text in texts)
-        done = subprocess.run(DAP, input=data, stdout=subprocess.PIPE, stderr=subprocess.PIPE, cwd=self.folder, timeout=60)
+        done = subprocess.run(DAP, input=data, stdout=subprocess.PIPE, stderr=subprocess.PIPE, cwd=self.folder, timeout=300)
         self.assertEqual((done.returncode, done.stderr), (0, b""))
         self.assertEqual(done.stdout.count(b'"response"'), 4)
 
@@ -443,11 +443,11 @@ class Hosts(Adapters):
             DAP + ["--port", "0"], stdin=subprocess.DEVNULL, stdout=subprocess.PIPE, cwd=self.folder
         )
         self.addCleanup(child.stdout.close)
-        self.addCleanup(child.wait, 60)
+        self.addCleanup(child.wait, 300)
         self.addCleanup(child.terminate)
         port = int(child.stdout.readline())
         for _ in range(2):
-            with socket.create_connection(("127.0.0.1", port), 60) as stream:
+            with socket.create_connection(("127.0.0.1", port), 300) as stream:
                 with stream.makefile("rb") as source, stream.makefile("wb") as target:
                     client = Client(source, target)
                     client.ask("initialize")
@@ -456,7 +456,7 @@ class Hosts(Adapters):
                     client.ask("disconnect")
                     client.event("terminated")
                     stream.shutdown(socket.SHUT_WR)
-                    while client.arrived.get(timeout=60) is not None:
+                    while client.arrived.get(timeout=300) is not None:
                         time.sleep(0)
         self.tool("dap", "--port", "x", status=2)
         self.tool("dap", "more", status=2)

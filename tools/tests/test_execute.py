@@ -5,9 +5,8 @@ import shutil
 import signal
 import subprocess
 import sys
-import time
 
-from common import EXAMPLES, TOP, Case, beebtube, call, put, text_of, unittest
+from common import EXAMPLES, TOP, Case, beebtube, call, put, text_of, unittest, wait_until
 
 BUILT = os.path.join(EXAMPLES, "c", "built")
 EXECUTE = os.path.join(TOP, "tools", "execute")
@@ -369,10 +368,8 @@ given:  byte 0
 
 class Ends(Execute):
     def test_one_that_never_ends(self):
-        began = time.time()
         done = self.raw("here: JMP here\n", "--limit", "3", status=124)
         self.assertEqual(done.err, "execute: program did not end within 3 seconds of machine time; it is at 0800\n")
-        self.assertLess(time.time() - began, 120)
 
     def test_what_was_written_before_the_limit_comes_out(self):
         self.assertEqual(self.raw("LDA #65\nJSR &FFEE\nhere: JMP here\n", "--limit", "0.5", status=124).out, "A")
@@ -471,12 +468,9 @@ class Leaves(Execute):
         os.mkdir(self.at("own"))
         running = subprocess.Popen([EXECUTE, "--at", "0800", program], cwd=self.folder, env={**os.environ, "TMPDIR": self.at("own")},
                                    stdin=subprocess.DEVNULL, stdout=subprocess.DEVNULL, stderr=subprocess.DEVNULL)
-        for _ in range(6000):
-            if os.listdir(self.at("own")):
-                break
-            time.sleep(0.05)
+        self.assertTrue(wait_until(lambda: os.listdir(self.at("own"))))
         running.send_signal(signal.SIGTERM)
-        self.assertEqual(running.wait(60), 143)
+        self.assertEqual(running.wait(300), 143)
         self.assertEqual(os.listdir(self.at("own")), [])
 
     def test_standard_output_that_is_full_or_closed(self):

@@ -2,9 +2,8 @@
 import os
 import shutil
 import subprocess
-import time
 
-from common import TOP, Case, call, pretend_clone, put, signal, text_of, unittest
+from common import TOP, Case, call, pretend_clone, put, signal, text_of, unittest, wait_until
 
 PAGE = """# A page
 
@@ -68,10 +67,9 @@ class Gate(Case):
         for number in (signal.SIGTERM, signal.SIGINT):
             child = subprocess.Popen([os.path.join(top, ".ci", script), *words], stdout=subprocess.DEVNULL, stderr=subprocess.DEVNULL,
                                      cwd=self.folder, env={**os.environ, "TMPDIR": self.at("tmp"), "XDG_CACHE_HOME": self.at("cache")})
-            while not os.path.exists(self.at("begun")):
-                time.sleep(0.05)
+            self.assertTrue(wait_until(lambda: os.path.exists(self.at("begun"))))
             child.send_signal(number)
-            self.assertEqual(child.wait(60), 128 + number)
+            self.assertEqual(child.wait(300), 128 + number)
             self.assertEqual(os.listdir(self.at("tmp")), [])
             os.unlink(self.at("begun"))
 

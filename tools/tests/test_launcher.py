@@ -5,7 +5,7 @@ import shutil
 import subprocess
 import time
 
-from common import EXAMPLES, IS_ROOT, TOP, Case, beebtube, call, child_of, is_alive, letters, pretend_clone, put, signal, text_of, unittest
+from common import EXAMPLES, IS_ROOT, TOP, Case, beebtube, call, child_of, is_alive, letters, pretend_clone, put, signal, text_of, unittest, wait_until
 
 from beebtube.files import files_below
 
@@ -245,7 +245,7 @@ class Told(Case):
         os.mkfifo(self.at("f"))
         writer = subprocess.Popen(["sh", "-c", "echo bad >f"], cwd=self.folder)
         self.assertEqual(self.launcher("check", "f", status=4).err, "bad trace 1\nbeebtube: docs/COMMANDS.md has the form\n")
-        self.assertEqual(writer.wait(60), 0)
+        self.assertEqual(writer.wait(300), 0)
         self.assertEqual(beebtube.explain(4, "bad trace 1", ["check", "f"], self.folder), [])
 
 
@@ -274,7 +274,7 @@ class Ends(Case):
             child, program = self.started()
             child.send_signal(number)
             # A bash takes no heed of SIGQUIT itself: it ends with the number that a shell gives such an end.
-            self.assertEqual((child.wait(60), child.stderr.read()), (131 if number == signal.SIGQUIT else -number, b""))
+            self.assertEqual((child.wait(300), child.stderr.read()), (131 if number == signal.SIGQUIT else -number, b""))
             self.assertFalse(is_alive(program))
             child.stderr.close()
 
@@ -282,18 +282,14 @@ class Ends(Case):
     def test_where_the_launcher_is_killed_the_program_is(self):
         child, program = self.started()
         child.kill()
-        self.assertEqual(child.wait(60), -9)
+        self.assertEqual(child.wait(300), -9)
         child.stderr.close()
-        for _ in range(1200):
-            if not is_alive(program):
-                break
-            time.sleep(0.05)
-        self.assertFalse(is_alive(program))
+        self.assertTrue(wait_until(lambda: not is_alive(program)))
 
     def test_where_the_program_is_killed_the_launcher_is(self):
         child, program = self.started()
         os.kill(program, signal.SIGKILL)
-        self.assertEqual(child.wait(60), -9)
+        self.assertEqual(child.wait(300), -9)
         child.stderr.close()
 
     def test_a_file_above_the_system_s_limit(self):
@@ -370,11 +366,10 @@ class Stubs(Case):
         for number in (signal.SIGTERM, signal.SIGINT, signal.SIGHUP):
             child = subprocess.Popen([os.path.join(self.top, "beebtube")], stdin=subprocess.DEVNULL, stdout=subprocess.DEVNULL, stderr=subprocess.DEVNULL, restore_signals=True,
                                      env={**os.environ, "PATH": self.at("bin") + ":" + os.environ["PATH"], "XDG_CACHE_HOME": self.at("cache")}, cwd=self.folder)
-            while not (os.path.exists(self.at("pid")) and text_of(self.at("pid"))):
-                time.sleep(0.02)
+            self.assertTrue(wait_until(lambda: os.path.exists(self.at("pid")) and text_of(self.at("pid")).endswith(b"\n")))
             prover = int(text_of(self.at("pid")))
             child.send_signal(number)
-            self.assertEqual(child.wait(60), -number)
+            self.assertEqual(child.wait(300), -number)
             self.assertFalse(is_alive(prover))
             os.unlink(self.at("pid"))
             self.assertEqual(os.listdir(self.at("cache/beebtube-build"))[0][-5:], ".lock")

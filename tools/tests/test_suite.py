@@ -11,10 +11,9 @@ import re
 import shlex
 import shutil
 import subprocess
-import time
 import zipfile
 
-from common import EXAMPLES, IS_ROOT, TOP, Case, beebtube, call, child_of, children_of, is_alive, put, signal, text_of, unittest
+from common import EXAMPLES, IS_ROOT, TOP, Case, beebtube, call, child_of, children_of, is_alive, put, signal, text_of, unittest, wait_until
 from beebtube import collection, files, results
 from beebtube.collection import Order, Sums, listing_of, order_of, plan_of
 from beebtube.frame import lines_in
@@ -425,18 +424,14 @@ class Once(Suite):
         self.discs("a.ssd", "b.ssd", "c.ssd", "d.ssd")
         os.mkdir(self.at("own"))
         put(self.at("discs/c.keys"), b"at 1 break\n")
-        env = {**self.counting("case \"$*\" in *keys*) [ -e %s ] || exec sleep 60 ;; esac" % self.at("go-on")), "TMPDIR": self.at("own")}
+        env = {**self.counting("case \"$*\" in *keys*) [ -e %s ] || exec sleep 1000 ;; esac" % self.at("go-on")), "TMPDIR": self.at("own")}
         for number in (signal.SIGTERM, signal.SIGINT, signal.SIGHUP):
             words = [os.path.join(TOP, "tools", "suite"), "-j", "2", "--ticks", "2000", "discs", "results", *WORDS]
             done = subprocess.Popen(words, cwd=self.folder, env={**os.environ, **env}, stdout=subprocess.PIPE, stderr=subprocess.PIPE, start_new_session=True)
-            workers, program = [], None
-            for _ in range(300):
-                workers = children_of(done.pid) if os.path.isdir(self.at("results/runs")) and len(self.runs()) == 3 else []
-                program = next(filter(None, map(child_of, workers)), None)
-                if program is not None:
-                    break
-                time.sleep(0.1)
-            self.assertIsNotNone(program)
+            self.assertTrue(wait_until(lambda: os.path.isdir(self.at("results/runs")) and len(self.runs()) == 3))
+            self.assertTrue(wait_until(lambda: any(map(child_of, children_of(done.pid)))))
+            workers = children_of(done.pid)
+            program = next(filter(None, map(child_of, workers)))
             done.send_signal(number)
             err = done.communicate(timeout=300)[1]
             self.assertEqual(done.returncode, 128 + number, err)
@@ -452,26 +447,16 @@ class Once(Suite):
         self.discs("a.ssd", "b.ssd", "c.ssd")
         put(self.at("discs/b.keys"), b"at 1 break\n")
         os.mkdir(self.at("own"))
-        env = {**self.counting("case \"$*\" in *keys*) exec sleep 60 ;; esac"), "TMPDIR": self.at("own")}
+        env = {**self.counting("case \"$*\" in *keys*) exec sleep 1000 ;; esac"), "TMPDIR": self.at("own")}
         words = [os.path.join(TOP, "tools", "suite"), "-j", "2", "--ticks", "2000", "discs", "results", *WORDS]
         done = subprocess.Popen(words, cwd=self.folder, env={**os.environ, **env}, stdout=subprocess.PIPE, stderr=subprocess.PIPE)
-        program = None
-        for _ in range(300):
-            workers = children_of(done.pid) if os.path.isdir(self.at("results/runs")) and len(self.runs()) == 2 else []
-            worker = next((it for it in workers if child_of(it) is not None), None)
-            program = child_of(worker) if worker is not None else None
-            if program is not None:
-                break
-            time.sleep(0.1)
-        self.assertIsNotNone(program)
+        self.assertTrue(wait_until(lambda: os.path.isdir(self.at("results/runs")) and len(self.runs()) == 2))
+        worker = wait_until(lambda: next(filter(child_of, children_of(done.pid)), None))
+        program = child_of(worker)
         os.kill(worker, signal.SIGKILL)
         said = done.communicate(timeout=300)[0].decode()
         self.assertEqual(said.splitlines()[:3], ["done a.ssd", "failed b.ssd: its process was ended by signal 9", "done c.ssd"])
-        for _ in range(100):
-            if not is_alive(program):
-                break
-            time.sleep(0.1)
-        self.assertFalse(is_alive(program))
+        self.assertTrue(wait_until(lambda: not is_alive(program)))
         # The next suite removes what the killed one left.
         os.unlink(self.at("discs/b.keys"))
         self.suite(env={"TMPDIR": self.at("own")})

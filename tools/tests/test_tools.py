@@ -5,7 +5,7 @@ import random
 import stat
 import subprocess
 
-from common import EXAMPLES, IS_ROOT, TOOLS, TOP, Case, beebtube, call, letters, put, text_of, unittest
+from common import EXAMPLES, IS_ROOT, TOOLS, TOP, Case, beebtube, call, letters, put, text_of, unittest, wait_until
 
 SMALL_DISK = os.environ.get("BEEBTUBE_SMALL_DISK")  # a folder on a file system of some 64 kB
 
@@ -383,15 +383,9 @@ class EveryTool(Case):
         os.mkdir(self.at("own"))
         done = subprocess.Popen([os.path.join(TOP, "tools", "manifest"), "solo", "1073741824", "o", "--os", "os", "--tube", "tube"], cwd=self.folder,
                                 env={**os.environ, "TMPDIR": self.at("own")}, stdout=subprocess.DEVNULL, stderr=subprocess.DEVNULL)
-        for _ in range(200):
-            if os.listdir(self.at("own")):
-                break
-            try:
-                done.wait(0.1)
-            except subprocess.TimeoutExpired:
-                pass
+        self.assertTrue(wait_until(lambda: os.listdir(self.at("own"))))
         done.terminate()
-        self.assertEqual(done.wait(60), 143)
+        self.assertEqual(done.wait(300), 143)
         self.assertEqual(os.listdir(self.at("own")), [])
         self.assertEqual(sorted(self.names()), ["os", "tube"])
 
