@@ -286,6 +286,29 @@ class Ends(Case):
         child.stderr.close()
         self.assertTrue(wait_until(lambda: not is_alive(program)))
 
+    @unittest.skipUnless(shutil.which("setpriv"), "setpriv is not here")
+    def test_a_signal_that_is_lost_as_the_child_begins(self):
+        """It goes on again. This setpriv takes no heed of signals before `go` is there, as a child of bash may not."""
+        os.mkdir(self.at("bin"))
+        put(self.at("bin/setpriv"), b"#!/bin/sh\ntrap '' HUP TERM\n: >begun\nuntil [ -e go ]; do sleep 0.05; done\ntrap - HUP TERM\nexec %s \"$@\"\n"
+            % shutil.which("setpriv").encode())
+        os.chmod(self.at("bin/setpriv"), 0o755)
+        self.pair()
+        for number in (signal.SIGHUP, signal.SIGTERM):
+            child = subprocess.Popen([os.path.join(TOP, "beebtube"), "solo", "1073741824", "o", "--os", "os", "--tube", "tube", "--keep", "0"], cwd=self.folder,
+                                     stdin=subprocess.DEVNULL, stdout=subprocess.DEVNULL, env={**os.environ, "PATH": self.at("bin") + ":" + os.environ["PATH"]})
+            self.assertTrue(wait_until(lambda: os.path.exists(self.at("begun"))))
+            child.send_signal(number)
+            time.sleep(0.5)
+            put(self.at("go"))
+            try:
+                self.assertEqual(child.wait(300), -number)
+            finally:
+                child.kill()
+                child.wait()
+            os.unlink(self.at("begun"))
+            os.unlink(self.at("go"))
+
     def test_where_the_program_is_killed_the_launcher_is(self):
         child, program = self.started()
         os.kill(program, signal.SIGKILL)
