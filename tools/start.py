@@ -3,7 +3,6 @@ Ctrl-C ends the tool without a traceback while it loads. (Older Pythons can read
 import signal
 import sys
 
-sys.dont_write_bytecode = True
 if sys.version_info < (3, 9):
     name = sys.argv[0].rpartition("/")[2]
     this = (name,) + tuple(sys.version_info[:2])

@@ -6,7 +6,6 @@ from __future__ import annotations
 
 import gzip
 import os
-import zipfile
 import zlib
 from typing import Dict, Iterator, List, NamedTuple, Optional, Set, Tuple
 
@@ -52,13 +51,14 @@ def read_disc(path: str, most: int) -> bytes:
     file, member = place_in(path)
     if member is None and bare(path) == path:
         return read_file(path, most, plain=True)
+    import zipfile  # it takes a while to load
     try:
         with open_file(file, plain=True) as packed:
             if member is None:
                 with gzip.GzipFile(fileobj=packed) as unpacked:
                     data = unpacked.read(most + 1)
             else:
-                with zipfile.ZipFile(packed) as archive, archive.open(member) as unpacked:  # type: ignore[assignment]
+                with zipfile.ZipFile(packed) as archive, archive.open(member) as unpacked:
                     data = unpacked.read(most + 1)
     except (OSError, EOFError, KeyError, ValueError, NotImplementedError, RuntimeError, zipfile.BadZipFile, zlib.error) as error:
         raise Fault("cannot unpack %s: %s" % (shown(path), shown(str(error)))) from None
@@ -69,6 +69,7 @@ def read_disc(path: str, most: int) -> bytes:
 
 # The discs inside of a .zip by their names, and what is wrong with it if it cannot be read.
 def _members(path: str) -> Tuple[List[str], str]:
+    import zipfile
     try:
         with open_file(path, plain=True) as packed, zipfile.ZipFile(packed) as archive:
             names = archive.namelist()

@@ -17,7 +17,9 @@ HERE = os.path.dirname(os.path.realpath(__file__))
 
 def shown(text: str) -> str:
     """A text of somebody else as it may stand in a page: what cannot be shown is `?`, and signs of HTML are escaped."""
-    return html.escape("".join(letter if letter.isprintable() else "?" for letter in text))
+    if not text.isprintable():
+        text = "".join(letter if letter.isprintable() else "?" for letter in text)
+    return html.escape(text)
 
 
 def grouped(number: int) -> str:

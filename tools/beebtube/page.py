@@ -149,8 +149,10 @@ class Page:
                 rows.append([shown(name), kind, grouped(int(length)), element("code", digits), self.manifest.found(name, wanted)])
         else:
             parts.append("<p>The words of the run are not told: there is no manifest beside it.</p>")
-        places = {os.path.realpath(self.manifest.place(name)) for name in known} if self.manifest is not None else set()
-        for name, found in self.sums:
+        places = {self.manifest.place(name) for name in known} if self.manifest is not None else set()
+        others = [(name, found) for name, found in self.sums if name not in places]
+        places = {os.path.realpath(name) for name in places} if others else set()
+        for name, found in others:
             if os.path.realpath(name) not in places:
                 rows.append([shown(name), "found", grouped(found.length), element("code", found.digits), "in no manifest" if self.manifest else "here"])
         parts.append(table(["File", "What", "Bytes", "Sum (SHA-256)", "Now"], rows, "Files of the run"))

@@ -420,15 +420,14 @@ def screen_of(memory: bytes, start: int = 0x7C00) -> List[str]:
     """The same of a host's memory."""
     if not 0x7C00 <= start <= 0x7FFF or len(memory) < 0x8000:
         raise Fault("a teletext page begins at 7C00 to 7FFF of the host's memory")
-    lines = []
-    for row in range(25):
-        codes = [memory[0x7C00 + (start - 0x7C00 + 40 * row + column) % 1024] & 127 for column in range(40)]
-        lines.append("".join(_SIGNS.get(code, chr(code) if 32 <= code < 127 else " ") for code in codes).rstrip())
-    return lines
+    text = (memory[start:0x8000] + memory[0x7C00:start])[:1000].decode("latin-1").translate(_SHOWN)
+    return [text[at : at + 40].rstrip() for at in range(0, 1000, 40)]
 
 
 # The signs of teletext's English set where they are others than those of ASCII.
 _SIGNS = {0x23: "£", 0x5B: "←", 0x5C: "½", 0x5D: "→", 0x5E: "↑", 0x5F: "#", 0x60: "—", 0x7B: "¼", 0x7C: "‖", 0x7D: "¾", 0x7E: "÷", 0x7F: "█"}
+# Each byte as a letter of the page: its top bit does not count.
+_SHOWN = [_SIGNS.get(code & 127, chr(code & 127) if code & 127 >= 32 else " ") for code in range(256)]
 
 _FILES = ("os", "tube", "font", "keys") + tuple("rom%d" % slot for slot in range(16))
 

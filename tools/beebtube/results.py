@@ -118,7 +118,7 @@ class Store:
             known = {**{part[0]: part for part in old.parts}, **known}
         result = result._replace(parts=list(known.values()))
         told = {"form": FORM, **result._asdict()}
-        write_beside(self.place(result.key, "json"), json.dumps({**told, "sum": _sum_of_told(told)}, indent=1) + "\n", follow=False, sync=True)
+        write_beside(self.place(result.key, "json"), json.dumps({**told, "sum": _sum_of_told(told)}) + "\n", follow=False, sync=True)
         sync_folder(self.runs)
         return result
 
