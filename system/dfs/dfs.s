@@ -334,6 +334,7 @@ fail:   PLA
         STA pp
         PLA
         STA pp+1
+        JSR tube_end
         LDY #0
         STY $0100
 :       INY

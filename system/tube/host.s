@@ -433,13 +433,12 @@ t_brk:  SEI
         LDA #0
         TAY
         JSR t_out
-:       INY
+        LDA (error),Y           ; the number, and then the text
+:       JSR t_out
+        INY
         LDA (error),Y
-        JSR t_out
-        TAX
         BNE :-
-        CPY #1
-        BEQ :-
+        JSR t_out
         LDX #$FF
         TXS
         CLI
