@@ -1210,6 +1210,7 @@ osgbpb: JSR own
         JSR channel
         STX chan
         JSR gb_memory
+        LDX chan
         LDA gb_a
         LSR A
         BCC @loop               ; 2 and 4: from where it is

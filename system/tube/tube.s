@@ -400,9 +400,9 @@ osword: JSR block_at
         TAX
         LDA (blk)
         BRA @lengths
-@known: CMP #word_out-word_in+1
+@known: CMP #word_out-word_in
         BCC :+
-        LDX #word_out-word_in+1
+        LDX #word_out-word_in
 :       LDY word_in-1,X
         LDA word_out-1,X
         TAX
@@ -445,9 +445,9 @@ osword: JSR block_at
         PLA
         SEC
         RTS
-; The bytes that OSWORD 1 to 14 take and give, and last those of all others up to 7F.
+; The bytes that OSWORD 1 to 20 take and give, and last those of all others up to 7F.
 word_in:
-        .byte 0, 5, 0, 5, 2, 5, 8, 14, 4, 1, 1, 5, 0, 16, 32, 16, 13, 0, 8, 128, 16
+        .byte 0, 5, 0, 5, 5, 5, 8, 14, 4, 1, 1, 5, 0, 16, 32, 16, 13, 0, 8, 128, 16
 word_out:
         .byte 5, 0, 5, 0, 5, 0, 0, 0, 5, 9, 5, 0, 8, 25, 1, 13, 13, 128, 8, 128, 16
 
