@@ -98,7 +98,7 @@ prompt: LDX #$FF
         JSR OSBYTE
         BRK
         .byte 17, "Escape", 0
-title:  .byte 13, "beebtube Tube 64K", 10, 10, 13, 0
+title:  .byte 10, "beebtube Tube 64K", 10, 10, 13, 0
 line_block:
         .word line
         .byte 200, 32, 255
