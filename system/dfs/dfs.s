@@ -28,7 +28,15 @@ service:
         BEQ svc_word
         CMP #9
         BEQ svc_help
+        CMP #$FF
+        BEQ svc_tube_far
+        CMP #$FE
+        BEQ svc_first_line_far
         RTS
+svc_tube_far:
+        JMP svc_tube
+svc_first_line_far:
+        JMP svc_first_line
 svc_command_far:
         JMP svc_command
 svc_start_far:
@@ -326,6 +334,7 @@ fail:   PLA
         STA pp
         PLA
         STA pp+1
+        JSR tube_end
         LDY #0
         STY $0100
 :       INY
@@ -381,3 +390,4 @@ fault_text:
 .include "files.s"
 .include "commands.s"
 .include "word7f.s"
+.include "host.s"

@@ -12,6 +12,7 @@ nmi_read:
         BMI nr_out
 nmi_read_at = *+1-nmi_read
         STA $FFFF
+nmi_read_on = *-nmi_read
         INC NMI+nmi_read_at
         BNE :+
         INC NMI+nmi_read_at+1
@@ -36,6 +37,7 @@ nmi_write:
 nmi_write_at = *+1-nmi_write
         LDA $FFFF
         STA DATA
+nmi_write_on = *-nmi_write
         INC NMI+nmi_write_at
         BNE :+
         INC NMI+nmi_write_at+1
@@ -96,6 +98,7 @@ transfer:
         DEC tries
         BNE @again
 @bad:   JSR nmi_release
+        JSR tube_end
         BIT quiet
         BMI @answer
         LDA #$FF
@@ -113,7 +116,15 @@ transfer:
         SEC
         RTS
 @next:  INC adr+1
-        INC first
+        BIT via
+        BPL :++
+        LDX #1
+:       INC number,X
+        BNE :+
+        INX
+        CPX #4
+        BNE :-
+:       INC first
         BNE :+
         INC first+1
 :       LDA len+1
@@ -133,16 +144,38 @@ point:  LDA #0
         LDA dcmd
         AND #$20
         BNE @write
+        BIT via
+        BMI @to
         LDA adr
         STA NMI+nmi_read_at
         LDA adr+1
         STA NMI+nmi_read_at+1
         RTS
-@write: LDA adr
+@write: BIT via
+        BMI @from
+        LDA adr
         STA NMI+nmi_write_at
         LDA adr+1
         STA NMI+nmi_write_at+1
         RTS
+; The second processor: each byte goes through register 3, whose address does not go on, with LDA in
+; place of INC.
+@to:    LDA #$AD
+        STA NMI+nmi_read_on
+        LDA #1
+        LDX #nmi_read_at
+        BNE :+
+@from:  LDA #$AD
+        STA NMI+nmi_write_on
+        LDA #0
+        LDX #nmi_write_at
+:       PHA
+        LDA #<R3
+        STA NMI,X
+        LDA #>R3
+        STA NMI+1,X
+        PLA
+        JMP tube_move
 
 ; Track and sector of first, ten to a track.
 track_sector:
@@ -231,6 +264,7 @@ do:     LDX #0
         LDX #$FF
         JSR set_head
         JSR nmi_release
+        JSR tube_end
         LDA #126
         JSR OSBYTE
         JSR fail
@@ -268,3 +302,56 @@ nmi_release:
         JMP OSBYTE
 latches:
         .byte $29, $2A, $2D, $2E
+
+; --- The second processor ---
+
+; C is set if the address of four bytes in `number` is its own.
+is_tube:
+        CLC
+        LDA tube
+        BPL @end
+        LDA number+3
+        CMP #$FF
+        BNE @yes
+        LDA number+2
+        CMP #$FE                ; FFFE0000 and up is the host's
+        BCC @yes
+        CLC
+@end:   RTS
+@yes:   SEC
+        RTS
+; The Tube is claimed.
+tube_claim:
+        LDA #$C0+TUBE_OURS
+        JSR TUBE_CALL
+        BCC tube_claim
+        RTS
+; A transfer of kind A at `number` begins.
+tube_move:
+        LDX #<number
+        LDY #>number
+        JMP TUBE_CALL
+; What was claimed is released. The flags stay.
+tube_end:
+        PHP
+        LDA via
+        ORA via_mem
+        BPL @end
+        LDA #0
+        STA via
+        STA via_mem
+        LDA #$80+TUBE_OURS
+        JSR TUBE_CALL
+@end:   PLP
+        RTS
+; The memory of a transfer of sectors is at `number`.
+memory_at_number:
+        LDA number
+        STA adr
+        LDA number+1
+        STA adr+1
+        JSR is_tube
+        BCC :+
+        JSR tube_claim
+        DEC via
+:       RTS

@@ -419,17 +419,13 @@ remove: TYA
 
 ; len bytes from sector first to the address in `number`, and back.
 load_data:
-        LDA number
-        STA adr
-        LDA number+1
-        STA adr+1
-        JMP read
+        JSR memory_at_number
+        JSR read
+        JMP tube_end
 save_data:
-        LDA number
-        STA adr
-        LDA number+1
-        STA adr+1
-        JMP write
+        JSR memory_at_number
+        JSR write
+        JMP tube_end
 
 ; With *OPT 1 the line of *INFO is printed.
 message:
@@ -1185,10 +1181,16 @@ osgbpb: JSR own
         CLC
         BCC @end
 @do:    LDY #1
-        LDA (blk),Y
-        STA adr
+        LDX #0
+:       LDA (blk),Y
+        STA number,X
         INY
-        LDA (blk),Y
+        INX
+        CPX #4
+        BNE :-
+        LDA number
+        STA adr
+        LDA number+1
         STA adr+1
         LDY #5
         LDX #0
@@ -1207,6 +1209,8 @@ osgbpb: JSR own
         TAY
         JSR channel
         STX chan
+        JSR gb_memory
+        LDX chan
         LDA gb_a
         LSR A
         BCC @loop               ; 2 and 4: from where it is
@@ -1230,7 +1234,10 @@ osgbpb: JSR own
         CMP #3
         BCS @get
         LDA (adr),Y
-        STA byte_out
+        BIT via_mem
+        BPL :+
+        LDA R3
+:       STA byte_out
         JSR put_byte
         JMP @moved
 @get:   JSR at_end
@@ -1242,8 +1249,7 @@ osgbpb: JSR own
         STA t0
         LDY ch_ptr,X
         LDA (t0),Y
-        LDY #0
-        STA (adr),Y
+        JSR gb_store
         JSR next
 @moved: INC adr
         BNE :+
@@ -1256,7 +1262,8 @@ osgbpb: JSR own
 :       DEC gb_left+1
 @low:   DEC gb_left
         JMP @loop
-@done:  LDX chan
+@done:  JSR tube_end
+        LDX chan
         LDY #9
         LDA ch_ptr,X
         STA (blk),Y
@@ -1290,9 +1297,35 @@ gb_back:
         CMP #1
         RTS
 
+; The block's memory: a transfer of single bytes begins if it is the second processor's.
+gb_memory:
+        JSR is_tube
+        BCC :+
+        JSR tube_claim
+        DEC via_mem
+        LDA gb_a
+        CMP #3
+        LDA #0                  ; 1 and 2 are from memory
+        ROL A
+        JMP tube_move
+:       RTS
+; A goes to memory at adr.
+gb_store:
+        BIT via_mem
+        BMI :+
+        LDY #0
+        STA (adr),Y
+        RTS
+:       STA R3
+        RTS
+
 ; 5 the title, 6 directory, 7 library, 8 the names of a directory.
 gb_names:
-        CMP #6
+        JSR gb_memory
+        LDA gb_a
+        JSR @names
+        JMP tube_end
+@names: CMP #6
         BEQ @current
         BCC @title
         CMP #8
@@ -1335,8 +1368,7 @@ gb_names:
         LSR A
         LSR A
         AND #3
-@put:   LDY #0
-        STA (adr),Y
+@put:   JSR gb_store
         INC adr
         BNE :+
         INC adr+1
@@ -1500,18 +1532,35 @@ run:    JSR read_word
         STA run_at
         LDA cat1+3,Y
         STA run_at+1
+        LDA cat1+6,Y
+        ROL A
+        ROL A
+        ROL A
+        JSR high_bits
+        STA run_at+2
+        STX run_at+3
         JSR own_address
         LDY slot
         JSR message
         LDY slot
         JSR load_entry
-        LDA run_at
+        LDX #3
+:       LDA run_at,X
+        STA number,X
+        DEX
+        BPL :-
+        JSR is_tube
+        BCC :+
+        JSR tube_claim
+        LDA #4                  ; it is entered there
+        JMP tube_move
+:       LDA number
         STA adr
-        LDA run_at+1
+        LDA number+1
         STA adr+1
         LDA #1
         JMP (adr)
-run_at = ws+$BE
+run_at = ws+$F0                 ; four bytes
 ; tail: the text at text + Y, behind spaces.
 tail_at:
         LDA (text),Y

@@ -26,11 +26,13 @@ word_7f:
 :       LDA word_drive
         STA drive
         LDY #1
-        LDA (blk),Y
-        STA adr
+        LDX #0
+:       LDA (blk),Y
+        STA number,X
         INY
-        LDA (blk),Y
-        STA adr+1
+        INX
+        CPX #4
+        BNE :-
         LDY #7
         LDA (blk),Y             ; the track
         STA trk
@@ -83,10 +85,16 @@ word_7f:
         LDA #$80
         STA quiet
         JSR @sector
-        PLA
+        LDA len+1
+        BEQ :+                  ; no sector moves
+        JSR memory_at_number
+:       PLA
         JSR transfer
+        PHP
+        JSR tube_end
         LDA #0
         STA quiet
+        PLP
         BCC @good
         LDX #$18                ; the sector is not found
         LDA nmi_status

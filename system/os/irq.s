@@ -823,6 +823,6 @@ escape_clear:
 :       STA escape
         BIT tube
         BPL :+
-        JMP $0403               ; the second processor hears of it
+        JSR $0403               ; the second processor hears of it
 :       CLC
         RTS

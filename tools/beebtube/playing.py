@@ -8,13 +8,12 @@ from .disc import note_of
 from .faults import Fault, Refused
 from .files import is_plain, open_file, same_file, write_beside
 from .frame import look_at_place, picture_of
-from .program import TOP, Program, Run
+from .program import OWN, Program, Run
 from .sets import read_set, with_names, words_of
 from .script import MOST_SHOTS, Event, Script, Typed, typed
 from .words import OPTIONS
 
 DEFAULT = "roms.set"
-OWN = os.path.join(TOP, "system", "system.set")  # the project's own ROMs
 BOOT = "{SHIFT+BREAK}"
 EVERY = 0.2  # seconds from one screen of a moving picture to the next
 MOST_SCREENS = 250  # of a moving picture; with those of the text they are no more than a script's shots
@@ -106,7 +105,7 @@ class Player:
             yield "no font: letters of teletext (mode 7) will be blank"
         if not any(option.startswith("--rom") for option in self.options):
             yield "no paged ROM: there is no language and no filing system but what the operating system has"
-        if "--tube" in self.options and not self.both:
+        if "--tube" in self.options and not self.both and self.chosen != OWN:
             yield "the set's --tube is left aside: --both has the second processor"
 
     def _names(self, stills: int) -> List[str]:

@@ -20,6 +20,7 @@ from .labels import Labels
 from .report import Registers, Report
 from .report import parse as parse_report
 from .script import Script
+from .sets import read_set
 from .trace import Trace
 
 # The folder above release/, docs/, examples/ and tools/: the clone, or an installed package, which has what it needs of them.
@@ -28,6 +29,7 @@ ABOUT = os.path.join(_PACKAGE, "release", "about")
 IS_INSTALLED = os.path.exists(ABOUT)
 TOP = _PACKAGE if IS_INSTALLED else os.path.dirname(os.path.dirname(_PACKAGE))
 LAUNCHER = os.path.join(TOP, "beebtube")
+OWN = os.path.join(TOP, "system", "system.set")  # the project's own ROMs
 
 
 class Source(str):
@@ -152,7 +154,7 @@ class Program:
     # Images, scripts, sessions and traces are `Data`: bytes, a Source, the name of a file, a Script or a Disc.
 
     def run(
-            self, ticks: int, *, os: Data, tube: Data,
+            self, ticks: int, *, os: Optionally = None, tube: Optionally = None,
             rom0: Optionally = None, rom1: Optionally = None, rom2: Optionally = None,
             rom3: Optionally = None, rom4: Optionally = None, rom5: Optionally = None,
             rom6: Optionally = None, rom7: Optionally = None, rom8: Optionally = None,
@@ -174,7 +176,7 @@ class Program:
         return self._machines(["run", str(ticks)], locals())
 
     def solo(
-            self, ticks: int, *, os: Data, tube: Data,
+            self, ticks: int, *, os: Optionally = None, tube: Optionally = None,
             rom0: Optionally = None, rom1: Optionally = None, rom2: Optionally = None,
             rom3: Optionally = None, rom4: Optionally = None, rom5: Optionally = None,
             rom6: Optionally = None, rom7: Optionally = None, rom8: Optionally = None,
@@ -214,7 +216,7 @@ class Program:
         return self._machines(["replay", side, "trace", str(ticks)], locals(), {"trace": trace})
 
     def host(
-            self, ticks: int, *, os: Data,
+            self, ticks: int, *, os: Optionally = None,
             rom0: Optionally = None, rom1: Optionally = None, rom2: Optionally = None,
             rom3: Optionally = None, rom4: Optionally = None, rom5: Optionally = None,
             rom6: Optionally = None, rom7: Optionally = None, rom8: Optionally = None,
@@ -252,6 +254,8 @@ class Program:
         for name, data in (files or {}).items():
             named[name] = _put(made.folder, name, data)
         options = {name: value for name, value in given.items() if name not in _NO_OPTIONS}
+        if words[0] in ("run", "solo") or given.get("no_tube"):
+            options = _with_own(options)
         words = words + ["out"] + _option_words(made.folder, options, named)
         ended = self.call(words, made.folder, given["timeout"])
         if ended.status != 0:
@@ -466,6 +470,14 @@ def _put(folder: str, name: str, data: Union[Data, Trace]) -> Optional[str]:
 # What of a call's arguments is no option of the program.
 _NO_OPTIONS = ("self", "ticks", "side", "trace", "session", "timeout")
 _OPTIONS = {"no_tube": "--no-tube", "from_tick": "--from"}
+
+
+def _with_own(options: Dict[str, Any]) -> Dict[str, Any]:
+    """Without an operating system a machine has the project's own ROMs, but for those that are given."""
+    if options.get("os") is not None:
+        return options
+    own = {option[2:]: value for option, value in read_set(OWN) if option != "--tube" or "no_tube" not in options}
+    return {**options, **{name: value for name, value in own.items() if options.get(name) is None}}
 
 
 def _option_words(folder: str, options: Dict[str, Any], named: Dict[str, Optional[str]]) -> List[str]:

@@ -5,6 +5,7 @@ import re
 from common import EXAMPLES, Case, beebtube, put, text_of, unittest
 
 from beebtube import mame
+from beebtube.disc import NewFile, empty_disc, with_file, with_option
 from beebtube.frame import lines_in
 
 
@@ -72,6 +73,23 @@ class Played(Case):
         told = self.tool("play", "--both", "both.set", "-", "--start", "0", "--wait", "0")
         self.assertEqual((told.out, told.err.count("play: ")), ("screen.png\n", 2))
         self.assertIn("left aside", self.tool("play", "both.set", "-", "--start", "0", "--wait", "0").err)
+
+    def test_the_projects_own_roms(self):
+        """Without a set a disc's program runs on the host, and with --both on the second processor."""
+        os.unlink(self.at("roms.set"))
+        letter = beebtube.asm("65c02", b"org &3000\nLDA &F800\nJSR &FFEE\nRTS\n")
+        disc = with_option(empty_disc(False, 80, ""), 3)
+        for name, data, at in (("P", letter, 0x3000), ("!BOOT", b"*P\r", 0)):
+            disc = with_file(disc, NewFile("$", name, False, at, at, data))
+        put(self.at("own.ssd"), disc.image)
+        script = beebtube.typed("{SHIFT+BREAK}{WAIT 2}", 0.5, shot=True)
+        for both, machine in (((), beebtube.host), (("--both",), beebtube.solo)):
+            told = self.tool("play", *both, "own.ssd", "--start", "0.5", "--wait", "2")
+            self.assertEqual(told.err.count("play: "), 1, told.err)
+            run = machine(script.ticks, keys=script, disc0=disc)
+            with open(self.at("own.png"), "rb") as file:
+                self.assertEqual(lines_in(file.read()), [run.frames[-1].lines()])
+            self.assertEqual("x>" in run.screen(), bool(both), run.screen())
 
     def test_what_is_wrong(self):
         before = self.names()
