@@ -400,7 +400,7 @@ class Truth:
             if not self.alone
             else self.events
         )
-        para, is_set = [], False
+        para, is_set, self.sets = [], False, []
         for access in self.accesses:
             if access.way == "X":
                 para.append(access.tick)
@@ -413,6 +413,7 @@ class Truth:
             ):
                 if access.byte & 128 and not is_set:
                     para.append(access.tick)
+                    self.sets.append(access.tick)
                 is_set = bool(access.byte & 128)
         return {"host": breaks, "para": para}
 
@@ -460,6 +461,17 @@ class Truth:
     def memory(self, side, tick):
         return self.state(side, tick)[1]
 
+    def held(self):
+        """The ticks at which the second processor begins to be held by its reset line."""
+        if not hasattr(self, "_held"):
+            ends = zip(self.sets, self.sets[1:] + [self.end + 1])
+            found = (
+                next((at for at in range(low + 1, min(high, low + 40)) if self.state("para", at)[2]), None)
+                for low, high in ends
+            )
+            self._held = [it for it in found if it is not None and it <= self.end]
+        return self._held
+
 
 # --- Questions ---
 
@@ -503,7 +515,7 @@ class Questions:
         side, tick = self.moment()
         whole = self.truth.sides[side]
         name = self.rng.choice([it for it in QUESTIONS if side == "para" or it not in ("high",)])
-        if self.truth.alone and name in ("access", "sender", "lost", "tube"):
+        if self.truth.alone and name in ("access", "sender", "lost", "held"):
             return
         line, wanted = QUESTIONS[name](self, whole, side, tick)
         if line is None:
@@ -850,6 +862,17 @@ class Questions:
             whole, (found[-1] if back else found[0]) if found else None
         )
 
+    # To the host's first start after a BREAK.
+    def break_(self, whole, side, tick):
+        line, place = self.reset(self.truth.sides["host"], "host", tick)
+        return line.replace("reset", "break"), place
+
+    def held(self, whole, side, tick):
+        back = self.rng.random() < 0.5
+        found = [it for it in self.truth.held() if (it < tick if back else it > tick)]
+        line = "held" + " back" * back
+        return line, ("para", found[-1 if back else 0]) if found else "refused"
+
     def readers(self, whole, side, tick):
         if not whole.log:
             return None, None
@@ -902,6 +925,8 @@ QUESTIONS = {
         "backtrace",
         "interrupt",
         "reset",
+        "break_",
+        "held",
         "readers",
     )
 }

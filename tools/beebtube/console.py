@@ -2,11 +2,16 @@
 from __future__ import annotations
 
 import contextlib
+import io
+import json
+import os
+import pydoc
 import shlex
+import shutil
 import signal
 import sys
 import time
-from typing import Callable, Dict, Iterator, List, Sequence
+from typing import Any, Callable, Dict, Iterator, List, Optional, Sequence
 
 from .command import Usage
 from .debugging import WORDS, Debugger
@@ -18,6 +23,7 @@ from .past import MOST_ACCESSES, SIDES, Past
 from .program import Program
 
 OPTIONS = ("-c", "--against", "--host-labels", "--para-labels")
+MOST_HISTORY = 1000  # lines
 # The commands after which a label may stand.
 WITH_LABELS = ("until", "before", "at", "change", "who", "readers", "origin", "memory", "list",
                "screen")
@@ -29,10 +35,13 @@ class Asked:
     def __init__(self, words: Sequence[str]):
         self.rest: List[str] = []
         self.options: Dict[str, List[str]] = {option: [] for option in OPTIONS}
+        self.is_json = False
         left = list(words)
         while left:
             word = left.pop(0)
-            if word not in OPTIONS:
+            if word == "--json":
+                self.is_json = True
+            elif word not in OPTIONS:
                 self.rest.append(word)
             elif not left:
                 raise Usage(f"{word}: it needs a value")
@@ -43,6 +52,16 @@ class Asked:
                         " or a session file")
         if len(self.options["--against"]) > 1:
             raise Usage("--against: given twice")
+
+    @property
+    def is_asking(self) -> bool:
+        """A person types the commands."""
+        is_terminal = sys.stdin is not None and sys.stdin.isatty()
+        return is_terminal and not self.options["-c"] and not self.is_json
+
+    def lines(self) -> Iterator[str]:
+        """The commands of a script: of -c, or of standard input."""
+        yield from self.options["-c"] or (line for line in _given() if line.strip())
 
 
 def past_of(program: Program, words: Sequence[str], progress: Callable[[str], None]) -> Past:
@@ -77,19 +96,31 @@ class Progress:
 
 
 class Clearing:
-    """Standard output, before which the line of a progress is cleared."""
+    """Standard output, before which the line of a progress is cleared.
 
-    def __init__(self, progress: Progress):
-        self._progress = progress
+    is_paged  what is longer than the terminal is shown by a pager, once it is complete
+    """
+
+    def __init__(self, progress: Progress, is_paged: bool = False):
+        self._progress, self._is_paged, self._waiting = progress, is_paged, ""
 
     def write(self, text: str) -> int:
         """Writes a text."""
+        if self._is_paged:
+            self._waiting += text
+            return len(text)
         self._progress.end()
         return sys.stdout.write(text)
 
     def flush(self) -> None:
         """Writes what waits."""
         self._progress.end()
+        text, self._waiting = self._waiting, ""
+        if text.count("\n") >= shutil.get_terminal_size().lines:
+            sys.stdout.flush()
+            pydoc.pager(text)
+        else:
+            sys.stdout.write(text)
         sys.stdout.flush()
 
 
@@ -112,8 +143,9 @@ def completions(debugger: Debugger, line: str, text: str) -> List[str]:
         if debugger._word(words[0]) in WITH_LABELS:
             names = debugger.names[debugger.side].labels.addresses
             return sorted(name for name in names if name.startswith(text))
-        if debugger._word(words[0]) == "help":
-            return [word for word in WORDS if word.startswith(text)]
+        if debugger._word(words[0]) in ("go", "help"):
+            words = list(WORDS) if debugger._word(words[0]) == "help" else debugger.marks
+            return [word for word in words if word.startswith(text)]
     return []
 
 
@@ -154,6 +186,34 @@ def ask(debugger: Debugger, progress: Progress) -> None:
             print()
 
 
+@contextlib.contextmanager
+def history() -> Iterator[None]:
+    """The lines of a person, which are there again the next time: in the folder of
+    XDG_STATE_HOME, or in ~/.local/state."""
+    try:
+        import readline
+    except ImportError:
+        yield
+        return
+    state = os.environ.get("XDG_STATE_HOME", "")
+    folder = os.path.join(state if os.path.isabs(state) else os.path.expanduser("~/.local/state"),
+                          "beebtube")
+    name, before = os.path.join(folder, "history"), 0
+    with contextlib.suppress(OSError):
+        readline.read_history_file(name)
+        before = readline.get_current_history_length()
+    try:
+        yield
+    finally:
+        # What another debugger added meanwhile remains.
+        with contextlib.suppress(OSError):
+            os.makedirs(folder, mode=0o700, exist_ok=True)
+            with open(name, "a", encoding="utf-8"):
+                pass
+            readline.set_history_length(MOST_HISTORY)
+            readline.append_history_file(readline.get_current_history_length() - before, name)
+
+
 def _words_in(text: str) -> List[str]:
     try:
         return shlex.split(text)
@@ -174,7 +234,7 @@ def debug(words: Sequence[str]) -> int:
         for past in pasts:
             if limit_of(past):
                 sys.stderr.write(f"debug: {limit_of(past)}\n")
-        out = Clearing(progress)
+        out = Clearing(progress, asked.is_asking)
         debugger = Debugger(pasts[0], names, *pasts[1:], out=out)  # type: ignore[arg-type]
         return _debugged(asked, debugger, progress)
 
@@ -197,19 +257,41 @@ def _given() -> Iterator[str]:
 
 
 def _debugged(asked: Asked, debugger: Debugger, progress: Progress) -> int:
+    if asked.is_json:
+        return _as_json(asked, debugger, progress)
     debugger.compare()
     progress.end()
-    if asked.options["-c"]:
-        for line in asked.options["-c"]:
-            debugger.try_to(line)
-    elif sys.stdin is not None and sys.stdin.isatty():
-        ask(debugger, progress)
+    if asked.is_asking:
+        debugger.out.flush()
+        with history():
+            ask(debugger, progress)
         return 0
-    else:
-        for line in _given():
-            if line.strip() and not debugger.ended:
-                debugger.try_to(line)
+    for line in asked.lines():
+        debugger.try_to(line)
     debugger.ended = False
     WORDS["where"].method(debugger)
     progress.end()
+    return 1 if debugger.wrong else 0
+
+
+def _as_json(asked: Asked, debugger: Debugger, progress: Progress) -> int:
+    """Each command's answer as a line of JSON."""
+    def answer(command: str, done: Callable[[], Optional[Fault]]) -> None:
+        debugger.out, debugger.found = io.StringIO(), []
+        fault = done()
+        told: Dict[str, Any] = {
+            "command": command, "run": debugger.past.name, "side": debugger.side,
+            "tick": debugger.tick, "lines": debugger.out.getvalue().splitlines(),
+            "found": debugger.found, "error": None if fault is None else str(fault)}
+        progress.end()
+        print(json.dumps(told), flush=True)
+
+    if asked.options["--against"]:
+        answer("--against", debugger.compare)
+    for line in asked.lines():
+        for words in debugger.parts(line):
+            if not debugger.ended:
+                answer(" ".join(words), lambda words=words: debugger.try_one(words))
+    debugger.ended = False
+    answer("where", lambda: debugger.try_one(["where"]))
     return 1 if debugger.wrong else 0

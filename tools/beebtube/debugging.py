@@ -3,17 +3,17 @@ from __future__ import annotations
 
 import re
 import sys
-from typing import Callable, Dict, List, NamedTuple, Optional, TextIO, Tuple
+from typing import Any, Callable, Dict, List, NamedTuple, Optional, TextIO, Tuple
 
 from .accesses import words_of
 from .conditions import Condition, condition, range_of
-from .engine import FULL, Engine
+from .engine import FULL, SIDE, Engine
 from .faults import Fault
 from .files import write_beside
 from .frame import look_at_place
 from .listings import Change, Start
 from .naming import Names
-from .parting import parting
+from .parting import Parting, next_parting, parting
 from .past import Past
 from .program import screen_of
 from .report import Registers
@@ -64,6 +64,7 @@ class Debugger(Engine):
     """A moment of a run, from which commands lead to others.
 
     wrong  how many commands were wrong
+    found  what the commands found, besides the lines that they print
     """
 
     def __init__(self, past: Past, names: Dict[str, Names], other: Optional[Past] = None,
@@ -72,17 +73,20 @@ class Debugger(Engine):
         self.names, self._other, self.out = names, other, out or sys.stdout
         self.wrong = 0
         self.ended = False
+        self.found: List[Dict[str, Any]] = []
         self._before = ""
+        self._marks: Dict[str, Tuple[Past, str, int]] = {}
 
     # --- Commands ---
 
     def do(self, line: str) -> None:
         """Carries out commands with `;` between them; an empty line repeats the one before. Fault
         at the first that is wrong."""
-        for words in self._parts(line):
+        for words in self.parts(line):
             self._one(words)
 
-    def _parts(self, line: str) -> List[List[str]]:
+    def parts(self, line: str) -> List[List[str]]:
+        """The words of each command of a line; an empty line has those of the one before."""
         if not line.strip():
             line = self._before
         self._before = line
@@ -90,14 +94,24 @@ class Debugger(Engine):
 
     def try_to(self, line: str) -> None:
         """The same, but what is wrong goes to standard error, and the rest is carried out."""
-        for words in self._parts(line):
-            try:
-                self._one(words)
-            except Fault as fault:
-                self.wrong += 1
-                self.out.flush()
-                sys.stderr.write(f"debug: {fault}\n")
-                sys.stderr.flush()
+        try:
+            for words in self.parts(line):
+                fault = self.try_one(words)
+                if fault is not None:
+                    self.out.flush()
+                    sys.stderr.write(f"debug: {fault}\n")
+                    sys.stderr.flush()
+        finally:
+            self.out.flush()
+
+    def try_one(self, words: List[str]) -> Optional[Fault]:
+        """Carries out a command; what is wrong with it."""
+        try:
+            self._one(words)
+        except Fault as fault:
+            self.wrong += 1
+            return fault
+        return None
 
     def _one(self, words: List[str]) -> None:
         if self.ended:
@@ -164,25 +178,39 @@ class Debugger(Engine):
 
     # --- What is shown ---
 
-    def _say(self, text: str) -> None:
+    def _say(self, text: str, /, **found: Any) -> None:
         self.out.write(text + "\n")
+        if found:
+            self.found.append(found)
 
     def _text(self, side: str, address: int, text: str) -> str:
         names = self.names[side]
         text, name = names.text(text), names.of(address)
         return "%-18s; %s" % (text, name) if name else text
 
-    def _line(self, tick: int, side: str, registers: Registers, text: str) -> str:
-        text = self._text(side, registers.pc, text)
-        return f"{tick} {side} {registers_of(registers)} {text}"
+    # A moment of a side: its tick, registers and instruction, and what else is known of it.
+    def _moment(self, tick: int, side: str, registers: Registers, text: str,
+                what: str = "") -> None:
+        line = f"{tick} {side} {registers_of(registers)} {self._text(side, registers.pc, text)}"
+        more = {"what": what} if what else {}
+        self._say(f"{line} ({what})" if what else line, tick=tick,
+                  **self._found(side, registers, text), **more)
 
-    def _show(self, start: Start) -> None:
-        self._say(self._line(start.tick, start.side, start.registers, start.text))
+    def _found(self, side: str, registers: Registers, text: str) -> Dict[str, Any]:
+        return {"side": side, **dict(zip(("pc", "a", "x", "y", "s", "p"), registers)),
+                "text": text, "label": self.names[side].of(registers.pc)}
+
+    def _show(self, start: Start, what: str = "") -> None:
+        self._moment(start.tick, start.side, start.registers, start.text, what)
 
     def _show_here(self) -> None:
         machine = self.machine
-        registers, text = machine.state(self.tick).registers, machine.view.text(self.tick)
-        self._say(self._line(self.tick, self.side, registers, text))
+        self._moment(self.tick, self.side, machine.state(self.tick).registers,
+                 machine.view.text(self.tick))
+
+    def _show_access(self, access: Access) -> None:
+        self._say(said(access), tick=access.tick, side=SIDE[access.side], way=access.way,
+                  address=access.register, byte=access.byte)
 
     @word("", "the tick, registers, instructions, last accesses, and the Tube")
     def do_where(self) -> None:
@@ -192,9 +220,10 @@ class Debugger(Engine):
         self._say(f"tick {self.tick} of {past.end}, {time:.3f} us; {self.side}")
         self._say("     " + self.beam_text())
         for side in past.sides:
-            registers = states[side].registers
-            text = self._text(side, registers.pc, past.machines[side].view.text(self.tick))
-            self._say(f"{side} {registers_of(registers)} {flags_of(registers)} {text}")
+            registers, told = states[side].registers, past.machines[side].view.text(self.tick)
+            text = self._text(side, registers.pc, told)
+            self._say(f"{side} {registers_of(registers)} {flags_of(registers)} {text}",
+                      **self._found(side, registers, told))
             if past.has_tube:
                 self._say("     " + self._last_access(side))
         if past.has_tube and self.tick <= past.held:
@@ -259,17 +288,41 @@ class Debugger(Engine):
     @word("[N]", "the calls that are open, the innermost first; at most N, else 32")
     def do_backtrace(self, number: str = "32") -> None:
         self._show_here()
-        for count, frame in zip(range(self._count(number, 256)), self.frames()):
-            line = self._line(frame.start.tick, self.side, frame.start.registers, frame.start.text)
-            self._say(line if frame.kind == "call" else f"{line} ({frame.kind} after it)")
+        for _, frame in zip(range(self._count(number, 256)), self.frames()):
+            self._show(frame.start, "" if frame.kind == "call" else f"{frame.kind} after it")
 
-    @word("TICK", "to a tick; +N and -N count from here, `end` is the run's last")
+    @word("TICK", "to a tick; +N and -N count from here, `end` is the run's last; or to a mark")
     def do_go(self, text: str) -> None:
-        if text != "end" and not re.fullmatch("[+-]?[0-9]{1,10}", text):
-            raise Fault(f"{text[:40]}: a tick is a whole number, +N or -N from here, or `end`")
-        self.go(self.past.end if text == "end"
-                else int(text) + (self.tick if text[0] in "+-" else 0))
+        if text in self._marks:
+            past, self.side, self.tick = self._marks[text]
+            if past is not self.past:
+                self.do_other()
+                self.tick = self._marks[text][2]
+        elif text != "end" and not re.fullmatch("[+-]?[0-9]{1,10}", text):
+            raise Fault(f"{text[:40]}: a tick is a whole number, +N or -N from here, or `end`, and"
+                        " no mark is called that")
+        else:
+            self.go(self.past.end if text == "end"
+                    else int(text) + (self.tick if text[0] in "+-" else 0))
         self._show_here()
+
+    @word("[NAME]", "marks this moment, so that `go NAME` leads back to it; else shows the marks")
+    def do_mark(self, name: str = "") -> None:
+        if not name:
+            for it, (past, side, tick) in self._marks.items():
+                self._say(f"{it}: tick {tick}, {side}"
+                          + ("" if past is self.past else f", of {past.name}"),
+                          mark=it, tick=tick, side=side, run=past.name)
+        elif name == "end" or not re.fullmatch("[A-Za-z_][A-Za-z0-9_]{0,39}", name):
+            raise Fault(f"{name[:40]}: a mark begins with a letter and has letters and digits, and"
+                        " is not `end`")
+        else:
+            self._marks[name] = self.past, self.side, self.tick
+
+    @property
+    def marks(self) -> List[str]:
+        """The names of the moments that are marked."""
+        return sorted(self._marks)
 
     @word("AAAA .. [if CONDITION]", "to the next instruction there, or where it holds")
     def do_until(self, *given: str) -> None:
@@ -284,7 +337,8 @@ class Debugger(Engine):
         self.do_until(text)
 
     def _changed(self, at: int, change: Change) -> None:
-        self._say(f"{at:04X}: {change.old:02X} to {change.new:02X}")
+        self._say(f"{at:04X}: {change.old:02X} to {change.new:02X}",
+                  address=at, old=change.old, new=change.new)
 
     @word("AAAA[..BBBB]", "to where a byte has become another")
     def do_change(self, text: str) -> None:
@@ -307,10 +361,9 @@ class Debugger(Engine):
     def do_origin(self, text: str) -> None:
         for start, told in self.origin(self._address(text)):
             if start is None:
-                self._say(told)
+                self._say(told, what=told)
             else:
-                line = self._line(start.tick, start.side, start.registers, start.text)
-                self._say(f"{line} ({told})")
+                self._show(start, told)
 
     @word("H|P R|W N [back]", "to an access to address N of the Tube, or r1 to r4, s1 to s4")
     def do_access(self, side: str, way: str, register: str, back: str = "") -> None:
@@ -321,7 +374,7 @@ class Debugger(Engine):
             raise Fault("access H|P R|W N [back]: a side, a way, and an address from 0 to 7 or a"
                         " register, as in `access H R 1` or `access H R r1`")
         access = self.access(f" {side} {way} {number} ".encode(), self._is_back(back))
-        self._say(said(access))
+        self._show_access(access)
         self._show_start()
 
     def _show_start(self) -> None:
@@ -332,12 +385,12 @@ class Debugger(Engine):
     @word("", "back to where the other side gave the byte that was taken last")
     def do_sender(self) -> None:
         for access in self.sender():
-            self._say(said(access))
+            self._show_access(access)
         self._show_start()
 
     @word("[back]", "to the next byte that is lost in a full register of the Tube")
     def do_lost(self, back: str = "") -> None:
-        self._say(said(self.loss(self._is_back(back))))
+        self._show_access(self.loss(self._is_back(back)))
         self._show_start()
 
     @word("[back]", "to the first instruction of the next interrupt")
@@ -348,6 +401,18 @@ class Debugger(Engine):
     def do_reset(self, back: str = "") -> None:
         self._show(self.reset(self._is_back(back)))
 
+    @word("[back]", "to the host's first instruction after the next BREAK")
+    def do_break(self, back: str = "") -> None:
+        with self.on("host"):
+            start = self.reset(self._is_back(back))
+        self.side = "host"
+        self._show(start)
+
+    @word("[back]", "to where the second processor is next held by its reset line")
+    def do_held(self, back: str = "") -> None:
+        self.held(self._is_back(back))
+        self._show_here()
+
     # --- What is there ---
 
     @word("AAAA [LEN]", "bytes of the memory, 64 without a length")
@@ -357,14 +422,16 @@ class Debugger(Engine):
         for at in range(0, len(data), 16):
             row = data[at : at + 16]
             letters = "".join(chr(byte) if 32 <= byte < 127 else "." for byte in row)
-            self._say("%04X  %-47s  %s" % (address + at, row.hex(" ").upper(), letters))
+            self._say("%04X  %-47s  %s" % (address + at, row.hex(" ").upper(), letters),
+                      address=address + at, bytes=row.hex())
 
     @word("[AAAA [N]]", "instructions, from the next one on without an address")
     def do_list(self, text: str = "", count: str = "8") -> None:
         address = self._address(text) if text else self.machine.state(self.tick).registers.pc
         view, number = self.machine.view, self._count(count, 4096)
         for at, told in view.list_at(self.tick, address, number):
-            self._say("%04X %s" % (at, self._text(self.side, at, told)))
+            self._say("%04X %s" % (at, self._text(self.side, at, told)), address=at, text=told,
+                      label=self.names[self.side].of(at))
 
     @word("", "what is on the stack, the top first")
     def do_stack(self) -> None:
@@ -373,7 +440,9 @@ class Debugger(Engine):
         data = state.memory[top:0x200]
         self._say("S=%02X, %d bytes" % (state.registers.s, len(data)))
         for at in range(0, len(data), 16):
-            self._say("%04X  %s" % (top + at, data[at : at + 16].hex(" ").upper()))
+            row = data[at : at + 16]
+            self._say("%04X  %s" % (top + at, row.hex(" ").upper()), address=top + at,
+                      bytes=row.hex())
 
     @word("[N]", "accesses to the Tube, N before and N from now on; else 5")
     def do_tube(self, number: str = "5") -> None:
@@ -384,7 +453,7 @@ class Debugger(Engine):
         for place in range(max(0, here - count), min(traffic.end, here + count), LENGTH):
             if place == here:
                 self._say(f"now {self.tick}")
-            self._say(traffic.words(place))
+            self._show_access(traffic.access(place))
 
     @word("[AAAA]", "a page of teletext as text, from 7C00 without an address")
     def do_screen(self, text: str = "7C00") -> None:
@@ -427,21 +496,39 @@ class Debugger(Engine):
             end = min(self.past.end, self._other.end)
             self._say(f"the same to tick {end}, where the shorter run ends")
             return
-        self.tick, self.side = found.tick, found.sides[0]
         sides = " and ".join(FULL[side] for side in found.sides)
         self._say(f"the same to tick {found.tick}; then {sides}")
-        for past in (self.past, self._other):
+        self._parted(self._other, found)
+
+    @word("", "with --against: to where something more differs than after the next tick")
+    def do_differ(self) -> None:
+        if self._other is None:
+            raise Fault("there is one run alone: --against names another")
+        found = next_parting(self.past, self._other, self.tick)
+        if found is None:
+            raise Fault("nothing more is seen to differ up to tick"
+                        f" {min(self.past.end, self._other.end)}, where the shorter run ends")
+        sides = " and ".join(FULL[side] for side in found.sides)
+        self._say(f"nothing more differs to tick {found.tick}; then {sides}")
+        self._parted(self._other, found)
+
+    # To the moment at which two runs part: the moments before and after it in both, and the bytes
+    # of memory that begin to differ.
+    def _parted(self, other: Past, found: Parting) -> None:
+        self.tick, self.side = found.tick, found.sides[0]
+        for past in (self.past, other):
             self._say(f"- {past.name}")
             for tick in (found.tick, found.tick + 1):
                 for side in found.sides:
                     machine = past.machines[side]
-                    registers = machine.state(tick).registers
-                    self._say(self._line(tick, side, registers, machine.view.text(tick)))
+                    self._moment(tick, side, machine.state(tick).registers, machine.view.text(tick))
         for side in found.sides:
-            one, other = (past.machines[side].state(found.tick + 1).memory
-                          for past in (self.past, self._other))
-            for at in [at for at in range(len(one)) if one[at] != other[at]][:8]:
-                self._say(f"{side} memory {at:04X}: {one[at]:02X}, {other[at]:02X}")
+            one, two = (past.machines[side].state(found.tick + 1).memory
+                        for past in (self.past, other))
+            places = [at for on, at in found.items if on == side and isinstance(at, int)]
+            for at in places[:8]:
+                self._say(f"{side} memory {at:04X}: {one[at]:02X}, {two[at]:02X}", side=side,
+                          address=at, byte=one[at], other=two[at])
 
     @word("[WORD]", "these commands, or one of them")
     def do_help(self, name: str = "") -> None:

@@ -17,6 +17,7 @@ from .trace import Access
 
 FULL = {"host": "the host", "para": "the second processor"}
 SIDE = {letter: side for side, letter in LETTERS.items()}
+FAR_HELD = 4  # ticks after a reset of the second processor at which it is held, at the latest
 FEW = 16  # bytes of a range whose changes are looked for one by one
 TUBE = {"host": (0xFEE0, 0xFEFF), "para": (0xFEF8, 0xFEFF)}
 COPIES = {"TAX": "a", "TAY": "a", "TXA": "x", "TYA": "y", "TSX": "s", "TXS": "x"}
@@ -323,6 +324,24 @@ class Engine:
             if start is not None and (start.tick < self.tick if back else start.tick > self.tick):
                 return self._to(start, "")
         raise Fault("no reset comes " + ("before" if back else "before the run ends"))
+
+    def held(self, back: bool = False) -> None:
+        """To the next tick at which the second processor begins to be held by its reset line, or
+        back to the last one."""
+        self.need_tube()
+        machine, resets = self.past.machines["para"], self.past.resets("held")
+        for reset in reversed(resets) if back else resets:
+            if reset >= self.tick if back else reset + FAR_HELD < self.tick:
+                continue
+            # It is held from its next step on.
+            for tick in range(reset + 1, min(reset + FAR_HELD, self.past.held) + 1):
+                if machine.state(tick).held:
+                    if tick < self.tick if back else tick > self.tick:
+                        self.side, self.tick = "para", tick
+                        return
+                    break
+        raise Fault("no reset line holds the second processor " + (
+            "before" if back else "before the run ends"))
 
     # --- Where a byte came from ---
 

@@ -1,17 +1,54 @@
-"""Where two runs begin to differ."""
+"""Where two runs begin to differ, and where they differ in something more."""
 from __future__ import annotations
 
-from typing import List, NamedTuple, Optional
+from typing import List, NamedTuple, Optional, Set, Tuple
 
 from .past import Past
 from .trace import LENGTH
 
+# What differs: a side, and the address of a byte of its memory, a register, or whether it is held.
+Item = Tuple[str, "int | str"]
+
 
 class Parting(NamedTuple):
-    """The last tick at which all is the same, and the sides that differ after it."""
+    """The last tick before something differs, the sides on which it does after it, and what it is,
+    in the order of sides and addresses."""
 
     tick: int
     sides: List[str]
+    items: List[Item]
+
+
+def differing(one: Past, other: Past, tick: int) -> Set[Item]:
+    """What differs at a tick, of the sides that both runs have."""
+    one.progress(f"tick {tick}")
+    first, second = one.states(tick), other.states(tick)
+    found: Set[Item] = set()
+    for side in first:
+        if side not in second or first[side] == second[side]:
+            continue
+        mine, yours = first[side], second[side]
+        found.update((side, name) for name in mine.registers._fields
+                     if getattr(mine.registers, name) != getattr(yours.registers, name))
+        if mine.held != yours.held:
+            found.add((side, "held"))
+        if mine.memory != yours.memory:
+            found.update((side, at) for at, pair in enumerate(zip(mine.memory, yours.memory))
+                         if pair[0] != pair[1])
+    return found
+
+
+# By halves: at `low` nothing but what is known differs, at `high` something more.
+def _parting(one: Past, other: Past, low: int, high: int, known: Set[Item]) -> Parting:
+    while high - low > 1:
+        middle = (low + high) // 2
+        low, high = (middle, high) if differing(one, other, middle) <= known else (low, middle)
+    return _parted(low, differing(one, other, high) - known)
+
+
+def _parted(tick: int, found: Set[Item]) -> Parting:
+    items = sorted(found, key=lambda it: (it[0], str(it[1]).rjust(6)))
+    return Parting(tick, sorted({side for side, _ in items}), items)
 
 
 def parting(one: Past, other: Past) -> Optional[Parting]:
@@ -22,29 +59,33 @@ def parting(one: Past, other: Past) -> Optional[Parting]:
     halves over ticks. A byte of a memory that differed before that for a while is not seen.
     """
     end = min(one.end, other.end)
-    sides = [side for side in one.sides if side in other.sides]
-
-    def differing(tick: int) -> List[str]:
-        one.progress(f"tick {tick}")
-        first, second = one.states(tick), other.states(tick)
-        return [side for side in sides if first[side] != second[side]]
-    low, high = 0, end
-    if differing(0):
-        return Parting(0, differing(0))
-    place = _same_lines(one.trace, other.trace)
+    if differing(one, other, 0):
+        return _parted(0, differing(one, other, 0))
+    place, high = _same_lines(one.trace, other.trace), end
     for trace in (one.trace, other.trace):
         line = trace[LENGTH * place : LENGTH * place + 10]
         if line:
             high = min(high, int(line, 16) + 48)
-    high = min(high, end)
-    if not differing(high):
-        high = end
-        if not differing(high):
-            return None
-    while high - low > 1:
-        middle = (low + high) // 2
-        low, high = (low, middle) if differing(middle) else (middle, high)
-    return Parting(low, differing(high))
+    for last in (high, end):
+        if differing(one, other, last):
+            return _parting(one, other, 0, last, set())
+    return None
+
+
+def next_parting(one: Past, other: Past, tick: int) -> Optional[Parting]:
+    """The next moment after a tick at which something differs that is the same at the tick after
+    it; None if nothing is seen. It is looked for at distances that double, and then by halves: what
+    differs for a while between them is not seen."""
+    low, end, far = tick + 1, min(one.end, other.end), 1
+    if low >= end:
+        return None
+    known = differing(one, other, low)
+    while low < end:
+        high = min(low + far, end)
+        if not differing(one, other, high) <= known:
+            return _parting(one, other, low, high, known)
+        low, far = high, 2 * far
+    return None
 
 
 # How many lines from the first on are the same in both.

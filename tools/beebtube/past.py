@@ -158,13 +158,13 @@ class Past:
 
     def resets(self, side: str) -> List[int]:
         """The ticks at which a side was reset after power-on: the host by BREAK, the second
-        processor by BREAK or by the host."""
+        processor by BREAK or by the host; after "held" those from which the host held it reset."""
         if not self._resets:
-            breaks, resets = self.traffic.resets()
+            breaks, resets, holds = self.traffic.resets()
             if not self.has_tube:
                 words = [line.split() for line in self.script]
                 breaks = [int(word[1]) for word in words if word[2:] == [b"break"]]
-            self._resets = {"host": breaks, "para": resets}
+            self._resets = {"host": breaks, "para": resets, "held": holds}
         return self._resets[side]
 
     def cut(self, ticks: int) -> str:

@@ -73,19 +73,19 @@ class Traffic:
 
     # --- What is in the Tube ---
 
-    def resets(self) -> Tuple[List[int], List[int]]:
-        """The ticks at which the host's BREAK comes, and those at which the second processor is
-        reset."""
-        tube, breaks, resets = Tube(), [], []
+    def resets(self) -> Tuple[List[int], List[int], List[int]]:
+        """The ticks at which the host's BREAK comes, those at which the second processor is reset,
+        and those of them from which its reset line holds it."""
+        tube, breaks, resets, holds = Tube(), [], [], []
         for match in CONTROL.finditer(self.trace):
             access = self.access(match.start())
             before = tube.flags & 32
             tube.put(access)
             if access.way == "X":
                 breaks.append(access.tick)
-            if access.way == "X" or tube.flags & 32 and not before:
-                resets.append(access.tick)
-        return breaks, resets
+            elif tube.flags & 32 and not before:
+                holds.append(access.tick)
+        return breaks, sorted(breaks + holds), holds
 
     # The lines that give or take bytes of a register, from where it was empty last, and before
     # a place: a status told so, but of register 3, which waits for two bytes at times.

@@ -15,6 +15,7 @@ if TYPE_CHECKING:
 BOOT = 0xF800  # the boot ROM's first address
 # The most accesses of one instruction to the Tube.
 FEW = 8
+HELD = "held by its reset line"
 VECTORS = {0xFFFA: "NMI", 0xFFFE: "IRQ"}
 # A store by absolute address, with or without an index, from FE00 to FE3F on.
 STORE = re.compile(rb"(?s)[\x8c-\x8e\x99\x9d](?=[\x00-\x3f]\xfe)")
@@ -94,13 +95,16 @@ class View:
     def text(self, tick: int) -> str:
         """What the processor is at, as a text: an instruction, or what it is in place of one."""
         if tick > self.past.held:
-            return self.list_at(tick, self.machine.state(tick).registers.pc, 1)[0][1]
+            state = self.machine.state(tick)
+            if state.registers.halted or state.held:
+                return "halted" if state.registers.halted else HELD
+            return self.list_at(tick, state.registers.pc, 1)[0][1]
         found = self.phase(tick)
         if found.kind == "instruction" and found.start is not None:
             return found.start.text
         to = "" if found.next is None else f", then {found.next.registers.pc:04X}"
         if found.kind in ("halted", "held"):
-            return found.kind + ("" if found.kind == "halted" else " by its reset line")
+            return "halted" if found.kind == "halted" else HELD
         return f"{found.kind} begins{to}"
 
     # --- The boot ROM ---

@@ -1,10 +1,13 @@
 """The debugger's answers that were wrong once, and all commands beside complete listings."""
+import importlib.util
 import io
+import json
 import os
 import sys
 import unittest
+from unittest import mock
 
-from common import TOP, Case, put
+from common import TOP, Case, call, put
 
 import beebtube
 from beebtube import past
@@ -404,6 +407,107 @@ class Answers(Case):
         told = self.tool("debug", "damaged", "-c", "quit", status=1).err
         self.assertIn("damaged is damaged, or from another program: its access", told)
 
+    def test_held_and_break(self):
+        """From where the reset line holds the second processor, and where BREAK led, each way."""
+        put(self.at("keys"), b"at 20000 break\nat 33001 break\n")
+        debugger = self.debugger(RESETS, IS_RESET, 60000, ["--keys", self.at("keys")])
+        para, end = debugger.past.machines["para"], debugger.past.end
+        sets = [
+            int(line[:10], 16)
+            for line in debugger.past.trace.splitlines()
+            if line[10:] == b" H W 0 A0"
+        ]
+        first = [next(tick for tick in range(it, end) if para.state(tick).held) for it in sets]
+        self.assertGreater(len(first), 2)
+        self.said(debugger, "host; go 0")
+        for tick in first:
+            self.assertIn("held by its reset line", self.said(debugger, "held"))
+            self.assertEqual((debugger.side, debugger.tick), ("para", tick))
+        self.assertRaises(Fault, self.said, debugger, "held")
+        for tick in reversed(first[:-1]):
+            self.said(debugger, "held back")
+            self.assertEqual(debugger.tick, tick)
+        self.assertRaises(Fault, self.said, debugger, "held back")
+        self.said(debugger, "go %d; held back" % (first[0] + 1))
+        self.assertEqual(debugger.tick, first[0])
+        host = debugger.past.machines["host"]
+        after = [host.following(tick).tick for tick in (20000, 33001)]
+        self.said(debugger, "para; go 0; break")
+        self.assertEqual((debugger.side, debugger.tick), ("host", after[0]))
+        self.said(debugger, "break")
+        self.assertEqual(debugger.tick, after[1])
+        self.assertRaises(Fault, self.said, debugger, "break")
+        self.said(debugger, "para; break back")
+        self.assertEqual((debugger.side, debugger.tick), ("host", after[0]))
+        self.said(debugger, "para")
+        self.assertRaises(Fault, self.said, debugger, "break back")
+        self.assertEqual(debugger.side, "para")
+
+    def test_marks(self):
+        debugger = self.debugger(LOSES, TAKES)
+        self.said(debugger, "go 500; mark one; para; step 3; mark two; go end")
+        tick = debugger.past.machines["para"].following(500, 3).tick
+        self.said(debugger, "go one")
+        self.assertEqual((debugger.side, debugger.tick), ("host", 500))
+        self.said(debugger, "go two")
+        self.assertEqual((debugger.side, debugger.tick), ("para", tick))
+        self.assertEqual(
+            self.said(debugger, "mark"), "one: tick 500, host\ntwo: tick %d, para\n" % tick
+        )
+        for wrong in ("mark end", "mark 12", "mark a-b", "go three"):
+            self.assertRaises(Fault, self.said, debugger, wrong)
+
+    def test_halted_and_held_after_the_last_access(self):
+        """A state alone shows them, too."""
+        program = Program()
+        self.debugger(RESETS, IS_RESET)
+        words = ["solo", "40000", "part", "--os", "os", "--tube", "tube", "--keep", "40"]
+        program.done([*words, "--save", "session"], self.folder)
+        from beebtube.inputs import Fields
+
+        whole = self.debugger(RESETS, IS_RESET)
+        with open(self.at("part.trace"), "rb") as file, open(self.at("session"), "rb") as session:
+            short = past.Past(program, Fields(session.read()), "x", None, file.read(), 40000)
+        self.addCleanup(short.close)
+        debugger = Debugger(short, {side: Names() for side in past.SIDES}, out=self.out)
+        self.said(whole, "go end; held back")
+        self.assertGreater(whole.tick, short.held)
+        self.assertIn("held by its reset line", self.said(debugger, "para; go %d" % whole.tick))
+
+    def test_differ(self):
+        """Each moment at which something more differs, by the states of every tick."""
+        first = "INC &70\nloop: INC &71\nLDA &70\nSTA &72\nLDX #9\nw: DEX\nBNE w\nSTA &73\n"
+        last = "JMP loop\norg &FFFA\nword start,start,start\n"
+        text = "org &C000\nstart: LDX #0\n" + first + last
+        one = self.debugger(text, ticks=600)
+        other = self.debugger(text.replace("INC &70", "DEC &70"), ticks=600)
+        debugger = Debugger(one.past, one.names, other.past, out=self.out)
+
+        def differing(tick):
+            mine, yours = (it.past.machines["host"].state(tick) for it in (one, other))
+            pairs = list(zip([*mine.registers, *mine.memory], [*yours.registers, *yours.memory]))
+            return {at for at, (a, b) in enumerate(pairs) if a != b}
+
+        found = {tick: differing(tick) for tick in range(601)}
+        debugger.compare()
+        ticks = [debugger.tick]
+        while True:
+            try:
+                self.said(debugger, "differ")
+            except Fault:
+                break
+            ticks.append(debugger.tick)
+            self.assertIn("nothing more differs to tick %d" % debugger.tick, self.out.getvalue())
+        self.assertGreater(len(ticks), 3)
+        known = set()
+        for tick in ticks:
+            self.assertLessEqual(found[tick], known)
+            self.assertFalse(found[tick + 1] <= known)
+            known = found[tick + 1]
+        said = self.said(debugger, "go 0; differ; differ; differ; differ")
+        self.assertIn("host memory 0072: 01, FF", said)
+        self.assertRaises(Fault, self.said, one, "differ")
+
 
 class Completion(Case):
     def test_labels_where_they_belong(self):
@@ -420,6 +524,17 @@ class Completion(Case):
         self.assertEqual(completions(debugger, "until d", "d"), ["deep", "done", "drop", "dropped"])
         self.assertEqual(completions(debugger, "go 5; u lo", "lo"), ["loop"])
         self.assertEqual(completions(debugger, "step d", "d"), [])
+
+    def test_marks_and_commands(self):
+        from beebtube.console import completions
+
+        put(self.at("os"), Program().asm("6502", CALLS.encode()))
+        one = past.Past.of_words(Program(), ["host", "100", "x", "--os", self.at("os")])
+        self.addCleanup(one.close)
+        debugger = Debugger(one, {side: Names() for side in past.SIDES}, out=io.StringIO())
+        debugger.do("mark here; mark there")
+        self.assertEqual(completions(debugger, "go he", "he"), ["here"])
+        self.assertEqual(completions(debugger, "help ma", "ma"), ["mark"])
 
     def test_progress_is_cleared(self):
         """What is shown does not follow the line of the progress, which is cleared first."""
@@ -440,6 +555,90 @@ class Completion(Case):
         finally:
             sys.stdout, sys.stderr = keep
         self.assertTrue(err.getvalue().endswith("\r" + " " * 40 + "\r"))
+
+
+class Prompt(Case):
+    """What a person has besides the commands."""
+
+    CODE = """
+import sys
+sys.path.insert(0, sys.argv[1])
+from beebtube.console import history
+import readline
+with history():
+    length = readline.get_current_history_length()
+    print([readline.get_history_item(at + 1) for at in range(length)])
+    for line in sys.argv[2:]:
+        readline.add_history(line)
+"""
+
+    def lines(self, *typed, **env):
+        words = [sys.executable, "-B", "-c", self.CODE, os.path.join(TOP, "tools"), *typed]
+        done = call(words, self.folder, env={"HOME": self.folder, "XDG_STATE_HOME": "", **env})
+        self.assertEqual((done.status, done.err), (0, ""))
+        return done.out.strip()
+
+    @unittest.skipUnless(importlib.util.find_spec("readline"), "this python has no readline")
+    def test_history(self):
+        """The lines of an earlier time are there again; without a folder that can be made, none."""
+        self.assertEqual(self.lines("who 70", "back"), "[]")
+        self.assertEqual(self.lines("step"), "['who 70', 'back']")
+        self.assertEqual(self.lines(), "['who 70', 'back', 'step']")
+        self.assertTrue(os.path.isfile(self.at(".local/state/beebtube/history")))
+        self.assertEqual(self.lines("next", XDG_STATE_HOME=self.at("state")), "[]")
+        self.assertEqual(self.lines(XDG_STATE_HOME=self.at("state")), "['next']")
+        put(self.at("file"))
+        self.assertEqual(self.lines("next", XDG_STATE_HOME=self.at("file")), "[]")
+
+    def test_pager(self):
+        """It shows what is longer than the terminal, whole, and nothing else."""
+        from beebtube.console import Clearing, Progress
+
+        out, shown = io.StringIO(), []
+        with mock.patch("sys.stdout", out), mock.patch("pydoc.pager", shown.append), mock.patch(
+            "shutil.get_terminal_size", lambda: os.terminal_size((80, 5))
+        ):
+            paged = Clearing(Progress(), True)
+            for count in (4, 5):
+                for number in range(count):
+                    paged.write("%d\n" % number)
+                self.assertNotIn("5", out.getvalue())
+                paged.flush()
+            Clearing(Progress()).write("more\n" * 9)
+        self.assertEqual(shown, ["0\n1\n2\n3\n4\n"])
+        self.assertEqual(out.getvalue(), "0\n1\n2\n3\n" + "more\n" * 9)
+
+    def test_json(self):
+        """A line for each command, with what it found; the status is as without it."""
+        self.pair()
+        words = ["debug", "solo", "2000", "x", "--os", "os", "--tube", "tube", "--json"]
+        done = self.tool(
+            *words, "-c", "go 1503; mark here; memory 70 2; sender; bogus", "-c", "who 70", status=1
+        )
+        told = [json.loads(line) for line in done.out.splitlines()]
+        self.assertEqual(
+            [it["command"] for it in told],
+            ["go 1503", "mark here", "memory 70 2", "sender", "bogus", "who 70", "where"],
+        )
+        self.assertEqual((told[0]["side"], told[0]["tick"], told[0]["error"]), ("host", 1503, None))
+        start = told[0]["found"][0]
+        self.assertEqual((start["tick"], start["pc"], start["text"]), (1503, 0xC011, "JMP &C011"))
+        self.assertEqual(told[2]["found"], [{"address": 0x70, "bytes": "4849"}])
+        self.assertEqual(told[3]["side"], "para")
+        given = {"tick": told[3]["tick"], "side": "para", "way": "W", "address": 1, "byte": 0x49}
+        self.assertEqual(told[3]["found"][1], given)
+        self.assertIn("no such command", told[4]["error"])
+        self.assertIsNotNone(told[5]["error"])
+        plain = self.tool(*words[:-1], "-c", "go 1503; sender; where", status=0).out.splitlines()
+        where = told[6]["lines"]
+        self.assertEqual(told[0]["lines"] + told[3]["lines"] + where, plain[: -len(where)])
+        self.assertEqual({it["side"] for it in told[6]["found"]}, {"host", "para"})
+        # Commands of standard input, and two runs.
+        other = "solo 1500 x --os os --tube tube"
+        done = self.tool(*words, "--against", other, stdin=b"step\nquit\nstep\n", status=1)
+        told = [json.loads(line) for line in done.out.splitlines()]
+        self.assertEqual([it["command"] for it in told], ["--against", "step", "quit", "where"])
+        self.assertIn("the same to tick 1500", told[0]["lines"][0])
 
 
 class Truth(unittest.TestCase):
