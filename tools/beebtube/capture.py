@@ -186,7 +186,7 @@ def _lines_of_bus(name: str, width: int) -> List[str]:
     )
     if abs(high - low) + 1 != width:
         raise Fault(
-            "--names: %s has %d lines, and %d are wanted"
+            "--names: %s has %d lines, and needs %d"
             % (shown(name), abs(high - low) + 1, width)
         )
     return ["%s[%d]" % (base, low + (bit if high >= low else -bit)) for bit in range(width)]
@@ -432,7 +432,7 @@ class _Rows:
             row = _fields(line, number)
             if len(row) <= most:
                 raise Fault(
-                    "line %d has %d columns, and %d are wanted" % (number, len(row), 1 + most)
+                    "line %d has %d columns, and needs %d" % (number, len(row), 1 + most)
                 )
             access = self._access(row, number)
             if access.end < time:

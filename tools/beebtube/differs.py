@@ -137,7 +137,7 @@ def _of_traces(one: Trace, other: Trace) -> List[str]:
                 return []
             before.append(here)
             continue
-        lines = ["access %s is another one" % "{:,}".format(number)]
+        lines = ["access %s differs" % "{:,}".format(number)]
         lines += ["  both   %s" % line_of(access, one.second) for access in before]
         lines.append("  first  %s" % (line_of(here, one.second) if here is not None else "             nothing more"))
         lines.append("  second %s" % (line_of(there, one.second) if there is not None else "             nothing more"))
@@ -192,7 +192,7 @@ def _catalogue_of(disc: Disc, side: int) -> Optional[Catalogue]:
 # The name of the file of a catalogue that has a sector, or what else stands there.
 def _owner_of(catalogue: Optional[Catalogue], sector: int) -> str:
     if catalogue is None:
-        return "no catalogue tells whose"
+        return "in no file of a catalogue"
     if sector < 2:
         return "the catalogue"
     for file in catalogue.files:
@@ -300,7 +300,7 @@ def _of_lines(one: Name, other: Name) -> List[str]:
                     return []
                 before.append(here)
                 continue
-            lines = ["line %s is another one" % "{:,}".format(number)]
+            lines = ["line %s differs" % "{:,}".format(number)]
             lines += ["  both   %s" % _shown(line.rstrip(b"\n")) for line in before]
             lines.append("  first  %s" % (_shown(here.rstrip(b"\n")) if here else "nothing more"))
             lines.append("  second %s" % (_shown(there.rstrip(b"\n")) if there else "nothing more"))

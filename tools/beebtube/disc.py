@@ -306,7 +306,7 @@ def _gap(files: List[File], sectors: int, wanted: int) -> int:
         largest = max(largest, room)
         if file is not None:
             at = max(at, file.sector + (file.length + SECTOR - 1) // SECTOR)
-    raise Fault("it wants %d sectors, and the largest gap of the disc has %d" % (wanted, largest))
+    raise Fault("it needs %d sectors, and the largest gap of the disc has %d" % (wanted, largest))
 
 
 def _to_change(disc: Disc, side: int) -> Catalogue:

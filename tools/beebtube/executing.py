@@ -79,7 +79,7 @@ def _fault_of(given: argparse.Namespace) -> Optional[str]:
     for name, at, start in (("--start", given.at, given.start),
                             ("--host-start", given.host_at, given.host_start)):
         if start is not None and at is None:
-            return f"{name} wants the address of a raw image, by {name.replace('start', 'at')}"
+            return f"{name} needs the address of a raw image, by {name.replace('start', 'at')}"
     if given.host and given.trace:
         return "--trace: without a Tube there is no list of its accesses; --listing is there"
     if given.host and given.speed == "4":
@@ -120,7 +120,7 @@ def execute(words: List[str]) -> int:
     try:
         return _execute(words)
     except Usage as fault:
-        _tell(f"{fault} (--help tells the words)")
+        _tell(f"{fault} (--help lists the arguments)")
     except Refused as refused:
         text = refused.text or f"the emulator ended with {refused.status}"
         _tell("\n".join([text] + refused.why))

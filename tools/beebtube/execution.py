@@ -76,9 +76,9 @@ class Image:
             self.load, self.entry = (data[at] | data[at + 1] << 8 for at in (8, 10))
             self._lower_stack()
         else:
-            raise Fault("%s is no program of ld65 with a configuration of examples/c, and none of sim65: a raw image wants --at AAAA" % name)
+            raise Fault("%s is no program of ld65 with a configuration of examples/c, and none of sim65: a raw image needs --at AAAA" % name)
         if start is not None and at is None:
-            raise Fault("%s tells where it begins: --start is for a raw image" % name)
+            raise Fault("%s holds its own start address: --start is for a raw image" % name)
         self.cpu = told or cpu
         if told and cpu and told != cpu:
             raise Fault("%s is made for a %s, and --cpu says %s" % (name, told.upper(), cpu.upper()))
@@ -503,7 +503,7 @@ def images_of(program: Data, both: Optional[Data], host: bool, at: Optional[int]
         raise Fault("host runs one program, and both two")
     for begin, where in ((start, at), (host_start, host_at)):
         if begin is not None and where is None:
-            raise Fault("a start wants the address of a raw image")
+            raise Fault("a start needs the address of a raw image")
     images = [Image(name_of(program, "the program"), bytes_of(program, IMAGE_CAP), "host" if host else "para", at, start, cpu)]
     if both is not None:
         images.append(Image(name_of(both, "the host's program"), bytes_of(both, IMAGE_CAP), "host", host_at, host_start, None))

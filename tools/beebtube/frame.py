@@ -186,7 +186,7 @@ def lines_in(picture: bytes, name: str = "the picture") -> List[bytes]:
     for kind, data in _parts_of(picture, name):
         kinds.append(kind)
         if kind == b"IHDR" and data != SIZE:
-            raise Fault("%s has another size or depth: 640 by 512 in 16 colours is wanted" % name)
+            raise Fault("%s has another size or depth: it needs 640 by 512 in 16 colours" % name)
         if kind == b"PLTE" and data != PALETTE:
             raise Fault("%s has other colours" % name)
         if kind in (b"IDAT", b"fdAT"):

@@ -177,7 +177,7 @@ class Page:
         for at in range(number):
             pixmap = self._output("%03d.ppm" % at)
             if pixmap is None:
-                raise Fault("cannot read %s.%03d.ppm: the report tells of %d shots" % (self.asked.out, at, number))
+                raise Fault("cannot read %s.%03d.ppm: the report has %d shots" % (self.asked.out, at, number))
             frame = Frame(pixmap, "%s.%03d.ppm" % (self.asked.out, at))
             when = ", at %s" % self.time(ticks[at]) if len(ticks) == number else ""
             alt = "Screen of shot %d%s" % (at, when)
@@ -284,7 +284,7 @@ class Page:
             return
         one, other = Outputs.of(self.asked.out), Outputs.of(self.asked.against)
         self.reads += list(other.names.values())
-        parts = ["<p>This run is before the sign |, and %s behind it.</p>" % shown(os.path.basename(self.asked.against))]
+        parts = ["<p>This run is before the sign |, and %s after it.</p>" % shown(os.path.basename(self.asked.against))]
         for difference in differences(one, other):
             parts.append(element("h3", shown(difference.ending)))
             parts.append(element("pre", "\n".join(shown(line) for line in difference.lines), tabindex="0"))

@@ -156,11 +156,11 @@ def line_fault(line: bytes) -> str:
         meant = ", %s?" % words[2].lower() if words[2].lower() in wanted else "; there are %s" % ", ".join(wanted)
         return "no event is called %s%s" % (words[2][:20], meant)
     if len(words) != wanted[words[2]]:
-        return "`%s` has %d words behind it" % (words[2], wanted[words[2]] - 3)
+        return "`%s` has %d words after it" % (words[2], wanted[words[2]] - 3)
     if words[2] == "adc":
         return "`adc` has a channel from 0 to 3 and a level of four upper-case hexadecimal digits"
     if re.fullmatch("[0-7][0-9A-F]", words[3].upper()):
-        return "the key %s wants upper case: %s" % (words[3], words[3].upper())
+        return "key numbers are upper case: %s" % words[3].upper()
     return "the key %s is no number of two upper-case hexadecimal digits from 00 to 7F" % words[3][:20]
 
 
@@ -201,7 +201,7 @@ def typed(text: str, start: float = 2.0, hold: float = 0.05, gap: float = 0.05, 
     if script.ticks > MOST_TICKS and fit:
         script = _fitted(made, hold, gap, script)
     if script.ticks > MOST_TICKS:
-        raise Fault("%s keys want %s ticks; a run has %s at most%s" % (
+        raise Fault("%s keys need %s ticks; a run has %s at most%s" % (
             "{:,}".format(script.keys), "{:,}".format(script.ticks), "{:,}".format(MOST_TICKS), "" if fit else ": --fit types faster"))
     if script.shots > MOST_SHOTS:
         raise Fault("%d shots: a script has %d at most" % (script.shots, MOST_SHOTS))
@@ -338,7 +338,7 @@ def _keys_of_name(name: str) -> List[Optional[int]]:
         else:
             raise Fault("no key is called %s" % part)
     if None in keys[:-1]:
-        raise Fault("{%s}: BREAK comes last, behind the keys that are held with it" % name)
+        raise Fault("{%s}: BREAK comes last, after the keys that are held with it" % name)
     return keys
 
 

@@ -37,9 +37,9 @@ def fault_of(option: str, value: str, before: Iterable[str]) -> Optional[str]:
     if OPTIONS[option].kind == "output":
         return "%s names a file that is written, and a set has none" % option
     if OPTIONS[option].kind == "flag":
-        return "%s has no value, and stands behind the words of a set" % option
+        return "%s has no value: give it after the set's arguments" % option
     if option in before:
-        return "%s stands twice" % option
+        return "%s is given twice" % option
     fault = value_fault(option, value)
     if fault:
         return "%s %s: %s" % (option, shown(value), fault)
@@ -72,7 +72,7 @@ def read_set(name: str) -> List[Tuple[str, str]]:
                 raise Fault("%s has the sum %s, not %s" % (file, digits, shown(parts[2])))
         found.append((option, value if file is None else file))
     if not found:
-        raise Fault("%s has no words" % name)
+        raise Fault("%s has no arguments" % name)
     return found
 
 
