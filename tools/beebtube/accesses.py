@@ -15,7 +15,7 @@ def name_of(place: int) -> str:
 
 
 def letter_of(byte: int) -> str:
-    """A byte as a letter behind it, where it is one."""
+    """A byte as a letter after it, if it is one."""
     return " '%c'" % byte if 32 <= byte < 127 else ""
 
 

@@ -41,7 +41,7 @@ class Captured(NamedTuple):
 
 
 class Wanted(NamedTuple):
-    """A line that is wanted: its name in the file, and whether its level is the other one."""
+    """A line that is needed: its name in the file, and whether its level is the other one."""
 
     line: str
     is_inverted: bool

@@ -61,7 +61,7 @@ def _kept(given: argparse.Namespace) -> List[str]:
     return [name for name in (given.save, given.trace, given.listing) if name is not None]
 
 
-# The words of the tool, and those of the program behind its name.
+# The words of the tool, and those of the program after its name.
 def _parted(words: List[str]) -> Tuple[List[str], List[str]]:
     at = 0
     while at < len(words) and words[at].startswith("-") and words[at] != "--":
@@ -178,7 +178,7 @@ def _execute(words: List[str]) -> int:
     return done.status
 
 
-# Leaves what is wanted of the run.
+# Leaves what the arguments name of the run.
 def _leave(done: Executed, given: argparse.Namespace, read: List[str]) -> None:
     for number, frame in enumerate(done.frames if given.shots else []):
         name = f"{given.shots}.{number:03d}.png"

@@ -1,6 +1,6 @@
 """What is wrong, in a person's words, where the program says a word or a number.
 
-The launcher calls this as `python3 explain.py STATUS TEXT WORD ..` and prints its lines behind the program's own text.
+The launcher calls this as `python3 explain.py STATUS TEXT WORD ..` and prints its lines after the program's own text.
 """
 from __future__ import annotations
 
@@ -81,7 +81,7 @@ def _of_image(text: str, call: "Call", names: Dict[str, str]) -> List[str]:
     return lines + _how_to_cut(name, kind, length, lengths)
 
 
-# Where the wanted bytes may stand in a longer image.
+# Where the bytes of an image may be in a longer file.
 def _how_to_cut(name: str, kind: str, length: int, lengths: Tuple[int, ...]) -> List[str]:
     whole = lengths[-1]
     if kind == "tube" and length == 4096:
@@ -89,7 +89,8 @@ def _how_to_cut(name: str, kind: str, length: int, lengths: Tuple[int, ...]) -> 
     if length > whole and length % whole == 0:
         return ["it may be %d images one after the other: `head -c %d %s` is the first" % (length // whole, whole, name)]
     if whole < length <= whole + 512:
-        return ["it may have %d bytes in front: `tail -c %d %s` leaves them out" % (length - whole, whole, name)]
+        return ["%d extra bytes may come first, then `tail -c %d %s` removes them, or last: `head -c %d %s`"
+                % (length - whole, whole, name, whole, name)]
     return []
 
 

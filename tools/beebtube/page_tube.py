@@ -30,7 +30,7 @@ def tube_of(columns: Columns, report: Report, second: int, most: int) -> Tuple[L
     """The Tube over time: parts of a page, and the data for its script.
 
     second  ticks of a second
-    most    how many accesses stand in the page in words at most
+    most    how many accesses the page explains at most
     """
     waits = Waits(columns)
     lines = element("ul", "\n".join(element("li", shown(line)) for line in told(columns, waits)), id="tube-told")
@@ -48,7 +48,7 @@ def tube_of(columns: Columns, report: Report, second: int, most: int) -> Tuple[L
     return [lines, element("p", sampled, id="tube-sampled"), _CHART, numbers], data
 
 
-# What is said of the accesses that stand in the page in words, and these.
+# What is said of the accesses that the page explains, and these.
 def _accesses(columns: Columns, report: Report, most: int) -> Tuple[str, Dict[str, Any]]:
     number = len(columns.codes)
     if number <= most:

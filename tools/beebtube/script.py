@@ -13,7 +13,7 @@ from .words import MOST_TICKS, number_of
 MOST_SHOTS = 256
 # The least times of a key for an operating system that looks at the keyboard each hundredth of a second.
 LEAST = 0.02
-# How long keys with BREAK are held: an operating system looks at them some 50 milliseconds and more after it.
+# How long keys with BREAK are held: an operating system looks at them 50 milliseconds and more after it.
 WITH_BREAK = 1.0
 
 # The keys by their numbers, as docs/KEYS.md has them: a row a line, a column a word.
@@ -168,7 +168,7 @@ class Typed(Script):
     """A script that types a text.
 
     keys    how many keys it presses
-    ticks   how many ticks a run wants for it, at least
+    ticks   how many ticks a run needs for it, at least
     hold, gap  how long a key is down, and none before the next, in seconds
     """
 
@@ -187,7 +187,7 @@ def typed(text: str, start: float = 2.0, hold: float = 0.05, gap: float = 0.05, 
     caps     no SHIFT for letters from A to Z
     shot     a shot half a second after the last key
     speed    3 or 4: the ticks of a second are 6,000,000 or 12,000,000
-    fit      keys are pressed faster where the text wants more ticks than a run has
+    fit      keys are pressed faster if the text needs more ticks than a run has
     Fault where no key has a letter, no key has a name, there are too many shots, or a run is too short.
     """
     second = 12000000 if speed == 4 else 6000000
@@ -241,7 +241,7 @@ class _Typist:
     def add(self, what: str, number: int = 0, level: int = 0) -> None:
         self.script.events.append(Event(self.at, what, number, level))
 
-    # The keys that are held with others go down half a gap before the next key, and up half a gap behind it.
+    # The keys that are held with others go down half a gap before the next key, and up half a gap after it.
     def keep_down(self, wanted: List[int]) -> None:
         for key in self.held:
             if key not in wanted:

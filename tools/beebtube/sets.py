@@ -1,6 +1,6 @@
 """ROM sets: a text file that names the files of a machine, as the words of a run.
 
-A line is an option of beebtube, its value, and for a file its SHA-256 sum, if wanted; a line that begins with `#` is a comment. Names
+A line is an option of beebtube, its value, and for a file its SHA-256 checksum, if given; a line that begins with `#` is a comment. Names
 are from the set's folder on.
 """
 from __future__ import annotations
@@ -31,7 +31,7 @@ def file_of(folder: str, option: str, value: str) -> Optional[str]:
 
 
 def fault_of(option: str, value: str, before: Iterable[str]) -> Optional[str]:
-    """What is wrong with an option and its value behind other options; None where nothing is."""
+    """What is wrong with an option and its value after other options; None if nothing is."""
     if option not in OPTIONS:
         return "%s is no option of beebtube" % shown(option)
     if OPTIONS[option].kind == "output":

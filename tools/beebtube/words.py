@@ -21,7 +21,7 @@ RUNS = PAIRS + ("resume",)
 HEARD = ("replay host",) + RUNS
 HOST_ALONE = ("replay host", "follow host")
 
-# Each command, and its words that stand alone.
+# Each command, and its words without an option.
 COMMANDS: Dict[str, Tuple[str, ...]] = {
     "check": ("TRACE",),
     "asm": ("PART", "SOURCE", "OUT"),
@@ -79,7 +79,7 @@ ADDRESS = re.compile(r"[0-9A-F]{4}")
 
 
 class WrongWord(Fault):
-    """The words spell no command: which word is wrong, and what is meant."""
+    """The command line is not valid: which word is wrong, and what is meant."""
 
 
 def number_of(word: str) -> Optional[int]:
@@ -127,11 +127,11 @@ def _is_text(word: str) -> bool:
 
 
 class Call:
-    """A call of the program by its words. WrongWord where they spell no command.
+    """A call of the program by its words. WrongWord if they are not valid.
 
     command  the command word
     taker    with the side where there is one: `replay host`
-    alone    the words that stand alone, by what they are: TRACE, TICKS, OUT ..
+    alone    the words without an option, by what they are: TRACE, TICKS, OUT ..
     options  the options and their values
     """
 

@@ -176,6 +176,8 @@ class Told(Case):
         for option, length, lines in (
             ("--os", 8192, ["--os image has 8,192 bytes: an operating system has 16,384"]),
             ("--os", 32768, ["it may be 2 images one after the other: `head -c 16384 image` is the first"]),
+            ("--os", 16386, ["--os image has 16,386 bytes: an operating system has 16,384",
+                             "2 extra bytes may come first, then `tail -c 16384 image` removes them, or last: `head -c 16384 image`"]),
             ("--tube", 4096, ["--tube image has 4,096 bytes: a boot ROM has 2,048", "use the last half of a boot ROM of 4,096 bytes: `tail -c 2048 image`"]),
             ("--rom3", 2, ["--rom3 image has 2 bytes: a paged ROM has 8,192 or 16,384"]),
             ("--font", 768, ["--font image has 768 bytes: a font has 960"]),
