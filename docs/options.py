@@ -1,5 +1,5 @@
 #!/usr/bin/env python3
-"""Makes what tells the words of beebtube from the program's own table of options, crates/cmd_words/src/keys.rt:
+"""Makes the pages of beebtube's arguments from the program's own table of options, crates/cmd_words/src/keys.rt:
 the man page docs/beebtube.1, the completion tools/completion.bash, the text of --help docs/help.txt, and the list of options in
 docs/COMMANDS.md; and compares the table of tools/beebtube/words.py.
 
@@ -25,7 +25,7 @@ TEXTS = {
     "--tube": ("ROM", "the second processor's boot ROM, 2,048 bytes"),
     "--romN": ("ROM", "a paged ROM in slot N, from 0 to 15, 8,192 or 16,384 bytes"),
     "--font": ("FONT", "the teletext chip's font, 960 bytes; without it the chip shows blanks for letters"),
-    "--disc0": ("IMAGE", "the disc in drive 0: a DSD where the name ends in .dsd, else an SSD"),
+    "--disc0": ("IMAGE", "the disc in drive 0: a DSD if the name ends in .dsd, else an SSD"),
     "--disc1": ("IMAGE", "the disc in drive 1"),
     "--keys": ("SCRIPT", "the key script: keys, shots, BREAK and the converter's levels"),
     "--points": ("FILE", "only instructions at the addresses of this file: on each line four upper-case hexadecimal digits, rising"),
@@ -35,9 +35,9 @@ TEXTS = {
     "--wav": ("FILE", "what is heard of the sound chip, as a sound file"),
     "--save": ("FILE", "the run as a session file, from which resume goes on"),
     "--at": ("AAAA", "only instructions at this address"),
-    "--watch": ("AAAA", "only instructions in front of which the byte at this address changed"),
-    "--from": ("TICK", "only starts at this tick or later are listed; for --watch the start before stays the start before, whether it is "
-                       "listed or not"),
+    "--watch": ("AAAA", "only instructions before which the byte at this address changed"),
+    "--from": ("TICK", "only starts at this tick or later are listed; --watch compares with the preceding instruction even if that is "
+                       "not listed"),
     "--no-tube": (None, "nothing answers at FEE0 to FEFF: a read there gives FE, a write does nothing, BREAK makes no access; the trace "
                         "must be empty (bad trace 1 otherwise): a Model B alone"),
     "--counts": (None, "writes OUT.counts too: for each address how many instructions start there, their ticks, and how often the condition "
@@ -47,38 +47,44 @@ TEXTS = {
 COMMANDS = [
     ("check TRACE", "says whether the chip would give the answers of a Tube trace"),
     ("asm PART SOURCE OUT", "assembles a source text for PART, 6502 or 65c02"),
-    ("dis PART IMAGE ORIGIN OUT", "writes the source text of an image's bytes, which stand from ORIGIN on"),
+    ("dis PART IMAGE ORIGIN OUT", "writes the source text of an image's bytes, the first of which is at ORIGIN"),
     ("replay host TRACE TICKS OUT [OPTION ..]", "runs the BBC Micro alone against a trace"),
     ("replay para TRACE TICKS OUT [OPTION ..]", "runs the second processor alone against a trace"),
     ("solo TICKS OUT [OPTION ..]", "runs both machines on one thread"),
     ("run TICKS OUT [OPTION ..]", "runs both machines, each in a thread of its own"),
     ("resume STATE TICKS OUT [OPTION ..]", "goes on with the run that a session file holds"),
     ("follow host TRACE TICKS OUT [OPTION ..]", "lists the instructions that the BBC Micro carries out against a trace"),
-    ("follow para TRACE TICKS OUT [OPTION ..]", "lists those of the second processor"),
+    ("follow para TRACE TICKS OUT [OPTION ..]", "lists the instructions of the second processor"),
     ("gen SEED", "makes and runs a demonstration of a seed, a number below 2^64"),
 ]
 
-LAUNCHED = [("--help", "prints all words"), ("--version", "prints which program is run, its sum, and what proved it")]
+EXAMPLES = [
+    "examples/typing.sh                 # assembles os, tube and font",
+    "./beebtube run 6000000 out --os os --tube tube --font font",
+    "./beebtube replay host /dev/null 6000000 alone --no-tube --os os --font font",
+]
+
+LAUNCHED = [("--help", "prints this text"), ("--version", "prints which program is run, its checksum, and what proved it")]
 
 OUTPUTS = [
     ("OUT.report", "registers, and how many accesses and frames there were"),
     ("OUT.host, OUT.para", "the memories, 32,768 and 65,536 bytes"),
-    ("OUT.d0, OUT.d1", "the discs, where drives have any"),
+    ("OUT.d0, OUT.d1", "the discs, if drives have any"),
     ("OUT.000.ppm ..", "the frames that the shots of the key script took, 640 by 256"),
     ("OUT.trace", "the Tube trace, of solo, run and resume"),
     ("OUT.plug0, OUT.plug1", "what the plugged devices hold"),
     ("the FILE of --wav", "the sound: one channel of 16 bits, 31,250 samples a second"),
-    ("the FILE of --save", "the session: all images, the script, and the accesses to the Tube that are kept"),
+    ("the FILE of --save", "the session: all images, the script, and the stored accesses to the Tube"),
     ("OUT.list", "the listing, of follow: a line for each instruction, at most 1,048,576"),
     ("OUT.counts", "what --counts counts, of follow: a line for each address"),
 ]
 
 STATUSES = [
     (0, "done"),
-    (1, "usage: the words spell no command"),
+    (1, "usage: the command line is not valid"),
     (2, "a file could not be read, or is too long"),
     (3, "an image has a wrong length"),
-    (4, "a trace, script, source, session file or file of addresses is outside its form; the line, or the byte, is said"),
+    (4, "a trace, script, source, session file or file of addresses is not in its form; the line, or the byte, is named"),
     (5, "a file could not be written"),
     (6, "no thread could be started"),
     (7, "no memory"),
@@ -164,6 +170,12 @@ def escaped(text):
     return text.replace("\\", "\\\\").replace("-", "\\-").replace("'", "\\(aq")
 
 
+# A call in a page of `man`: names of values in italics, what is typed as it is in bold.
+def call_of(words):
+    return " ".join("\\f%s%s\\fR" % ("I" if re.match(r"[A-Z]", it) else "R" if it[0] in ".[" else "B", escaped(it))
+                    for it in words.split())
+
+
 def man_of(options):
     lines = [
         ".\\\" Made by docs/options.py.",
@@ -173,17 +185,17 @@ def man_of(options):
         ".SH SYNOPSIS",
     ]
     for words, _ in COMMANDS:
-        lines += [".B beebtube " + words.split()[0], ".I " + escaped(" ".join(words.split()[1:])), ".br"]
+        lines += [call_of("beebtube " + words), ".br"]
     lines += [
         ".SH DESCRIPTION",
-        "beebtube emulates two computers at once. Its runs repeat byte for byte: what run writes with status 0",
-        "is, whatever the threads did, the reference run of its inputs, which is proved.",
+        "beebtube emulates two computers at once. Its runs repeat byte for byte: if run ends with status 0, its",
+        "files are those of the reference run of its inputs, however its threads were scheduled. This is proved.",
         "TICKS are of 1/6 microsecond, 6,000,000 a second, or with \\-\\-speed 4 of 1/12; at most 1,073,741,824.",
-        "Options may stand in any place after the command word.",
+        "Options may come in any place after the command.",
         ".SH COMMANDS",
     ]
     for words, text in COMMANDS:
-        lines += [".TP", ".B " + escaped(words), escaped(text) + "."]
+        lines += [".TP", call_of(words), escaped(text) + "."]
     for word, text in LAUNCHED:
         lines += [".TP", ".B " + escaped(word), escaped(text) + "; of the launcher alone."]
     lines.append(".SH OPTIONS")
@@ -197,7 +209,9 @@ def man_of(options):
     lines.append(".SH EXIT STATUS")
     for number, text in STATUSES:
         lines += [".TP", ".B %d" % number, escaped(text) + "."]
-    lines += [".SH SEE ALSO", "README.md, docs/COMMANDS.md, docs/KEYS.md, docs/ROMS.md, docs/TOOLS.md"]
+    lines += [".SH EXAMPLES", ".nf", *["\\&" + escaped(it) for it in EXAMPLES], ".fi"]
+    lines += [".SH SEE ALSO", "README.md, docs/COMMANDS.md, docs/KEYS.md, docs/ROMS.md, docs/TOOLS.md;",
+              "the folder tools/, of which each tool has \\-\\-help."]
     return "\n".join(lines) + "\n"
 
 
@@ -277,6 +291,7 @@ def help_of(options):
     lines += ["", "TICKS are of 1/6 microsecond, 6,000,000 a second, or with --speed 4 of 1/12; at most 1,073,741,824.",
               "OUT begins the names of what is written: OUT.report, OUT.host, OUT.para and more.", "", "Exit status:"]
     lines += ["  %d  %s" % status for status in STATUSES]
+    lines += ["", "Examples:", *["  " + it for it in EXAMPLES]]
     lines += ["", "docs/COMMANDS.md has all of it, docs/TOOLS.md the tools; man docs/beebtube.1"]
     return "\n".join(lines) + "\n"
 

@@ -15,7 +15,7 @@ def name_of(place: int) -> str:
 
 
 def letter_of(byte: int) -> str:
-    """A byte as a letter behind it, where it is one."""
+    """A byte as a letter after it, if it is one."""
     return " '%c'" % byte if 32 <= byte < 127 else ""
 
 
@@ -32,7 +32,7 @@ def words_of(side: str, way: str, place: int, byte: int) -> str:
         marked = "".join(name for bit, name in zip((64, 32, 16, 8, 4, 2, 1), "TPVMJIQ") if byte & bit) or "none"
         return "%s %s flags: %s" % (who, "sets" if byte & 128 else "clears", marked)
     if is_status(place):
-        return "%s writes %02X where the status of %s stands" % (who, byte, name_of(place))
+        return "%s writes %02X to the address of the status of %s" % (who, byte, name_of(place))
     if way == "R":
         return "%s takes %02X%s from %s" % (who, byte, letter_of(byte), name_of(place))
     return "%s gives %02X%s to %s" % (who, byte, letter_of(byte), name_of(place))

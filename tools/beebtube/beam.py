@@ -1,7 +1,7 @@
 """Where the beam is: the 6845's counters, by what a run wrote to its registers.
 
-The chip counts as docs/DEFINITIONS.md has it ("character clock", "whole frames"). It stands still for nobody, so that the stores to it
-and to the control byte of the video ULA, which says how many character clocks a microsecond has, tell where it is at any tick. The
+The chip counts as docs/DEFINITIONS.md has it ("character clock", "whole frames"). Nothing stops it, so that the stores to it
+and to the control byte of the video ULA, which says how many character clocks a microsecond has, show where it is at any tick. The
 picture's own tests compare the frames that shots take with what is counted here.
 """
 from __future__ import annotations
@@ -48,7 +48,7 @@ class Position(NamedTuple):
 
 
 class Beam:
-    """The 6845 from power-on, which is told stores in their order."""
+    """The 6845 from power-on, which gets stores in their order."""
 
     def __init__(self, ticks: int):
         self.ticks = ticks  # of a microsecond

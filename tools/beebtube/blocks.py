@@ -40,7 +40,7 @@ def _boxes(frame: Frame, across: int, down: int) -> List[List[int]]:
 
 
 def blocks_of(frame: Frame, columns: int = 80) -> List[str]:
-    """Lines of blocks, each quarter of which stands where a third of the frame's pixels there are lit, in whatever colour; blanks at
+    """Lines of blocks, each quarter of which is set if a third of the frame's pixels there are lit, in whatever colour; blanks at
     the ends of lines are left out.
 
     columns  how wide a line may be, 20 to 320; 160 and more show the letters of all modes

@@ -41,7 +41,7 @@ class Captured(NamedTuple):
 
 
 class Wanted(NamedTuple):
-    """A line that is wanted: its name in the file, and whether its level is the other one."""
+    """A line that is needed: its name in the file, and whether its level is the other one."""
 
     line: str
     is_inverted: bool
@@ -110,7 +110,7 @@ class Bus:
             )
         if begin is None and RESET not in self.bit:
             raise Fault(
-                "nothing tells when the last reset was: a trace begins at one; the signal %s, or "
+                "the time of the last reset is unknown, and a trace begins at a reset: give the signal %s, or "
                 "--at TICK where the capture begins"
                 % RESET
             )

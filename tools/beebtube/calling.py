@@ -23,7 +23,7 @@ class Called:
     a, x, y, p, s  the registers; carry, zero, negative, overflow and decimal are bits of p
     memory         of its machine, 32,768 or 65,536 bytes
     out            what it wrote by OSWRCH
-    cycles         how many it took, with its RTS and without the JSR; a second run tells it
+    cycles         how many it took, with its RTS and without the JSR; a second run finds it
     """
 
     def __init__(self, runner: Runner, left: Left, end: int):
@@ -99,7 +99,7 @@ def call(image: Data, *, at: int, start: Optional[int] = None,
     cpu      "6502", the host's processor, with memory up to 7FFF; or "65c02", the second processor,
              up to F7FF
     limit    the most seconds of machine time
-    using    the emulator, if it is another one
+    using    the emulator, if it is not ./beebtube
     Fault if it does not return, ends by a BRK, or if there is no room in memory.
     """
     machine: Side = "para" if cpu == "65c02" else "host"

@@ -160,7 +160,7 @@ class Calls:
         return None
 
     def frames(self, tick: int) -> Iterator[Frame]:
-        """The frames that are open at a tick, the innermost first; of calls that began some 2
+        """The frames that are open at a tick, the innermost first; of calls that began about 2
         million ticks before or earlier, those whose return addresses are on the stack."""
         machine, here = self.machine, self.machine.current(tick)
         if here is None:

@@ -105,7 +105,7 @@ def vcd_of(trace: Trace) -> Iterator[bytes]:
             yield writer.at(at, later.pop(at)).encode()
 
     for access in trace:
-        # The first unit of the tick, so that the time tells the tick.
+        # The first unit of the tick, so that the tick follows from the time.
         start = LEAD - -access.tick * UNIT // trace.second
         half, last = start + tick // 2, start + tick
         yield from until(start)
@@ -132,7 +132,7 @@ def vcd_of(trace: Trace) -> Iterator[bytes]:
 
 def csv_of(trace: Trace) -> Iterator[bytes]:
     """The trace as a table: tick, time in microseconds, side, way, register, byte, the access in
-    words, and behind it the flags and how many bytes each register holds (h1 to the host, p1 to the
+    words, and after it the flags and how many bytes each register holds (h1 to the host, p1 to the
     second processor)."""
     tube = Tube()
     yield b"tick,time_us,side,way,register,byte,words,flags,h1,h2,h3,h4,p1,p2,p3,p4\n"
@@ -186,7 +186,7 @@ def _lines_of_bus(name: str, width: int) -> List[str]:
     )
     if abs(high - low) + 1 != width:
         raise Fault(
-            "--names: %s has %d lines, and %d are wanted"
+            "--names: %s has %d lines, and needs %d"
             % (shown(name), abs(high - low) + 1, width)
         )
     return ["%s[%d]" % (base, low + (bit if high >= low else -bit)) for bit in range(width)]
@@ -198,7 +198,7 @@ def _wanted(signal: str, line: str) -> Wanted:
 
 
 class Capture:
-    """A capture's file, of which `trace` makes a trace; what it tells otherwise is right once that
+    """A capture's file, of which `trace` makes a trace; its other answers are right once that
     is done.
 
     speed   the second processor's clock in MHz, 3 or 4
@@ -221,13 +221,13 @@ class Capture:
         progress: Optional[Progress] = None,
     ):
         """
-        speed   None if the file tells it, else 3
-        begin   at which tick the capture begins; None if its reset line tells
+        speed   None if the file has it, else 3
+        begin   at which tick the capture begins; None if its reset line shows it
         names   the file's names of signals and columns, by those here, if they are others
         glitch  seconds of the longest pulse that is passed over; None for 20 ns
         skew    seconds by which edges of the two sides may be captured in the wrong order; None for
                 a sample Fault if a side has some of its signals and not all, or none is there, or
-                nothing tells when the last reset was.
+                the time of the last reset is unknown.
         """
         names = names or {}
         ending = re.sub(".*[.]", "", str(name)).lower()
@@ -424,7 +424,7 @@ class _Rows:
         return {**place, "time": at}
 
     def accesses(self) -> Iterator[Captured]:
-        """The accesses as they stand; those of one tick, if there are ticks, the host's first."""
+        """The accesses in their order; those of one tick, if there are ticks, the host's first."""
         most, time, beside = max(self._place.values()), -1, []  # type: int, int, List[Captured]
         for number, line in _lines_of(self._name):
             if number <= self._head.line or not line.strip() or line[0] in ";#":
@@ -432,7 +432,7 @@ class _Rows:
             row = _fields(line, number)
             if len(row) <= most:
                 raise Fault(
-                    "line %d has %d columns, and %d are wanted" % (number, len(row), 1 + most)
+                    "line %d has %d columns, and needs %d" % (number, len(row), 1 + most)
                 )
             access = self._access(row, number)
             if access.end < time:

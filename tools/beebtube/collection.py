@@ -64,7 +64,7 @@ class Order:
     def take(self, option: str, value: Optional[str], folder: str) -> None:
         """Adds an option; the name of a file is one from `folder` on. Fault where it stands twice."""
         if option in self.options:
-            raise Fault("%s stands twice" % option)
+            raise Fault("%s is given twice" % option)
         kind = _kind_of(option)
         if not kind and value is not None and "/" in value:
             raise Fault("%s is no option of beebtube" % shown(option))
@@ -97,7 +97,7 @@ def order_of(words: Sequence[str], folder: str) -> Order:
             continue
         valued = has_value(word, rest)
         if valued and not rest:
-            raise Fault("%s: its value is wanted behind it" % shown(word))
+            raise Fault("%s: it needs a value" % shown(word))
         order.take(word, rest.pop(0) if valued else None, folder)
     if loose:
         if loose[0] not in RUNS:
@@ -207,7 +207,7 @@ def _of_table(name: str, common: Order) -> List[Entry]:
         raise Fault("%s is no table of runs: its first line has the columns, and one of them is `name`" % name)
     for head in heads:
         if heads.count(head) > 1:
-            raise Fault("%s: the column %s stands twice" % (name, shown(head)))
+            raise Fault("%s: the column %s is given twice" % (name, shown(head)))
         if head not in ("name", "ticks", "set", "words") and not head.startswith("#") and "--" + head not in OPTIONS:
             raise Fault("%s: there is no column %s, but name, ticks, set, words, those with # in front, and the options without --"
                         % (name, shown(head)))
@@ -216,7 +216,7 @@ def _of_table(name: str, common: Order) -> List[Entry]:
     for number, cells in rows:
         entry = _of_row(number, dict(zip(heads, cells)), len(cells) > len(heads), os.path.dirname(name), common)
         if entry.name in taken:
-            entry = Entry("%s (line %d)" % (entry.name, number), Order(), "the name %s stands twice" % entry.name)
+            entry = Entry("%s (line %d)" % (entry.name, number), Order(), "two runs have the name %s" % entry.name)
         taken.add(entry.name)
         found.append(entry)
     if not found:
@@ -370,7 +370,7 @@ def _named(order: Order) -> Tuple[List[str], List[Input]]:
         if kind == "OUT":
             words.append("out")
         elif kind not in order.alone:
-            raise Fault("its %s is wanted%s" % (kind, ": a column `ticks`, or --ticks" if kind == "TICKS" else " behind %s" % order.command))
+            raise Fault("it needs %s%s" % (kind, ": a column `ticks`, or --ticks" if kind == "TICKS" else " after %s" % order.command))
         elif kind in NAMES:
             words.append(NAMES[kind])
             inputs.append(Input(NAMES[kind], order.alone[kind], CAPS[kind]))

@@ -2,7 +2,7 @@
 
 An access is an order, a code and a byte. The order is twice the tick, and one more for the second processor, so orders rise. The
 code has the register in bits 0 to 2, then `PARA` for the second processor, `WRITE`, `BREAK`, and the byte's two top bits, which of a
-status tell that a byte is there (`THERE`) and that there is room (`ROOM`).
+status show that a byte is there (`THERE`) and that there is room (`ROOM`).
 """
 from __future__ import annotations
 
@@ -38,7 +38,7 @@ class Columns(NamedTuple):
 
 
 def columns_of(name: Name) -> Columns:
-    """The columns of a trace's file; Fault with the line that is outside the form or the order, as `Trace` tells it, and where a tick
+    """The columns of a trace's file; Fault with the line that is outside the form or the order, as `Trace` has it, and if a tick
     is above that of any run."""
     if not is_plain(name):
         raise Fault("%s is no plain file" % name)
@@ -67,7 +67,7 @@ def columns_of(name: Name) -> Columns:
             values.append(found[2])
 
 
-# The columns of some lines behind an order; None where one is outside the form, the order or the ticks of a run.
+# The columns of some lines after an order; None if one is outside the form, the order or the ticks of a run.
 def _block(block: bytes, before: int) -> Optional[Tuple["array[int]", bytes, bytes]]:
     number, rest = divmod(len(block), LENGTH)
     column = [block[at::LENGTH] for at in range(LENGTH)]

@@ -3,10 +3,10 @@
 A tool is `main(function, __doc__)`, where the function takes the words and may return a status. It ends
 
   0         done
-  1         what `Fault` says stands on standard error, behind the tool's name
+  1         the text of `Fault` is on standard error, after the tool's name
   2         its words are wrong (argparse, or `Usage`)
-  70        a fault of the tool itself, which is told in one line
-  141       who read standard output went away (`| head`), which is told nobody
+  70        a fault of the tool itself, reported in one line
+  141       who read standard output went away (`| head`), which is not reported
   128 + n   ended by signal n, once what it made for itself is cleared away
 """
 from __future__ import annotations
@@ -180,7 +180,7 @@ def main(function: Callable[[List[str]], Optional[int]], doc: Optional[str], wor
     except MemoryError:
         status = 1
         tell("%s: no memory" % name)
-    except Exception as error:  # noqa: BLE001 # the last resort: a fault of the tool is told in a line
+    except Exception as error:  # noqa: BLE001 # the last resort: a fault of the tool is reported in a line
         tell("%s: a fault of this tool: %s: %s" % (name, type(error).__name__, error))
         status = 70
     try:

@@ -52,7 +52,7 @@ def contents_of(names: Iterable[Tuple[str, str]], faults: List[str]) -> Iterator
                     faults.append("%s: %s" % (shown(name), fault))
         faults.extend("%s ends before %s" % (shown(name), file.whole_name) for catalogue in sides.values() for file in catalogue.files if catalogue.lacking(file))
         if disc.is_sequential:
-            faults.append("%s: its second side seems to stand behind the first one: beebtube reads a DSD with both in turn" % shown(name))
+            faults.append("%s: its second side seems to follow the whole first side: beebtube reads a DSD track by track, both sides in turn" % shown(name))
         form = "sequential" if disc.is_sequential else "dsd" if disc.double else "ssd"
         yield Contents(name, form, digits, "" if known.setdefault(digits, name) == name else known[digits], sides)
 

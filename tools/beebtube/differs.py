@@ -17,9 +17,9 @@ from .tube import line_of
 # What a call writes, by the ending of its name, in the program's order; then the sound and the session, where they are named so.
 ENDING = re.compile(r"report|host|para|d[01]|[0-9]{3}\.ppm|trace|plug[0-9]|list|wav|save")
 ORDER = ("report", "host", "para", "d0", "d1", "ppm", "trace", "plug", "list", "wav", "save")
-BEFORE = 5  # accesses that are told before the first one that differs
-RANGES = 8  # ranges of a memory that are told
-SECTORS = 8  # files or sectors of a disc that are told
+BEFORE = 5  # accesses that are shown before the first one that differs
+RANGES = 8  # ranges of a memory that are shown
+SECTORS = 8  # files or sectors of a disc that are shown
 
 
 class Outputs(NamedTuple):
@@ -48,7 +48,7 @@ def _place(ending: str) -> Tuple[int, str]:
 
 
 class Difference(NamedTuple):
-    """What differs of one kind of file: its ending, and lines that say where. The first line stands behind the ending."""
+    """What differs of one kind of file: its ending, and lines that say where. The first line follows the ending."""
 
     ending: str
     lines: List[str]
@@ -137,7 +137,7 @@ def _of_traces(one: Trace, other: Trace) -> List[str]:
                 return []
             before.append(here)
             continue
-        lines = ["access %s is another one" % "{:,}".format(number)]
+        lines = ["access %s differs" % "{:,}".format(number)]
         lines += ["  both   %s" % line_of(access, one.second) for access in before]
         lines.append("  first  %s" % (line_of(here, one.second) if here is not None else "             nothing more"))
         lines.append("  second %s" % (line_of(there, one.second) if there is not None else "             nothing more"))
@@ -189,10 +189,10 @@ def _catalogue_of(disc: Disc, side: int) -> Optional[Catalogue]:
         return None
 
 
-# The name of the file of a catalogue that has a sector, or what else stands there.
+# The name of the file of a catalogue that has a sector, or what else is there.
 def _owner_of(catalogue: Optional[Catalogue], sector: int) -> str:
     if catalogue is None:
-        return "no catalogue tells whose"
+        return "in no file of a catalogue"
     if sector < 2:
         return "the catalogue"
     for file in catalogue.files:
@@ -222,7 +222,7 @@ def _of_discs(one: bytes, other: bytes) -> List[str]:
     return lines
 
 
-# Of an image that is no longer than one side: it is double where catalogues stand on both sides, of as many sectors as sides have.
+# Of an image that is no longer than one side: it is double if both sides have catalogues, of as many sectors as sides have.
 def _looks_double(one: bytes, other: bytes) -> bool:
     def has_both(image: bytes) -> bool:
         sides = [_catalogue_of(Disc(image, True), side) for side in (0, 1)]
@@ -300,7 +300,7 @@ def _of_lines(one: Name, other: Name) -> List[str]:
                     return []
                 before.append(here)
                 continue
-            lines = ["line %s is another one" % "{:,}".format(number)]
+            lines = ["line %s differs" % "{:,}".format(number)]
             lines += ["  both   %s" % _shown(line.rstrip(b"\n")) for line in before]
             lines.append("  first  %s" % (_shown(here.rstrip(b"\n")) if here else "nothing more"))
             lines.append("  second %s" % (_shown(there.rstrip(b"\n")) if there else "nothing more"))

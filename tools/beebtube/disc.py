@@ -85,7 +85,7 @@ class Disc:
 
     @property
     def is_sequential(self) -> bool:
-        """A DSD whose second side seems to stand behind the first one, and not in turn with it: there is its catalogue."""
+        """A DSD whose second side seems to follow the whole first one: its catalogue is there."""
         def has_catalogue(disc: "Disc", side: int) -> bool:
             try:
                 return bool(disc.catalogue(side).files)
@@ -96,7 +96,7 @@ class Disc:
         return self.double and not has_catalogue(self, 1) and any(has_catalogue(half, 0) for half in halves)
 
     def catalogue(self, side: int = 0) -> "Catalogue":
-        """What stands on a side; Fault where there is no catalogue of the DFS."""
+        """What is on a side; Fault if there is no catalogue of the DFS."""
         return Catalogue(self, side)
 
 
@@ -219,7 +219,7 @@ def _address(word: str) -> int:
 
 def parse_inf(text: str) -> Tuple[str, str, bool, int, int]:
     """Folder, name, whether it is locked, load and execution address of the text of an .inf file: `$.NAME 001900 008023`, and
-    behind it, if wanted, the length, `L` or `Locked`, and words with `=`. Fault where it has another form."""
+    after it, if given, the length, `L` or `Locked`, and words with `=`. Fault where it has another form."""
     line = text.strip().splitlines()[0] if text.strip() else ""
     quoted = re.match(r'"([^"]+)"\s*(.*)', line)
     name, rest = (quoted.group(1), quoted.group(2)) if quoted else (line.split(None, 1) + ["", ""])[:2]
@@ -272,7 +272,7 @@ def _with_catalogue(disc: Disc, side: int, title: str, cycle: int, sectors: int,
     letters = title.encode("latin-1", "replace")
     if len(letters) > 12 or any(not 32 <= letter < 127 for letter in letters):
         raise Fault("a title has at most 12 letters")
-    # The last one on the disc stands first, so the DFS wants it.
+    # The last one on the disc comes first, as the DFS needs it.
     ordered = sorted(files, key=lambda file: (-file.sector, not file.length))
     letters = letters.ljust(12, b"\0")
     names, places = letters[:8], letters[8:] + bytes([cycle, 8 * len(ordered), option << 4 | sectors >> 8, sectors & 255])
@@ -306,7 +306,7 @@ def _gap(files: List[File], sectors: int, wanted: int) -> int:
         largest = max(largest, room)
         if file is not None:
             at = max(at, file.sector + (file.length + SECTOR - 1) // SECTOR)
-    raise Fault("it wants %d sectors, and the largest gap of the disc has %d" % (wanted, largest))
+    raise Fault("it needs %d sectors, and the largest gap of the disc has %d" % (wanted, largest))
 
 
 def _to_change(disc: Disc, side: int) -> Catalogue:

@@ -61,7 +61,7 @@ def _kept(given: argparse.Namespace) -> List[str]:
     return [name for name in (given.save, given.trace, given.listing) if name is not None]
 
 
-# The words of the tool, and those of the program behind its name.
+# The words of the tool, and those of the program after its name.
 def _parted(words: List[str]) -> Tuple[List[str], List[str]]:
     at = 0
     while at < len(words) and words[at].startswith("-") and words[at] != "--":
@@ -79,7 +79,7 @@ def _fault_of(given: argparse.Namespace) -> Optional[str]:
     for name, at, start in (("--start", given.at, given.start),
                             ("--host-start", given.host_at, given.host_start)):
         if start is not None and at is None:
-            return f"{name} wants the address of a raw image, by {name.replace('start', 'at')}"
+            return f"{name} needs the address of a raw image, by {name.replace('start', 'at')}"
     if given.host and given.trace:
         return "--trace: without a Tube there is no list of its accesses; --listing is there"
     if given.host and given.speed == "4":
@@ -120,7 +120,7 @@ def execute(words: List[str]) -> int:
     try:
         return _execute(words)
     except Usage as fault:
-        _tell(f"{fault} (--help tells the words)")
+        _tell(f"{fault} (--help lists the arguments)")
     except Refused as refused:
         text = refused.text or f"the emulator ended with {refused.status}"
         _tell("\n".join([text] + refused.why))
@@ -178,7 +178,7 @@ def _execute(words: List[str]) -> int:
     return done.status
 
 
-# Leaves what is wanted of the run.
+# Leaves what the arguments name of the run.
 def _leave(done: Executed, given: argparse.Namespace, read: List[str]) -> None:
     for number, frame in enumerate(done.frames if given.shots else []):
         name = f"{given.shots}.{number:03d}.png"

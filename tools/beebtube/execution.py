@@ -76,9 +76,9 @@ class Image:
             self.load, self.entry = (data[at] | data[at + 1] << 8 for at in (8, 10))
             self._lower_stack()
         else:
-            raise Fault("%s is no program of ld65 with a configuration of examples/c, and none of sim65: a raw image wants --at AAAA" % name)
+            raise Fault("%s is no program of ld65 with a configuration of examples/c, and none of sim65: a raw image needs --at AAAA" % name)
         if start is not None and at is None:
-            raise Fault("%s tells where it begins: --start is for a raw image" % name)
+            raise Fault("%s holds its own start address: --start is for a raw image" % name)
         self.cpu = told or cpu
         if told and cpu and told != cpu:
             raise Fault("%s is made for a %s, and --cpu says %s" % (name, told.upper(), cpu.upper()))
@@ -91,7 +91,7 @@ class Image:
             raise Fault("%s: byte %d of its header is %02X" % (self.name, at, data[at] if at < len(data) else 0))
         return names[data[at]]
 
-    # sim65's start-up code begins its stack at FFF0, where no memory for programs is: it is told where that ends.
+    # sim65's start-up code begins its stack at FFF0, where no memory for programs is: it gets the address at which that ends.
     def _lower_stack(self) -> None:
         end = MACHINES[self.machine][0]
         form = re.compile(b"\xa9(.)\xa2(.)\x85" + re.escape(bytes([self.place])) + b"\x86" + re.escape(bytes([(self.place + 1) % 256])), re.S)
@@ -307,7 +307,7 @@ class Runner:
         if not self.has_tube:
             given = ["follow", "host", os.devnull, str(ticks), "out", "--no-tube"] + self._host_words()
         else:
-            # (the trace is named: its file is written anew by other runs)
+            # (the trace is named: other runs write its file again)
             given = ["follow", side, "out.trace", str(ticks), "out", "--speed", str(self.speed)]
             given += ["--tube", "tube"] if side == "para" else self._host_words()
         self.program.done(given + list(words), self.folder)
@@ -340,7 +340,7 @@ def _spare_of(runner: Runner, ticks: int, labels: Labels) -> str:
 
 
 def text_behind(memory: bytes, at: int) -> str:
-    """The number and the text of an error behind a BRK, where they are there."""
+    """The number and the text of an error after a BRK, if they are there."""
     text = re.match(rb"[ -~\r\n]{1,60}\0", memory[at + 1 : at + 62])
     return ", error %d: %s" % (memory[at], text.group(0)[:-1].decode("ascii").strip()) if text else ""
 
@@ -428,7 +428,7 @@ class Executed:
         runner.run(left.ticks, ("--keep", str(KEPT)))
         report, trace, ticks = parse_report(runner.output("report")), runner.output("trace"), left.ticks
         if left.ended and report.kept:
-            # The host's last access holds the second processor; a little behind it both have stopped.
+            # The host's last access holds the second processor; a little after it both have stopped.
             ticks = min(ticks, int(trace[-20:-10], 16) + 24)
             runner.run(ticks, ("--keep", str(KEPT)))
         return ticks, trace, report.tube
@@ -459,7 +459,7 @@ class Executed:
 
     @property
     def cycles(self) -> int:
-        """How many cycles the program took, from its first instruction to behind its last; of two that of the second
+        """How many cycles the program took, from its first instruction to the end of its last; of two that of the second
         processor, up to where it ended or was held. Fault if no end was reached."""
         return self._cycles(self._runner.images[0].machine)
 
@@ -485,7 +485,7 @@ class Executed:
 
     def _para_time(self) -> int:
         runner, trace = self._runner, self.trace
-        # The byte with which it begins; and its last call, behind which its status follows, or else where the host holds it.
+        # The byte with which it begins; and its last call, which its status follows, or else where the host holds it.
         begun, ended = trace.find(b" P R 3 80\n"), trace.rfind(b" P W 3 ", 0, max(0, trace.rfind(b" P W 3 ")))
         around, by_itself = AROUND["para"], trace[ended : ended + 10] == b" P W 3 18\n"
         if len(runner.images) == 2 and not by_itself:
@@ -503,7 +503,7 @@ def images_of(program: Data, both: Optional[Data], host: bool, at: Optional[int]
         raise Fault("host runs one program, and both two")
     for begin, where in ((start, at), (host_start, host_at)):
         if begin is not None and where is None:
-            raise Fault("a start wants the address of a raw image")
+            raise Fault("a start needs the address of a raw image")
     images = [Image(name_of(program, "the program"), bytes_of(program, IMAGE_CAP), "host" if host else "para", at, start, cpu)]
     if both is not None:
         images.append(Image(name_of(both, "the host's program"), bytes_of(both, IMAGE_CAP), "host", host_at, host_start, None))
@@ -543,7 +543,7 @@ def execute(program: Data, args: Sequence[Union[str, bytes]] = (), *, stdin: byt
     limit        the most seconds of machine time; all that a run has if nothing is said
     keys, font   a key script, with shots, and the font of teletext
     labels       names of addresses in `text`: Labels, or the name of a file of them; host_labels for `both`
-    using        the emulator, if it is another one
+    using        the emulator, if it is not ./beebtube
     Fault where it cannot be run.
     """
     most = ticks_of(limit, speed)

@@ -1,6 +1,6 @@
 """What is wrong, in a person's words, where the program says a word or a number.
 
-The launcher calls this as `python3 explain.py STATUS TEXT WORD ..` and prints its lines behind the program's own text.
+The launcher calls this as `python3 explain.py STATUS TEXT WORD ..` and prints its lines after the program's own text.
 """
 from __future__ import annotations
 
@@ -81,15 +81,16 @@ def _of_image(text: str, call: "Call", names: Dict[str, str]) -> List[str]:
     return lines + _how_to_cut(name, kind, length, lengths)
 
 
-# Where the wanted bytes may stand in a longer image.
+# Where the bytes of an image may be in a longer file.
 def _how_to_cut(name: str, kind: str, length: int, lengths: Tuple[int, ...]) -> List[str]:
     whole = lengths[-1]
     if kind == "tube" and length == 4096:
-        return ["of a boot ROM of 4,096 bytes the last half is wanted: `tail -c 2048 %s`" % name]
+        return ["use the last half of a boot ROM of 4,096 bytes: `tail -c 2048 %s`" % name]
     if length > whole and length % whole == 0:
-        return ["it may be %d images one behind the other: `head -c %d %s` is the first" % (length // whole, whole, name)]
+        return ["it may be %d images one after the other: `head -c %d %s` is the first" % (length // whole, whole, name)]
     if whole < length <= whole + 512:
-        return ["it may have %d bytes in front: `tail -c %d %s` leaves them out" % (length - whole, whole, name)]
+        return ["%d extra bytes may come first, then `tail -c %d %s` removes them, or last: `head -c %d %s`"
+                % (length - whole, whole, name, whole, name)]
     return []
 
 
@@ -148,7 +149,7 @@ def _of_trace(name: str, number: int, speed: str, no_tube: bool) -> List[str]:
     lines = ["line %d of the trace%s: %s" % (number, ", not counting `T2`" if fast else "", _shown(line.rstrip(b"\n")))]
     fault = _trace_fault(line, before, number)
     if fault is None and number == 1 and not fast and line.startswith(b"T2"):
-        fault = "`T2` stands alone on its line"
+        fault = "`T2` is alone on its line"
     if fault is None and number == 1 and no_tube:
         fault = "with `--no-tube` a trace has no line"
     return lines + ([fault] if fault else [])
@@ -180,7 +181,7 @@ def _trace_fault(line: bytes, before: bytes, number: int) -> Optional[str]:
     if b"  " in bare or b"\t" in bare or bare != bare.strip():
         return "words have one blank between them, and none at the ends"
     if form.match(bare):
-        return "something stands behind the byte"
+        return "something follows the byte"
     words = bare.split(b" ")
     if len(words) == 5:
         if not re.fullmatch(rb"[0-9A-Fa-f]{10}", words[0]):
@@ -208,7 +209,7 @@ CMOS = frozenset("BRA PHX PHY PLX PLY STZ TRB TSB".split())
 BRANCHES = frozenset("BCC BCS BEQ BMI BNE BPL BVC BVS BRA".split())
 ELSEWHERE = {
     "EQUB": "byte", "EQUW": "word", "EQUS": "byte, the letters' numbers", "DB": "byte", "DW": "word", ".BYTE": "byte", ".WORD": "word",
-    ".ORG": "org", "SKIP": "org with the address behind it", "SKIPTO": "org", ".RES": "org with the address behind it",
+    ".ORG": "org", "SKIP": "org with the address after it", "SKIPTO": "org", ".RES": "org with the address after it",
 }
 LABEL = re.compile(r"\s*([A-Za-z_][A-Za-z0-9_]*)\s*:")
 
@@ -228,7 +229,7 @@ def _source_fault(data: bytes, line: bytes, number: int, part: str) -> Optional[
         earlier = [at for at, it in enumerate(data.split(b"\n")[: number - 1], 1)
                    if (LABEL.match(it.decode("latin-1")) or [None, None])[1] == name]
         if earlier:
-            return "the label %s stands on line %d already" % (name, earlier[0])
+            return "the label %s is already on line %d" % (name, earlier[0])
         text = text[label.end() :]
     words = text.split(None, 1)
     if not words:
@@ -244,7 +245,7 @@ def _statement_fault(first: str, operand: str, part: str, data: bytes) -> Option
     if upper in ELSEWHERE:
         return "there is no %s here: write `%s`" % (first, ELSEWHERE[upper])
     if first.startswith("."):
-        return "a label has its colon behind it: `%s:`" % first[1:]
+        return "a label ends with a colon: `%s:`" % first[1:]
     if re.search(r"[$][0-9A-Fa-f]", operand):
         return "a hexadecimal number begins with `&`: %s" % re.sub(r"[$]", "&", operand)
     if re.search(r"%[01]", operand):
@@ -256,7 +257,7 @@ def _statement_fault(first: str, operand: str, part: str, data: bytes) -> Option
     if upper in CMOS and part == "6502":
         return "the 6502 has no %s: the 65c02 has it" % upper
     if upper not in MNEMONICS and upper not in CMOS and first.lower() not in ("org", "byte", "word"):
-        return "no instruction is called %s; a label has a colon behind it" % first[:40]
+        return "no instruction is called %s; a label ends with a colon" % first[:40]
     if first.lower() == "org":
         return "`org` has a number of at most 65,535 that is not below the address that is reached"
     if part == "6502" and _is_cmos(upper, operand):
@@ -298,7 +299,7 @@ def _operand_fault(upper: str, operand: str, data: bytes, first: str) -> Optiona
     if upper in ("ASL", "LSR", "ROL", "ROR") and not operand:
         return "the accumulator is always written: `%s A`" % upper
     if re.search(r"\([A-Za-z_]", operand):
-        return "a label is a word, and this form wants a byte: `<` in front of the label"
+        return "a label is a word, and this form takes a byte: write `<` before the label"
     if "(" in operand:
         return "%s has no such form; a value in brackets has one or two hexadecimal digits" % upper
     if first.lower() == "word":

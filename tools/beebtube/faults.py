@@ -1,4 +1,4 @@
-"""What a tool or a test is told where something is wrong."""
+"""What a tool or a test gets if something is wrong."""
 from __future__ import annotations
 
 from typing import Iterable, List, Tuple

@@ -130,7 +130,7 @@ def _part(name: bytes, data: bytes) -> bytes:
 
 
 def picture_of(frames: Sequence[Frame], delay: Optional[int] = None) -> bytes:
-    """A PNG of one frame; with a delay an animated one of all, each of which stands so many milliseconds, 0 to 65,535."""
+    """A PNG of one frame; with a delay an animated one of all, each of which lasts so many milliseconds, 0 to 65,535."""
     parts = [_part(b"IHDR", SIZE)]
     if delay is not None:
         parts.append(_part(b"acTL", struct.pack(">II", len(frames), 0)))
@@ -150,13 +150,13 @@ def picture_of(frames: Sequence[Frame], delay: Optional[int] = None) -> bytes:
 
 
 def look_at_place(name: Name) -> None:
-    """Fault where a file that is no picture of frames stands under the name of one that is to be written: the name came there by a
+    """Fault if a file that is no picture of frames has the name of one that is to be written: the name came there by a
     mistake, or the picture is somebody's own."""
     if is_plain(name):
         begin, palette = SIGNATURE + _part(b"IHDR", SIZE), _part(b"PLTE", PALETTE)
         with open_file(name) as file:
             found = file.read(len(begin) + 20 + len(palette))
-        # The part `acTL` of a moving picture, 20 bytes, may stand before its colours.
+        # The part `acTL` of a moving picture, 20 bytes, may come before its colours.
         if found and not (found.startswith(begin) and found[len(begin) :].startswith((palette, b"\0\0\0\10acTL"))):
             raise Fault("%s is there, and is no picture that was made here: it is not written over" % os.fspath(name))
 
@@ -186,7 +186,7 @@ def lines_in(picture: bytes, name: str = "the picture") -> List[bytes]:
     for kind, data in _parts_of(picture, name):
         kinds.append(kind)
         if kind == b"IHDR" and data != SIZE:
-            raise Fault("%s has another size or depth: 640 by 512 in 16 colours is wanted" % name)
+            raise Fault("%s has another size or depth: it needs 640 by 512 in 16 colours" % name)
         if kind == b"PLTE" and data != PALETTE:
             raise Fault("%s has other colours" % name)
         if kind in (b"IDAT", b"fdAT"):

@@ -12,7 +12,7 @@ from .program import Program, version
 
 @functools.lru_cache(maxsize=None)
 def instructions() -> Dict[str, List[str]]:
-    """What `beebtube dis` has for each opcode of each part: `LDA &{2},X`, `BNE &{r}`, with {1} a byte and {2} two behind the opcode;
+    """What `beebtube dis` has for each opcode of each part: `LDA &{2},X`, `BNE &{r}`, with {1} a byte and {2} two after the opcode;
     nothing where there is no program."""
     try:
         if not os.environ.get("BEEBTUBE") and version().program is None:
@@ -24,7 +24,7 @@ def instructions() -> Dict[str, List[str]]:
 
 
 def _forms(program: Program, part: str) -> List[str]:
-    # The opcode of NOP comes last, so that no other one has its NOP behind those that fill.
+    # The opcode of NOP comes last, so that no other one has its NOP after those that fill.
     codes = sorted(range(256), key=lambda code: code == 0xEA)
     with own_folder() as folder:
         write_beside(os.path.join(folder, "image"), b"".join(bytes([code, 0xEA, 0xEA, 0xEA]) for code in codes))

@@ -55,7 +55,7 @@ class Labels:
         return f"{found[0]}{'+%d' % found[1] if found[1] else ''} ({address:04X})"
 
     def near(self, address: int, most: int = 65535) -> Optional[Tuple[str, int]]:
-        """The last label at or below an address, and how far it is behind it; None where there is none within `most` bytes."""
+        """The last label at or below an address, and how far it is after it; None if there is none within `most` bytes."""
         place = bisect.bisect_right(self._sorted, (address, "\uffff")) - 1
         if place < 0 or address - self._sorted[place][0] > most:
             return None
@@ -80,8 +80,8 @@ class Labels:
 
     @staticmethod
     def of_source(program: "Program", part: "Part", source: bytes) -> "Labels":
-        """The labels of a source text, which the program's own assembler tells: it assembles the text with words of all labels in
-        front of it, or behind it where there is no room in front. Refused where it refuses the text; Fault where neither has room.
+        """The labels of a source text, which the program's own assembler finds: it assembles the text with words of all labels in
+        front of it, or after it if there is no room in front. Refused where it refuses the text; Fault where neither has room.
 
         part  "6502" or "65c02"
         """
@@ -112,7 +112,7 @@ def _origin_of(source: bytes) -> int:
     return 0
 
 
-# The addresses of some labels: the words of them are put before the source, or behind it.
+# The addresses of some labels: the words of them are put before the source, or after it.
 def _told(program: "Program", part: "Part", source: bytes, names: List[str], origin: int, length: int, before: bool) -> Dict[str, int]:
     wanted, told = list(names), {}
     while wanted:
@@ -123,7 +123,7 @@ def _told(program: "Program", part: "Part", source: bytes, names: List[str], ori
         except Refused as refused:
             if not refused.text.startswith("bad source "):
                 raise
-            # A label behind the last byte of memory may not be used: its line is told, and its address is 65,536.
+            # A label after the last byte of memory may not be used: its line is reported, and its address is 65,536.
             number = int(refused.text.split()[-1]) - 2 if before else int(refused.text.split()[-1]) - source.count(b"\n") - 2
             if not 0 <= number < len(wanted):
                 raise

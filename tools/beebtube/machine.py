@@ -272,7 +272,7 @@ class Machine:
             return self.view.last_change_under_rom(address, tick)
         return self._changed(address, self.last_of("watch", address, tick + 1))
 
-    # The change of which `watch` told the start after it.
+    # The change after which `watch` listed a start.
     def _changed(self, address: int, after: Optional[Start]) -> Optional[Change]:
         before = None if after is None else self.preceding(after.tick)
         if after is None or before is None:

@@ -2,7 +2,7 @@
 (`trace FILE,maincpu`) or of the second processor (`trace FILE,:tube:6502:maincpu`).
 
 A line of MAME's is `C000: ldx #$ff`, with what `tracelog` printed in front of it or on lines of its own; registers are taken from there
-in the form `A=00 X=FF Y=00 S=1FF P=34`. Without `noloop` it leaves out instructions of a loop, and tells how many:
+in the form `A=00 X=FF Y=00 S=1FF P=34`. Without `noloop` it leaves out instructions of a loop, and prints how many:
 
    (loops for 6666 instructions)
 
@@ -22,14 +22,14 @@ LOOPS = re.compile(rb"\(loops for ([0-9]{1,12}) instructions\)")
 INTERRUPTED = re.compile(rb"\(interrupted at [0-9A-Fa-f]+, IRQ -?[0-9]+\)")
 REGISTER = re.compile(rb"\b(A|X|Y|SP|S|P)=([0-9A-Fa-f]{1,4})\b")
 LISTED = re.compile(rb"[0-9A-F]{10} ([0-9A-F]{4}) A=[0-9A-F]{2} X=[0-9A-F]{2} Y=[0-9A-F]{2} S=[0-9A-F]{2} P=[0-9A-F]{2} .*")
-BEFORE, BEHIND = 5, 3  # instructions that are told before the first that is another, and from it on
+BEFORE, BEHIND = 5, 3  # instructions that are shown before the first that differs, and from it on
 WINDOW = 32  # so many addresses have to be the same where one of both begins later
 HISTORY = 64  # a loop of MAME's is among so many addresses
 NAMES = ("A", "X", "Y", "S", "P")
 
 
 class Step(NamedTuple):
-    """An instruction: its address, its line and what was logged before it, and how many are left out behind it."""
+    """An instruction: its address, its line and what was logged before it, and how many are left out after it."""
 
     pc: int
     line: bytes

@@ -1,6 +1,6 @@
 """A run as one page: a text of HTML that opens from a file, and needs no network and nothing from elsewhere.
 
-What is named or read is data: every name is escaped, everything else stands in one block of JSON that nothing runs, and the page's
+What is named or read is data: every name is escaped, everything else is in one block of JSON that nothing runs, and the page's
 policy lets it run the one script of `page.js` and use the one style of `page.css`, by their sums, and load nothing.
 """
 from __future__ import annotations
@@ -39,12 +39,12 @@ KEY_NAMES = {number: name for name, number in KEYS.items()}
 class Asked(NamedTuple):
     """What a page is made of.
 
-    out       the name behind which a run's outputs stand
+    out       the name with which a run's outputs begin
     manifest  the text of `tools/manifest`, if there is one
     wav       the sound
-    keys      the key script, and `discs` the images before the run, by their drives: where no manifest tells them
-    trace     how many accesses stand in the page at most; None where the trace is not read at all
-    against   the name behind which another run's outputs stand, which are compared; None where there is none
+    keys      the key script, and `discs` the images before the run, by their drives: if no manifest has them
+    trace     how many accesses the page has at most; None if the trace is not read at all
+    against   the name with which another run's outputs begin, which are compared; None if there is none
     title     what the run is called, where that is not `out`
     sums      sums that are known, by the files' paths: these files are not read once more for them
     """
@@ -88,7 +88,7 @@ class Page:
             self.second = self.columns.second
         self.script = self._script()
 
-    # The bytes of an output, which is then told with its sum; None where there is none.
+    # The bytes of an output, which the page then lists with its checksum; None if there is none.
     def _output(self, ending: str, most: int = IMAGE_CAP) -> Optional[bytes]:
         name = "%s.%s" % (self.asked.out, ending)
         if not os.path.lexists(name):
@@ -179,7 +179,7 @@ class Page:
         for at in range(number):
             pixmap = self._output("%03d.ppm" % at)
             if pixmap is None:
-                raise Fault("cannot read %s.%03d.ppm: the report tells of %d shots" % (self.asked.out, at, number))
+                raise Fault("cannot read %s.%03d.ppm: the report has %d shots" % (self.asked.out, at, number))
             frame = Frame(pixmap, "%s.%03d.ppm" % (self.asked.out, at))
             when = ", at %s" % self.time(ticks[at]) if len(ticks) == number else ""
             alt = "Screen of shot %d%s" % (at, when)
@@ -280,13 +280,13 @@ class Page:
         self.add("script", "Keys", *parts)
 
 
-    # What differs from another run's outputs, which is told in the words of `tools/differs`; frames stand side by side.
+    # What differs from another run's outputs, in the words of `tools/differs`; frames are side by side.
     def add_against(self) -> None:
         if self.asked.against is None:
             return
         one, other = Outputs.of(self.asked.out), Outputs.of(self.asked.against)
         self.reads += list(other.names.values())
-        parts = ["<p>This run is before the sign |, and %s behind it.</p>" % shown(os.path.basename(self.asked.against))]
+        parts = ["<p>This run is before the sign |, and %s after it.</p>" % shown(os.path.basename(self.asked.against))]
         for difference in differences(one, other):
             parts.append(element("h3", shown(difference.ending)))
             parts.append(element("pre", "\n".join(shown(line) for line in difference.lines), tabindex="0"))

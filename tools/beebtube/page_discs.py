@@ -1,4 +1,4 @@
-"""The discs of a run on its page: what stands on each side, and what the run changed."""
+"""The discs of a run on its page: what is on each side, and what the run changed."""
 from __future__ import annotations
 
 from typing import List, Optional

@@ -30,7 +30,7 @@ def tube_of(columns: Columns, report: Report, second: int, most: int) -> Tuple[L
     """The Tube over time: parts of a page, and the data for its script.
 
     second  ticks of a second
-    most    how many accesses stand in the page in words at most
+    most    how many accesses the page explains at most
     """
     waits = Waits(columns)
     lines = element("ul", "\n".join(element("li", shown(line)) for line in told(columns, waits)), id="tube-told")
@@ -42,13 +42,13 @@ def tube_of(columns: Columns, report: Report, second: int, most: int) -> Tuple[L
     data = {"lanes": [lane._asdict() for lane in lanes if any(lane.values)], "span": ticks, "accesses": accesses}
     sums = [[lane.name, "%.3f ms" % (1000 * sum(lane.values) / second) if lane.unit == "ticks" else "%s %s" % (grouped(sum(lane.values)), lane.unit)]
             for lane in lanes]
-    sampled = "%s A bar of the chart stands for %.3f ms or more; the trace ends at %.3f s." % (
+    sampled = "%s A bar of the chart is %.3f ms or more; the trace ends at %.3f s." % (
         said, 1000 * ticks / STRETCHES / second, columns.orders[-1] // 2 / second)
     numbers = element("details", "<summary>The chart in numbers</summary>" + table(["What", "In all"], sums, "What the chart shows"))
     return [lines, element("p", sampled, id="tube-sampled"), _CHART, numbers], data
 
 
-# What is said of the accesses that stand in the page in words, and these.
+# What is said of the accesses that the page explains, and these.
 def _accesses(columns: Columns, report: Report, most: int) -> Tuple[str, Dict[str, Any]]:
     number = len(columns.codes)
     if number <= most:

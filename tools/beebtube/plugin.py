@@ -31,7 +31,7 @@ CYCLES = "cycles.json"
 def pytest_addoption(parser: Any) -> None:
     group = parser.getgroup("beebtube")
     group.addoption("--update-golden", action="store_true",
-                    help="write the golden pictures and the tables of cycles anew")
+                    help="write the golden pictures and the tables of cycles again")
     group.addoption("--beebtube-failed", default=KEEP, metavar="FOLDER",
                     help=f"where failed tests leave what they ran ({KEEP})")
 

@@ -1,7 +1,7 @@
 """Cycles of functions and of what they call.
 
 The cycles of an address are those from each start there to the next start, so that all of a machine's time is some address's.
-Calls are told by JSR, RTS, RTI, BRK, interrupts, jumps from function to function, and TXS: each call remembers S before it, and
+Calls are found by JSR, RTS, RTI, BRK, interrupts, jumps from function to function, and TXS: each call has S before it, and
 ends where S is there again. An interrupt is a call by the function that it interrupts.
 """
 from __future__ import annotations

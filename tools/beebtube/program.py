@@ -67,7 +67,7 @@ class Ended(NamedTuple):
 
 
 class Version(NamedTuple):
-    """What `./beebtube --version` tells.
+    """What `./beebtube --version` prints.
 
     sources  the sum of the sources from which the program is built
     kits     the kits that proved them
@@ -113,7 +113,7 @@ class Program:
         """Calls the program with these words in a folder.
 
         timeout  seconds after which it is ended; Fault then
-        stdin    what stands on its standard input
+        stdin    what it reads from its standard input
         nice     how much less it is to be preferred to others, 0 to 19
         """
         command = [self.path] + list(words)
@@ -413,7 +413,7 @@ class Run:
     def screen(self, start: int = 0x7C00) -> List[str]:
         """The 25 lines of a teletext page, each without blanks at its end.
 
-        start  the address of the page's first letter, 7C00 to 7FFF: another one where the system has scrolled the screen. Behind
+        start  the address of the page's first letter, 7C00 to 7FFF: another if the system has scrolled the screen. After
                7FFF the page goes on at 7C00.
         Codes below 20 (colours and the like) are blanks; the bytes 23, 5F and 60 are the signs that teletext has for them.
         """
@@ -548,7 +548,7 @@ _version: Optional[Version] = None
 
 
 def version() -> Version:
-    """What the launcher tells of its program; Fault where it does not. It is asked until it has a program, and then no more."""
+    """What the launcher prints about its program; Fault if it does not. It is asked until it has a program."""
     global _version
     if _version is None or _version.program is None:
         _version = _ask_version()

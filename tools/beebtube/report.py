@@ -1,4 +1,4 @@
-"""What `OUT.report` tells: the ticks, the registers of each machine, and some counts."""
+"""What `OUT.report` has: the ticks, the registers of each machine, and some counts."""
 from __future__ import annotations
 
 import re
@@ -26,7 +26,7 @@ class Registers(NamedTuple):
 
 
 class Report(NamedTuple):
-    """A report. What a command does not tell is None.
+    """A report. What a command does not print is None.
 
     ticks       how long the run was, in ticks
     host, para  the registers of each machine

@@ -13,7 +13,7 @@ from .words import MOST_TICKS, number_of
 MOST_SHOTS = 256
 # The least times of a key for an operating system that looks at the keyboard each hundredth of a second.
 LEAST = 0.02
-# How long keys with BREAK are held: an operating system looks at them some 50 milliseconds and more after it.
+# How long keys with BREAK are held: an operating system looks at them 50 milliseconds and more after it.
 WITH_BREAK = 1.0
 
 # The keys by their numbers, as docs/KEYS.md has them: a row a line, a column a word.
@@ -156,11 +156,11 @@ def line_fault(line: bytes) -> str:
         meant = ", %s?" % words[2].lower() if words[2].lower() in wanted else "; there are %s" % ", ".join(wanted)
         return "no event is called %s%s" % (words[2][:20], meant)
     if len(words) != wanted[words[2]]:
-        return "`%s` has %d words behind it" % (words[2], wanted[words[2]] - 3)
+        return "`%s` has %d words after it" % (words[2], wanted[words[2]] - 3)
     if words[2] == "adc":
         return "`adc` has a channel from 0 to 3 and a level of four upper-case hexadecimal digits"
     if re.fullmatch("[0-7][0-9A-F]", words[3].upper()):
-        return "the key %s wants upper case: %s" % (words[3], words[3].upper())
+        return "key numbers are upper case: %s" % words[3].upper()
     return "the key %s is no number of two upper-case hexadecimal digits from 00 to 7F" % words[3][:20]
 
 
@@ -168,7 +168,7 @@ class Typed(Script):
     """A script that types a text.
 
     keys    how many keys it presses
-    ticks   how many ticks a run wants for it, at least
+    ticks   how many ticks a run needs for it, at least
     hold, gap  how long a key is down, and none before the next, in seconds
     """
 
@@ -187,7 +187,7 @@ def typed(text: str, start: float = 2.0, hold: float = 0.05, gap: float = 0.05, 
     caps     no SHIFT for letters from A to Z
     shot     a shot half a second after the last key
     speed    3 or 4: the ticks of a second are 6,000,000 or 12,000,000
-    fit      keys are pressed faster where the text wants more ticks than a run has
+    fit      keys are pressed faster if the text needs more ticks than a run has
     Fault where no key has a letter, no key has a name, there are too many shots, or a run is too short.
     """
     second = 12000000 if speed == 4 else 6000000
@@ -201,7 +201,7 @@ def typed(text: str, start: float = 2.0, hold: float = 0.05, gap: float = 0.05, 
     if script.ticks > MOST_TICKS and fit:
         script = _fitted(made, hold, gap, script)
     if script.ticks > MOST_TICKS:
-        raise Fault("%s keys want %s ticks; a run has %s at most%s" % (
+        raise Fault("%s keys need %s ticks; a run has %s at most%s" % (
             "{:,}".format(script.keys), "{:,}".format(script.ticks), "{:,}".format(MOST_TICKS), "" if fit else ": --fit types faster"))
     if script.shots > MOST_SHOTS:
         raise Fault("%d shots: a script has %d at most" % (script.shots, MOST_SHOTS))
@@ -241,7 +241,7 @@ class _Typist:
     def add(self, what: str, number: int = 0, level: int = 0) -> None:
         self.script.events.append(Event(self.at, what, number, level))
 
-    # The keys that are held with others go down half a gap before the next key, and up half a gap behind it.
+    # The keys that are held with others go down half a gap before the next key, and up half a gap after it.
     def keep_down(self, wanted: List[int]) -> None:
         for key in self.held:
             if key not in wanted:
@@ -338,7 +338,7 @@ def _keys_of_name(name: str) -> List[Optional[int]]:
         else:
             raise Fault("no key is called %s" % part)
     if None in keys[:-1]:
-        raise Fault("{%s}: BREAK comes last, behind the keys that are held with it" % name)
+        raise Fault("{%s}: BREAK comes last, after the keys that are held with it" % name)
     return keys
 
 

@@ -1,6 +1,6 @@
 """ROM sets: a text file that names the files of a machine, as the words of a run.
 
-A line is an option of beebtube, its value, and for a file its SHA-256 sum, if wanted; a line that begins with `#` is a comment. Names
+A line is an option of beebtube, its value, and for a file its SHA-256 checksum, if given; a line that begins with `#` is a comment. Names
 are from the set's folder on.
 """
 from __future__ import annotations
@@ -31,15 +31,15 @@ def file_of(folder: str, option: str, value: str) -> Optional[str]:
 
 
 def fault_of(option: str, value: str, before: Iterable[str]) -> Optional[str]:
-    """What is wrong with an option and its value behind other options; None where nothing is."""
+    """What is wrong with an option and its value after other options; None if nothing is."""
     if option not in OPTIONS:
         return "%s is no option of beebtube" % shown(option)
     if OPTIONS[option].kind == "output":
         return "%s names a file that is written, and a set has none" % option
     if OPTIONS[option].kind == "flag":
-        return "%s has no value, and stands behind the words of a set" % option
+        return "%s has no value: give it after the set's arguments" % option
     if option in before:
-        return "%s stands twice" % option
+        return "%s is given twice" % option
     fault = value_fault(option, value)
     if fault:
         return "%s %s: %s" % (option, shown(value), fault)
@@ -72,7 +72,7 @@ def read_set(name: str) -> List[Tuple[str, str]]:
                 raise Fault("%s has the sum %s, not %s" % (file, digits, shown(parts[2])))
         found.append((option, value if file is None else file))
     if not found:
-        raise Fault("%s has no words" % name)
+        raise Fault("%s has no arguments" % name)
     return found
 
 

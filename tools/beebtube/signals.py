@@ -99,7 +99,7 @@ class Reader:
         return number
 
     def moments(self, watched: int, wanted: int) -> Iterator[Moment]:
-        """The moments at which a watched bit changes; of the levels only wanted bits are right."""
+        """The moments at which a watched bit changes; of the levels only requested bits are right."""
         raise NotImplementedError
 
     def place(self, time: int) -> str:
@@ -290,7 +290,7 @@ class Vcd(Reader):
             at -= 1
         return Fault("line %d: %s %s" % (number + at, shown(token.decode("latin-1")), what))
 
-    # By each level of a line, which bits stay and which are set. A line that is not wanted changes
+    # By each level of a line, which bits stay and which are set. A line that is not requested changes
     # nothing.
     def _changes_of(self, number: int) -> Dict[bytes, Tuple[int, int]]:
         everything = (1 << 2 * self.unknown) - 1

@@ -43,12 +43,12 @@ def _order(access: Access) -> int:
 
 
 class Trace:
-    """A trace as a file or as bytes; going through it gives its accesses, as often as wanted, without holding them all. What is no
+    """A trace as a file or as bytes; going through it gives its accesses, as often as you like, without holding them all. What is no
     plain file, a pipe, is gone through once.
 
     speed   the second processor's clock in MHz, 3 or 4
     second  ticks of a second: 6,000,000 or 12,000,000
-    Fault at the first line outside the form or the order, with the number that the program tells: `bad trace N`.
+    Fault at the first line outside the form or the order, with the number that the program prints: `bad trace N`.
     """
 
     def __init__(self, source: Union[Name, bytes]):
@@ -62,7 +62,7 @@ class Trace:
             self._file.close()
             self._file = None
 
-    # The file behind what tells the clock, and the bytes that were read of its first line.
+    # The file after the line of the clock, and the bytes that were read of its first line.
     def _at_first_line(self) -> Tuple[BinaryIO, bytes]:
         if self._file is not None:
             file, self._file = self._file, None

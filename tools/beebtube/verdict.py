@@ -136,7 +136,7 @@ class Known:
         return value, mask
 
     def put(self, side: str, way: str, register: int, byte: int) -> None:
-        """Does an access; what a read answered, which `answer` allows, tells more of the chip."""
+        """Does an access; what a read answered, which `answer` allows, shows more of the chip."""
         if self._other and way != "R":
             self._let_pass()
         number = register >> 1
@@ -183,7 +183,7 @@ class Known:
         else:
             self.held[at] = self._between(min(held[0] + 1, room), min(held[1] + 1, room))
 
-    # A status tells of the register that its reader takes from, and of the one that it gives to.
+    # A status shows the register that its reader takes from, and the one that it gives to.
     def _learn(self, at: int, others: int, number: int, byte: int) -> None:
         if number == 0:
             self.flags, self.open = self.flags & ~self.open | byte & self.open, 0
@@ -205,7 +205,7 @@ class Known:
             self.held[at] = self._between(low, high)
 
     def forget(self, side: str, register: int) -> None:
-        """After a wrong answer: nothing is known of the registers that it tells of, nor of the
+        """After a wrong answer: nothing is known of the registers that it shows, nor of the
         flags."""
         number = register >> 1
         at = number if side == "H" else 4 + number

@@ -21,7 +21,7 @@ RUNS = PAIRS + ("resume",)
 HEARD = ("replay host",) + RUNS
 HOST_ALONE = ("replay host", "follow host")
 
-# Each command, and its words that stand alone.
+# Each command, and its words without an option.
 COMMANDS: Dict[str, Tuple[str, ...]] = {
     "check": ("TRACE",),
     "asm": ("PART", "SOURCE", "OUT"),
@@ -79,7 +79,7 @@ ADDRESS = re.compile(r"[0-9A-F]{4}")
 
 
 class WrongWord(Fault):
-    """The words spell no command: which word is wrong, and what is meant."""
+    """The command line is not valid: which word is wrong, and what is meant."""
 
 
 def number_of(word: str) -> Optional[int]:
@@ -127,11 +127,11 @@ def _is_text(word: str) -> bool:
 
 
 class Call:
-    """A call of the program by its words. WrongWord where they spell no command.
+    """A call of the program by its words. WrongWord if they are not valid.
 
     command  the command word
     taker    with the side where there is one: `replay host`
-    alone    the words that stand alone, by what they are: TRACE, TICKS, OUT ..
+    alone    the words without an option, by what they are: TRACE, TICKS, OUT ..
     options  the options and their values
     """
 
@@ -143,7 +143,7 @@ class Call:
             if not _is_text(word):
                 raise WrongWord("%s: a word is in UTF-8" % shown(word))
         if not words:
-            raise WrongWord("a command is wanted: %s" % ", ".join(COMMANDS))
+            raise WrongWord("it needs a command: %s" % ", ".join(COMMANDS))
         self.command = self.words[0]
         if self.command not in COMMANDS:
             raise WrongWord("%s: no such command%s; there are %s"
@@ -158,7 +158,7 @@ class Call:
             self._take(option, value)
         for option in NEEDED.get(self.taker, ()):
             if option not in self.options:
-                raise WrongWord("%s is wanted by `%s`" % (option, self.taker))
+                raise WrongWord("`%s` needs %s" % (self.taker, option))
 
     # Puts each word where it belongs; gives the options and their values.
     def _sort(self, rest: List[str]) -> List[Tuple[str, str]]:
@@ -174,11 +174,11 @@ class Call:
                 options.append((word, word))
                 continue
             if not rest:
-                raise WrongWord("%s: its value is wanted behind it" % word)
+                raise WrongWord("%s: it needs a value" % word)
             options.append((word, rest.pop(0)))
         form = " ".join((self.command,) + names)
         if len(alone) < len(names):
-            raise WrongWord("%s is wanted: %s" % (names[len(alone)], form))
+            raise WrongWord("it needs %s: %s" % (names[len(alone)], form))
         if len(alone) > len(names):
             raise WrongWord("%s: a word too many: %s" % (shown(alone[len(names)]), form))
         self.alone = dict(zip(names, alone))
@@ -212,7 +212,7 @@ class Call:
     @staticmethod
     def _look_at_name(kind: str, word: str) -> None:
         if not word:
-            raise WrongWord("%s: the name of a file is wanted, and the word is empty" % kind)
+            raise WrongWord("%s: it needs the name of a file, and the argument is empty" % kind)
         if word.startswith("-"):
             raise WrongWord("%s: no name begins with `-` (%s); write ./%s" % (shown(word), kind, shown(word)))
 
@@ -221,7 +221,7 @@ class Call:
         if self.taker not in option.takers:
             raise WrongWord("%s: `%s` does not take it, but %s do" % (word, self.taker, ", ".join("`%s`" % it for it in option.takers)))
         if word in self.options:
-            raise WrongWord("%s: it stands twice" % word)
+            raise WrongWord("%s: it is given twice" % word)
         if option.kind in ("file", "output"):
             self._look_at_name(word, value)
         fault = value_fault(word, value)
@@ -258,5 +258,5 @@ def _address_fault(name: str, word: str) -> str:
     if re.fullmatch("[0-9A-Fa-f]{1,4}", bare):
         meant = bare.upper().rjust(4, "0")
         what = "upper case" if bare == word and len(word) == 4 else "four upper-case hexadecimal digits alone"
-        return "%s wants %s: %s" % (name, what, meant)
-    return "%s wants four upper-case hexadecimal digits, as C000" % name
+        return "%s needs %s: %s" % (name, what, meant)
+    return "%s needs four upper-case hexadecimal digits, as C000" % name

@@ -43,7 +43,7 @@ class Errors(Case):
             return str(caught.exception)
         text = said(lambda: beebtube.run(9, os="own.rom", tube=tube))
         self.assertEqual(text, "status 3: bad image os 32768\n--os own.rom has 32,768 bytes: an operating system has 16,384\n"
-                         "it may be 2 images one behind the other: `head -c 16384 own.rom` is the first")
+                         "it may be 2 images one after the other: `head -c 16384 own.rom` is the first")
         self.assertIn("cannot read sub/missing", said(lambda: beebtube.run(9, os="sub/missing", tube=tube)))
         self.assertIn("--disc0 own.ssd has 204,801 bytes", said(lambda: beebtube.host(9, os=letters()["os"], disc0="own.ssd")))
         self.assertIn("line 1 of the script: at x", said(lambda: beebtube.host(9, os=letters()["os"], keys="own.keys")))

@@ -64,7 +64,7 @@ class Differs(Case):
         self.runs()
         self.changed("trace", 20 * 46 + 17, b"4A")
         lines = self.told()
-        self.assertEqual(lines[0], "trace: access 47 is another one")
+        self.assertEqual(lines[0], "trace: access 47 differs")
         self.assertEqual([line.split()[0] for line in lines[1:]], ["both"] * 5 + ["first", "second"])
         self.assertIn("the host takes 48 'H' from register 1", lines[-2])
         self.assertIn("the host takes 4A 'J' from register 1", lines[-1])
@@ -102,7 +102,7 @@ class Differs(Case):
             put(self.at(out + ".d0"), b"\0" * 2560)
         self.changed("d0", 0x305, b"X")
         self.changed("d0", 0x405, b"X")
-        self.assertEqual(self.told(), ["d0: 2 sectors", "  no catalogue tells whose: sectors 003 to 004"])
+        self.assertEqual(self.told(), ["d0: 2 sectors", "  in no file of a catalogue: sectors 003 to 004"])
 
     def test_a_frame_and_its_picture(self):
         self.runs()
@@ -137,7 +137,7 @@ class Differs(Case):
         lines = text_of(self.at("two.list")).split(b"\n")
         lines[9] = lines[9].replace(b"A=", b"B=")
         put(self.at("two.list"), b"\n".join(lines))
-        self.assertEqual(self.told()[0], "list: line 10 is another one")
+        self.assertEqual(self.told()[0], "list: line 10 differs")
 
     def test_what_one_lacks(self):
         self.runs()

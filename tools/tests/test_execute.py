@@ -428,7 +428,7 @@ class Ends(Execute):
         put(self.at("cut"), b"BTP1\0")
         for words, told in (
                 (["missing"], "cannot read missing"), (["--at", "0800", "none"], "none is empty"), (["text"], "--at AAAA"), (["cut"], "header"),
-                ([], "program"), (["--at", "800", three], "four upper-case"), (["--start", "0800", three], "--start wants the address of a raw image"),
+                ([], "program"), (["--at", "800", three], "four upper-case"), (["--start", "0800", three], "--start needs the address of a raw image"),
                 (["--at", "0800", "--start", "0900", "text"], "begins at 0900"), ([host], "made for the host: --host runs it"),
                 (["--host", three], "made for the second processor"), (["--cpu", "65c02", three], "made for a 6502, and --cpu says 65C02"),
                 (["--host", "--cpu", "65C02", "--at", "0800", "text"], "the host has a 6502"), (["--limit", "0", three], "above 0"),

@@ -1,4 +1,5 @@
 """The gate's own scripts: what .ci/examples and .ci/test find, and what they leave."""
+import hashlib
 import os
 import shutil
 import subprocess
@@ -132,23 +133,140 @@ class Gate(Case):
 
 
     def test_times(self):
-        """The table is made from bench/gate.csv, into which a run's log goes; a crate without a proof in the log keeps its row."""
+        """The table is made from both files, into which a run's log goes unchanged. A crate without a
+        proof in the log keeps its row and its run."""
         top = self.clone("times")
-        page, rows = os.path.join(top, "docs/GATE.md"), os.path.join(top, "bench/gate.csv")
+        page, rows, runs = (os.path.join(top, it) for it in (
+            "docs/GATE.md", "bench/gate.csv", "bench/gate_runs.csv"))
         os.mkdir(os.path.dirname(rows))
-        put(rows, b"crate,proof,tests,edits\nlower,30,,\nbeebtube,10,,\n")
+        put(rows, b"crate,proof,tests,edits,run\nlower,30,,,old\nbeebtube,10,,,old\n")
+        put(os.path.join(top, "bench/wrong.edits"), b"lower a\nfile: src/lib.rt\n\nlower b\nfile: src/lib.rt\n")
+        put(runs, b"run,minutes,processors,processor,note\nold,,,,not recorded\n")
         put(os.path.join(top, "crates.txt"), b"lower:\nbeebtube: lower\n")
         put(page, b"# The gate\n\n<!-- made by .ci/times from bench/gate.csv -->\n<!-- end of the table -->\n\nMore.\n")
         self.assertIn("docs/GATE.md", self.call(top, "times", "check", status=1).err)
         self.call(top, "times", "make", status=0)
         self.call(top, "times", "check", status=0)
         self.assertIn("| beebtube | 0 | 0 | 10 | none | none |\n", text_of(page).decode())
-        put(self.at("log"), b"time: beebtube proof 21.2\nno time\ntime: beebtube proof 1\n")
+        self.assertIn("The rows are of the run of old: not recorded.\n", text_of(page).decode())
+        before = text_of(rows), text_of(runs), text_of(page)
+        put(self.at("log"), b"time: beebtube proof 21.2\n")
+        self.assertIn("begun", self.call(top, "times", "--write", "log", status=1).err)
+        self.assertEqual((text_of(rows), text_of(runs), text_of(page)), before)
+        log = (b"time: begun 2026-12-02 10:00 on 4 processors, A, B\ntime: beebtube proof 21.2\nno time\n"
+               b"time: lower edits 3\ntime: beebtube proof 1\ntime: ended after 7 minutes\n")
+        put(self.at("log"), log)
         self.assertIn("lower", self.call(top, "times", "--write", "log", status=0).err)
-        self.assertEqual(text_of(rows), b"crate,proof,tests,edits\nlower,30,,\nbeebtube,22.2,,\n")
+        self.assertEqual(text_of(rows), b"crate,proof,tests,edits,run\nlower,30,,,old\nbeebtube,22.2,,,2026-12-02 10:00\n")
+        self.assertEqual(text_of(runs).decode().splitlines()[1:], ["old,,,,not recorded", '2026-12-02 10:00,7,4,"A, B",'])
         self.assertIn("| beebtube | 0 | 0 | 22 | none | none |\n", text_of(page).decode())
-        self.assertIn("is lower and beebtube, 52 seconds.\n", text_of(page).decode())
+        self.assertIn("is lower and beebtube, 52 seconds.", " ".join(text_of(page).decode().split()))
+        self.assertIn("There are 2 crates and 0 test functions; `bench/wrong.edits` has 2 more edits.", " ".join(text_of(page).decode().split()))
+        shown = " ".join(text_of(page).decode().split())
+        self.assertIn("Those of beebtube are of the run of 2026-12-02 10:00 (UTC) on 4 processors (A, B), which took 7 minutes.", shown)
         self.assertTrue(text_of(page).endswith(b"<!-- end of the table -->\n\nMore.\n"))
+        # A run that proves everything replaces all rows, and the runs that no row is of.
+        put(self.at("log"), log.replace(b"no time", b"time: lower proof 31"))
+        self.call(top, "times", "--write", "log", status=0)
+        self.assertEqual(text_of(rows), b"crate,proof,tests,edits,run\nlower,31,,3,2026-12-02 10:00\nbeebtube,22.2,,,2026-12-02 10:00\n")
+        self.assertEqual(text_of(runs).count(b"\n"), 2)
+
+    def test_times_beside(self):
+        """A run's log says when and where it began, and how long it took."""
+        top = self.clone("times")
+        child = subprocess.Popen(["sleep", "1000"])
+        beside = subprocess.Popen([os.path.join(top, ".ci/times"), "--beside", str(child.pid)], stdout=subprocess.PIPE, text=True)
+        self.assertRegex(beside.stdout.readline(), r"^time: begun \d{4}-\d\d-\d\d \d\d:\d\d on \d+ processors, .+\n$")
+        child.kill()
+        child.wait()
+        self.assertEqual(beside.communicate()[0], "time: ended after 0 minutes\n")
+        self.assertEqual(beside.returncode, 0)
+
+
+# A program that writes an empty binary, or a report; and a valgrind that counts 1,000 instructions
+# for the start of a program and three more for each tick.
+COUNTED = b"""#!/bin/sh
+case $1 in
+asm) : >"$4" ;;
+*) echo 'tube 10' >out.report ;;
+esac
+"""
+VALGRIND = b"""#!/bin/sh
+[ "$1" != --version ] || exec echo valgrind-0
+for it; do case $it in --*) ;; [0-9]*) ticks=${ticks:-$it} ;; esac; done
+while [ "${1#--}" != "$1" ]; do shift; done
+"$@" || exit
+echo "==1== I   refs:      $((1000 + 3 * ticks))" >&2
+echo "==1== Branches:      9,000  (8,000 cond + $((ticks / 100)) ind)" >&2
+"""
+
+
+@unittest.skipUnless(os.path.exists(os.path.join(TOP, "bench", "speed.py")), "this is an archive")
+class Speed(Case):
+    """bench/speed.py, with a program and a valgrind that only pretend."""
+
+    def setUp(self):
+        super().setUp()
+        for name in ("bench", "docs", "release", "bin"):
+            os.mkdir(self.at(name))
+        shutil.copy(os.path.join(TOP, "bench/speed.py"), self.at("bench"))
+        for name, data in (("release/beebtube", COUNTED), ("bin/valgrind", VALGRIND)):
+            put(self.at(name), data)
+            os.chmod(self.at(name), 0o755)
+        put(self.at("VERSION"), b"1.10.0\n")
+        put(self.at("README.md"), b"# It\n\n## Speed\n\nOld.\n\n## More\n\nMore.\n")
+        put(self.at("release/sources"), b"feed  -\n")
+        put(self.at("docs/SPEED.md"), b"Old.\n")
+        put(self.at("bench/history.csv"), b"version,date,program\n1.9.0,2026-01-01,cafe\n1.10.0,2026-01-02,dead\n")
+        self.sum()
+
+    def sum(self):
+        put(self.at("release/sum"), hashlib.sha256(text_of(self.at("release/beebtube"))).hexdigest().encode() + b"\n")
+
+    def speed(self, *words, status):
+        done = call([self.at("bench/speed.py"), *words], self.folder, env={"PATH": self.at("bin") + ":" + os.environ["PATH"]})
+        self.assertEqual(done.status, status, done.out + done.err)
+        return done
+
+    def test_one_command_writes_all(self):
+        self.speed("--write", status=0)
+        page, readme = (text_of(self.at(name)).decode() for name in ("docs/SPEED.md", "README.md"))
+        self.assertIn(text_of(self.at("release/sum")).decode().strip(), page)
+        # 3 instructions a tick are 6 a bus cycle of 2 ticks, 9 of 3 ticks; the start is not counted.
+        self.assertIn("| the second processor at 3 MHz, a busy program | 6.0 | 0.02 |\n", page)
+        self.assertIn("| the host, a busy program | 9.0 | 0.03 |\n", page)
+        self.assertIn("| `demo` | the demonstration: bytes through the Tube | 10 | 9,001,000 | 900100 |\n", page)
+        self.assertTrue(readme.startswith("# It\n\n## Speed\n\nA second of machine time takes"), readme)
+        self.assertTrue(readme.endswith("\n\n## More\n\nMore.\n"), readme)
+        rows = text_of(self.at("bench/history.csv")).decode().splitlines()
+        self.assertEqual([it.split(",")[0] for it in rows], ["version", "1.9.0", "1.10.0"])
+        self.assertIn("cafe", rows[1])
+        self.assertNotIn("dead", rows[2])
+        self.speed("check", status=0)
+        before = self.pages()
+        self.speed("make", status=0)
+        self.assertEqual(self.pages(), before)
+        # What is not made from the numbers, or of another program, is reported.
+        put(self.at("README.md"), readme.replace("A second", "A minute").encode())
+        self.assertIn("README.md is not made from bench/speed.csv", self.speed("check", status=1).err)
+        self.speed("make", status=0)
+        put(self.at("release/beebtube"), COUNTED + b"#\n")
+        self.assertIn("checksum of release/sum", self.speed("--write", status=1).err)
+        self.assertEqual(self.pages(), before)
+        self.sum()
+        self.assertIn("bench/speed.csv is of another program than release/sum: bench/speed.py --write", self.speed("check", status=1).err)
+        put(self.at("release/sources"), b"beef  -\n")
+        self.assertIn("bench/speed.csv is of other sources than release/sources", self.speed("check", status=1).err)
+
+    def pages(self):
+        return {name: text_of(self.at(name)) for name in ("README.md", "docs/SPEED.md", "bench/speed.csv", "bench/history.csv")}
+
+    def test_a_run_that_fails(self):
+        put(self.at("release/beebtube"), COUNTED.replace(b"echo 'tube 10' >out.report", b"exit 7"))
+        self.sum()
+        self.assertIn("status 7 of", self.speed("--write", status=1).err)
+        self.assertFalse(os.path.exists(self.at("bench/speed.csv")))
+        self.assertEqual(text_of(self.at("docs/SPEED.md")), b"Old.\n")
 
 
 if __name__ == "__main__":

@@ -24,9 +24,9 @@ class Told(Case):
         put(self.at("keys"), b"at 5 down 2a\n")
         put(self.at("two"), b"12")
         for words, status, lines in (
-            ("run 9 o --oss x --tube y", 1, ["usage", "beebtube: --oss: no such option, --os?", "beebtube: ./beebtube --help has all words"]),
+            ("run 9 o --oss x --tube y", 1, ["usage", "beebtube: --oss: no such option, --os?", "beebtube: ./beebtube --help lists all arguments"]),
             ("solo 9 o --os two --tube tube", 3, ["bad image os 2", "beebtube: --os two has 2 bytes: an operating system has 16,384"]),
-            ("solo 9 o --os os --tube tube --keys keys", 4, ["bad script 1", "beebtube: line 1 of the script: at 5 down 2a", "beebtube: the key 2a wants upper case: 2A"]),
+            ("solo 9 o --os os --tube tube --keys keys", 4, ["bad script 1", "beebtube: line 1 of the script: at 5 down 2a", "beebtube: key numbers are upper case: 2A"]),
         ):
             done = self.launcher(*words.split(), status=status)
             self.assertEqual((done.out, done.err.splitlines()), ("", lines))
@@ -36,29 +36,29 @@ class Told(Case):
             ("run 9 o --oss x --tube y", "--oss: no such option, --os?"),
             ("run 1e6 o --os x --tube y", "1e6: TICKS is a whole number up to 1,073,741,824, in decimal digits alone"),
             ("run 1073741825 o --os x --tube y", "1073741825: TICKS is a whole number up to 1,073,741,824, in decimal digits alone"),
-            ("run 9 o --os x", "--tube is wanted by `run`"),
+            ("run 9 o --os x", "`run` needs --tube"),
             ("run 9 o --os x --tube y --keep 4194305", "--keep 4194305: it is a whole number, at most 4,194,304"),
-            ("follow host t 9 o --os x --watch c000", "--watch c000: --watch wants upper case: C000"),
-            ("follow host t 9 o --os x --at 70", "--at 70: --at wants four upper-case hexadecimal digits alone: 0070"),
+            ("follow host t 9 o --os x --watch c000", "--watch c000: --watch needs upper case: C000"),
+            ("follow host t 9 o --os x --at 70", "--at 70: --at needs four upper-case hexadecimal digits alone: 0070"),
             ("run 9 o --os=x --tube y", "--os=x: write `--os x`"),
-            ("run 9 o --os x --os y --tube z", "--os: it stands twice"),
-            ("run 9 o --os", "--os: its value is wanted behind it"),
-            ("run 9 --os x --tube y", "OUT is wanted: run TICKS OUT"),
+            ("run 9 o --os x --os y --tube z", "--os: it is given twice"),
+            ("run 9 o --os", "--os: it needs a value"),
+            ("run 9 --os x --tube y", "it needs OUT: run TICKS OUT"),
             ("run 9 o p --os x --tube y", "p: a word too many: run TICKS OUT"),
             ("run 9 o --os x --tube y --speed 5", "--speed 5: it is 3 or 4"),
             ("run 9 o --os x --tube y --at 0070", "--at: `run` does not take it, but `follow host`, `follow para` do"),
             ("replay both t 9 o --os x", "both: SIDE is host or para"),
             ("replay host t 9 o --os x --from 5", "--from: `replay host` does not take it, but `follow host`, `follow para` do"),
             ("follow host t 9 o --os x --from 1073741825", "--from 1073741825: it is a whole number, at most 1,073,741,824"),
-            ("follow host t 9 o --os x --from", "--from: its value is wanted behind it"),
+            ("follow host t 9 o --os x --from", "--from: it needs a value"),
             ("run 9 o --os x --tube y --no-tube", "--no-tube: `run` does not take it, but `replay host`, `follow host` do"),
             ("replay para t 9 o --no-tube --tube y", "--no-tube: `replay para` does not take it, but `replay host`, `follow host` do"),
-            ("replay host t 9 o --os x --no-tube --no-tube", "--no-tube: it stands twice"),
+            ("replay host t 9 o --os x --no-tube --no-tube", "--no-tube: it is given twice"),
             ("replay host t 9 o --os --no-tube", "--no-tube: no name begins with `-` (--os); write ./--no-tube"),
             ("replay host t 9 o --os x --no-tube y", "y: a word too many: replay SIDE TRACE TICKS OUT"),
             ("replay host t 9 o --os x --no-tube=1", "--no-tube=1: --no-tube has no value"),
             ("asm 6510 a b", "6510: PART is 6502 or 65c02"),
-            ("dis 6502 a &C000 b", "&C000: ORIGIN wants four upper-case hexadecimal digits alone: C000"),
+            ("dis 6502 a &C000 b", "&C000: ORIGIN needs four upper-case hexadecimal digits alone: C000"),
             ("gen -1", "-1: SEED is a whole number below 2^64, in decimal digits alone"),
             ("rum 9 o", "rum: no such command, run?; there are check, asm, dis, replay, solo, run, resume, follow, gen"),
             ("check -t", "-t: no name begins with `-` (TRACE); write ./-t"),
@@ -109,7 +109,7 @@ class Told(Case):
         long = b"".join(b"at %d shot\n" % tick for tick in range(257))
         for data, line, why in (
             (b"at 5 down 00\r\n", "line 1 of the script: at 5 down 00\\x0d", "the line ends with a carriage return: lines end with a line feed alone"),
-            (b"at 5 down 2a\n", "line 1 of the script: at 5 down 2a", "the key 2a wants upper case: 2A"),
+            (b"at 5 down 2a\n", "line 1 of the script: at 5 down 2a", "key numbers are upper case: 2A"),
             (b"at 5  down 00\n", "line 1 of the script: at 5  down 00", "words have one blank between them, and none at the ends"),
             (b"at 9 down 00\nat 5 up 00\n", "line 2 of the script: at 5 up 00", "the tick 5 is below the 9 of the line before"),
             (b"at 5 down 00\n\n", "line 2 of the script: ", "the line is empty"),
@@ -156,13 +156,13 @@ class Told(Case):
             (b"STZ &70", "the 6502 has no STZ: the 65c02 has it"),
             (b"LDA (&12)", "the 6502 has no LDA (&12): the 65c02 has that form"),
             (b"EQUB 1", "there is no EQUB here: write `byte`"),
-            (b".loop", "a label has its colon behind it: `loop:`"),
+            (b".loop", "a label ends with a colon: `loop:`"),
             (b"BEQ nowhere", "no line has the label nowhere"),
             (b"BEQ FIRST", "no line has the label FIRST; its case counts: first"),
             (b"ASL", "the accumulator is always written: `ASL A`"),
             (b"LDA #300", "a value does not fit: a byte is below 256, `<` and `>` take the low and the high one"),
-            (b"first: RTS", "the label first stands on line 1 already"),
-            (b"LDB #1", "no instruction is called LDB; a label has a colon behind it"),
+            (b"first: RTS", "the label first is already on line 1"),
+            (b"LDB #1", "no instruction is called LDB; a label ends with a colon"),
             (b'byte "A"', "there are no texts in quotes: the numbers of the letters"),
             (b"LDA %101", "there are no binary numbers: decimal ones, or hexadecimal ones with `&`"),
             (b"org 0", "`org` has a number of at most 65,535 that is not below the address that is reached"),
@@ -175,8 +175,10 @@ class Told(Case):
         self.pair()
         for option, length, lines in (
             ("--os", 8192, ["--os image has 8,192 bytes: an operating system has 16,384"]),
-            ("--os", 32768, ["it may be 2 images one behind the other: `head -c 16384 image` is the first"]),
-            ("--tube", 4096, ["--tube image has 4,096 bytes: a boot ROM has 2,048", "of a boot ROM of 4,096 bytes the last half is wanted: `tail -c 2048 image`"]),
+            ("--os", 32768, ["it may be 2 images one after the other: `head -c 16384 image` is the first"]),
+            ("--os", 16386, ["--os image has 16,386 bytes: an operating system has 16,384",
+                             "2 extra bytes may come first, then `tail -c 16384 image` removes them, or last: `head -c 16384 image`"]),
+            ("--tube", 4096, ["--tube image has 4,096 bytes: a boot ROM has 2,048", "use the last half of a boot ROM of 4,096 bytes: `tail -c 2048 image`"]),
             ("--rom3", 2, ["--rom3 image has 2 bytes: a paged ROM has 8,192 or 16,384"]),
             ("--font", 768, ["--font image has 768 bytes: a font has 960"]),
             ("--disc0", 409600, ["--disc0 image has 409,600 bytes: an SSD has at most 204,800", "a disc with both sides is a DSD, and its name ends in .dsd"]),
@@ -209,7 +211,7 @@ class Told(Case):
                 os.symlink("/usr/bin/" + name, self.at("bin/" + name))
         env = {"PATH": self.at("bin")}
         self.assertEqual(self.launcher("check", os.path.join(EXAMPLES, "nmi.trace"), env=env).out, "ok 5\n")
-        self.assertEqual(self.launcher("run", "1e6", "o", status=1, env=env).err, "usage\nbeebtube: ./beebtube --help has all words\n")
+        self.assertEqual(self.launcher("run", "1e6", "o", status=1, env=env).err, "usage\nbeebtube: ./beebtube --help lists all arguments\n")
         self.assertEqual(self.launcher("check", os.path.join(EXAMPLES, "order.trace"), status=4, env=env).err, "bad trace 2\nbeebtube: docs/COMMANDS.md has the form\n")
 
     def test_help_and_version(self):

@@ -251,7 +251,7 @@ class Running(Suite):
         said = self.lines(done)
         self.assertEqual(len(said), 13)
         for line, begin in zip(said, ("done good", "failed missing: cannot read nowhere.ssd", "failed refused: 3 bad image disc0 204801: --disc0 long has 204,801 bytes", "failed ticks: 1 usage: 1e6: TICKS",
-                                      "done again", "failed good (line 7): the name good stands twice", "failed line 8: ", "failed more: line 9 has more cells", "failed words: its words are none",
+                                      "done again", "failed good (line 7): two runs have the name good", "failed line 8: ", "failed more: line 9 has more cells", "failed words: its words are none",
                                       "failed line 11: up/../good: each part", "failed option: 1 usage: --oss: no such option, --os?", "failed zero: /dev/zero is no plain file", "done last")):
             self.assertTrue(line.startswith(begin), (line, begin))
         self.assertIn("suite: 3 of 13 are good: done 3, failed 10", done.out)
@@ -393,7 +393,7 @@ class Running(Suite):
             self.tool("suite", *words, status=2)
         for words in (("check",), ("gen", "1"), ("runs",), ("--os",), ("--os", "os", "--os", "tube")):
             self.tool("suite", "discs", "results", "--", *words, status=1)
-        self.assertIn("its TICKS is wanted", self.tool("suite", "discs", "results", *WORDS, status=1).out)
+        self.assertIn("it needs TICKS", self.tool("suite", "discs", "results", *WORDS, status=1).out)
         os.mkdir(self.at("nothing"))
         self.assertIn("has no run", self.suite(name="nothing", status=1).err)
         self.assertIn("cannot read", self.suite(name="missing", status=1).err)
@@ -842,10 +842,10 @@ class Elsewhere(Suite):
         job = self.jobs()[0]
         put(self.at("discs/a.ssd"), b"another")
         done = call(["sh", "-c", job], "/")
-        self.assertEqual((done.status, "is another one here" in done.err), (1, True))
+        self.assertEqual((done.status, "differs from the one" in done.err), (1, True))
         put(self.at("discs/a.ssd"), b"a.ssd" * 20)
         done = call(["sh", "-c", job], "/", env=self.counting())
-        self.assertEqual((done.status, "is another one here" in done.err), (1, True))
+        self.assertEqual((done.status, "differs from the one" in done.err), (1, True))
         self.assertEqual(call(["sh", "-c", job], "/").status, 0)
 
     def test_a_line_of_the_list_that_is_wrong_is_no_job(self):

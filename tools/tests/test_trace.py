@@ -125,7 +125,7 @@ class Captures(Case):
         body = "#0 1RST %s\n#16 0HCS 1HD6 1HCLK\n#17 0HCLK\n" % IDLE
         with self.assertRaisesRegex(Fault, "later than a reset"):
             self.take(body)
-        with self.assertRaisesRegex(Fault, "nothing tells when the last reset was"):
+        with self.assertRaisesRegex(Fault, "the time of the last reset is unknown"):
             self.take(body.replace("1RST", ""), signals=HOST)
         self.assertEqual(self.take(body, begin=6), "000000006C H R 0 40\n")
         self.assertEqual(self.take(body.replace("1RST", ""), begin=6, signals=HOST), "000000006C H R 0 40\n")
