@@ -382,7 +382,7 @@ class Judge:
 
     def of_trace(self, name, status, err):
         done = subprocess.run([self.program, "check", os.path.join(self.sandbox.at, name)], cwd=self.sandbox.at, stdin=subprocess.DEVNULL, stdout=subprocess.PIPE, stderr=subprocess.PIPE)
-        told = done.stderr.decode("utf-8", "replace").strip()
+        told = done.stderr.decode("utf-8", "replace").strip().replace(self.sandbox.at + "/", "")
         if done.returncode in (0, 8):
             return [] if status == 0 else ["the program takes the trace: %r" % err]
         said = err.decode("utf-8", "replace").strip()
