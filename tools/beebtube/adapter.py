@@ -115,7 +115,7 @@ class Adapter(Shown):
             arguments = asked.get("arguments")
             self._progress("")
             body = REQUESTS[name](self, arguments if isinstance(arguments, dict) else {})
-            told.update(success=True, body=body or {})
+            told.update(success=True, **({} if body is None else {"body": body}))
         except Exception as error:  # noqa: BLE001 # a request that fails ends nothing
             text = str(error) if isinstance(error, Fault) else f"{type(error).__name__}: {error}"
             text = "cancelled" if self._is_cancelled else text
@@ -127,7 +127,7 @@ class Adapter(Shown):
             self.wire.send(type="event", **event)
 
     def _event(self, event: str, **body: Any) -> None:
-        self._after.append({"event": event, "body": body})
+        self._after.append({"event": event, **({"body": body} if body else {})})
 
     def _stopped(self, reason: str, text: str = "", side: str = "") -> None:
         self._frames = []
@@ -333,13 +333,14 @@ class Adapter(Shown):
 
     @request("continue")
     def _continue(self, _: Message) -> Message:
-        return self._run(False)
+        self._run(False)
+        return {"allThreadsContinued": True}
 
     @request("reverseContinue")
-    def _reverse(self, _: Message) -> Message:
-        return self._run(True)
+    def _reverse(self, _: Message) -> None:
+        self._run(True)
 
-    def _run(self, back: bool) -> Message:
+    def _run(self, back: bool) -> None:
         debugger = self.debugger
         here = debugger.side, debugger.tick
         found: List[Stop] = []
@@ -359,11 +360,10 @@ class Adapter(Shown):
             debugger.tick = 0 if back else debugger.past.held
             self._stopped("entry" if back else "pause", "the run's "
                           + ("first tick" if back else "last tick"))
-            return {"allThreadsContinued": True}
+            return
         stop = (max if back else min)(found, key=lambda it: it.tick)
         debugger.side, debugger.tick = stop.side, stop.tick
         self._stopped(stop.reason, stop.text, stop.side)
-        return {"allThreadsContinued": True}
 
     # What finds the next stop, or the last one before: each begins at this tick.
     def _searches(self, back: bool) -> Iterator[Callable[[], Optional[Stop]]]:

@@ -4,6 +4,7 @@ import io
 import json
 import os
 import queue
+import shutil
 import socket
 import subprocess
 import sys
@@ -12,11 +13,12 @@ import time
 import unittest
 from unittest import mock
 
-from common import EXAMPLES, TOP, Case, put
+from common import EXAMPLES, TOP, Case, call, put
 
 import beebtube
 from beebtube.adapter import Adapter
 from beebtube.program import Program
+from beebtube.shown import REQUESTS
 
 DAP = [sys.executable, "-B", os.path.join(TOP, "tools", "dap")]
 BUILT = os.path.join(EXAMPLES, "c", "built")
@@ -42,7 +44,7 @@ class Client:
 
     def __init__(self, source, target):
         self.source, self.target = source, target
-        self.seq, self.events = 0, []
+        self.seq, self.events, self.raw = 0, [], []
         self.answers = {}
         self.arrived = queue.Queue()
         threading.Thread(target=self._read, daemon=True).start()
@@ -56,7 +58,9 @@ class Client:
                     return
                 if line.startswith(b"Content-Length: "):
                     length = int(line.split()[1])
-            self.arrived.put(json.loads(self.source.read(length)))
+            data = self.source.read(length)
+            self.raw.append(data)
+            self.arrived.put(json.loads(data))
 
     def send(self, command, **arguments):
         self.seq += 1
@@ -87,7 +91,7 @@ class Client:
         told = self.answer(self.send(command, **arguments))
         if not told["success"]:
             raise AssertionError("%s: %s" % (command, told["message"]))
-        return told["body"]
+        return told.get("body")
 
     def refused(self, command, **arguments):
         told = self.answer(self.send(command, **arguments))
@@ -99,7 +103,7 @@ class Client:
         while True:
             for at, event in enumerate(self.events):
                 if event["event"] == name:
-                    return self.events.pop(at)["body"]
+                    return self.events.pop(at).get("body")
             self._next()
 
     def goes(self, command, **arguments):
@@ -463,6 +467,94 @@ class Hosts(Adapters):
         self.assertIn(
             "port 1", self.tool("dap", "--port", "1", status=1).err if os.getuid() else "port 1"
         )
+
+
+# What the types of go-dap 0.7 do not have: a request of this adapter alone, and a newer capability.
+UNTYPED = ("beebtube/screen", "supportsDataBreakpointBytes")
+GOCODE = "/usr/share/gocode"
+
+
+class Types(Adapters):
+    @unittest.skipUnless(
+        shutil.which("go") and os.path.isdir(GOCODE + "/src/github.com/google/go-dap"),
+        "it needs go and golang-github-google-go-dap-dev",
+    )
+    def test_messages_have_the_types_of_the_protocol(self):
+        """An answer to each request, a refusal of each, and all events, by types of others."""
+        client = self.limit(hostLabels=[], at="end")
+        asked = set()
+
+        def ask(name, /, **arguments):
+            asked.add(name)
+            return client.ask(name, **arguments)
+
+        source = {"path": LIMIT_C}
+        asked.update(("initialize", "launch"))
+        ask("setBreakpoints", source=source, breakpoints=[{"line": 11}, {"line": 99}])
+        ask("setFunctionBreakpoints", breakpoints=[{"name": "_fill"}, {"name": "nowhere"}])
+        ask(
+            "setInstructionBreakpoints",
+            breakpoints=[{"instructionReference": "para:0200"}, {"instructionReference": "?"}],
+        )
+        ask("setExceptionBreakpoints", filters=["reset"])
+        info = ask("dataBreakpointInfo", name="limit")
+        ask("dataBreakpointInfo", name="nowhere")
+        ask("setDataBreakpoints", breakpoints=[{"dataId": info["dataId"]}, {"dataId": "x"}])
+        self.begin(client)
+        asked.add("configurationDone")
+        for name in ("reverseContinue", "continue", "stepBack", "next", "stepIn", "stepOut"):
+            client.goes(name)
+            asked.add(name)
+        ask("threads")
+        asked.update(("stackTrace", "scopes", "variables"))
+        for frame in range(len(client.frames)):
+            for scope in ask("scopes", frameId=client.frames[frame]["id"])["scopes"]:
+                ask("variables", variablesReference=scope["variablesReference"])
+        ask("loadedSources")
+        ask("evaluate", expression="limit", context="hover")
+        ask("evaluate", expression="who _limit; back 40", context="repl")
+        client.stop()
+        ask("completions", text="tu", column=3)
+        ask("readMemory", memoryReference="para:FFF0", count=32)
+        ask("disassemble", memoryReference="para:0200", instructionOffset=-4, instructionCount=9)
+        targets = ask("gotoTargets", source=source, line=11)["targets"]
+        ask("goto", targetId=targets[0]["id"], threadId=client.thread)
+        client.stop()
+        client.goes("reverseContinue")
+        ask("evaluate", expression="go 300; host", context="repl")
+        client.stop()
+        number = client.frames[0]["source"]["sourceReference"]
+        ask("source", sourceReference=number, source={"sourceReference": number})
+        ask("beebtube/screen")
+        for name in ("cancel", "pause", "nonsense"):
+            client.answer(client.send(name))
+            asked.add(name)
+        client.refused("launch")
+        client.refused("scopes")
+        ask("terminate")
+        client.event("terminated")
+        other = self.client()
+        other.ask("disconnect")
+        other.event("terminated")
+        self.assertEqual(asked | {"disconnect"}, set(REQUESTS) | {"nonsense"})
+        env = {"GO111MODULE": "off", "GOPATH": GOCODE, "GOCACHE": self.at("cache")}
+        words = ["go", "run", os.path.join(TOP, "bench", "dap_types.go"), *UNTYPED]
+        messages = client.raw + other.raw
+        done = call(words, self.folder, b"\n".join(messages), env=env)
+        self.assertEqual((done.status, done.err), (0, ""), done.out + done.err)
+        self.assertEqual(done.out, "%d messages, 0 differ\n" % len(messages))
+        # It finds what differs.
+        wrong = b"\n".join(
+            (
+                b'{"seq":1,"type":"event","event":"stopped","body":{"reason":"step","more":1}}',
+                b'{"seq":1,"type":"event","event":"stopped","body":{"reason":5}}',
+                b'{"seq":1,"type":"event","event":"stopped","body":{}}',
+                b'{"seq":1,"type":"event","event":"nothing","body":{}}',
+                b'{"seq":1,"type":"event","event":"stopped","body":{"reason":"step"}}',
+            )
+        )
+        done = call(words, self.folder, wrong, env=env)
+        self.assertEqual((done.status, done.out.splitlines()[-1]), (1, "5 messages, 4 differ"))
 
 
 if __name__ == "__main__":
