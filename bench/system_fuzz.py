@@ -1,10 +1,13 @@
 #!/usr/bin/env python3
 """system_fuzz.py [KIND [FIRST [COUNT]]]: random runs of the images of system/built, by seeds.
 
-KIND is `codes` (VDU codes in all modes), `commands` (lines for OSCLI) or `keys` (a keyboard on
-which anything is pressed); all three without one. Each run must come to its end, and must leave the
-memory that is no screen and no workspace as it was. It says the seeds that do not; the status is 1
-then. Codes may need longer than the run if lines go far beyond the screen: `slow` says so.
+KIND is `codes` (VDU codes in all modes), `commands` (lines for OSCLI), `keys` (a keyboard on which
+anything is pressed), `tube` (the same with a second processor), `discs` (commands of the filing
+system on discs whose catalogues may be damaged) or `cuts` (runs that end at a random moment while
+files are saved, deleted and compacted); all of them without one. Each run must come to its end. The
+first three must leave the memory that is no screen and no workspace as it was; after a cut each
+file is as it was before or as it is to be. It says the seeds that do not; the status is 1 then.
+Codes may need longer than the run if lines go far beyond the screen: `slow` says so.
 """
 import os
 import random
@@ -16,6 +19,9 @@ for part in ("tools", os.path.join("tools", "tests")):
     sys.path.insert(0, os.path.join(TOP, part))
 import beebtube  # noqa: E402
 import test_system as system  # noqa: E402
+import test_system_dfs as dfs  # noqa: E402
+import test_system_tube as tube  # noqa: E402
+from beebtube.disc import Disc, with_file, without_file  # noqa: E402
 
 SECOND = system.SECOND
 WORDS = ("FX 1", "FX 4,1", "FX 11,0", "FX 15", "FX 999", "FX x", "KEY", "HELP", "LOAD", "SAVE",
@@ -108,8 +114,8 @@ def commands(chance):
     return system.started(5, language=system.rom(b"", source + "over:\n"))
 
 
-def keys(chance):
-    """Keys that go down and up; after ESCAPE the monitor must set a byte."""
+def pressed(chance):
+    """Keys that go down and up, and then ESCAPE and a line that sets a byte; and when it ends."""
     tick, held, lines = SECOND, set(), []
     all_keys = [16 * row + column for row in range(1, 8) for column in range(10)]
     usable = [key for key in all_keys if key not in LEFT_OUT and key != 0x18]
@@ -127,10 +133,96 @@ def keys(chance):
     lines += ["at %d up %02X" % (tick, key) for key in sorted(held)]
     end = beebtube.typed("{ESCAPE}{RETURN}S 2000 5A{RETURN}", start=tick / SECOND + 0.5)
     text = "\n".join(lines) + "\n" + end.text()
-    return system.started(tick / SECOND + 3, text.encode())
+    return tick / SECOND + 3, text.encode()
 
 
-KINDS = {"codes": codes, "commands": commands, "keys": keys}
+def keys(chance):
+    seconds, script = pressed(chance)
+    return system.started(seconds, script)
+
+
+def both(chance):
+    seconds, script = pressed(chance)
+    return tube.started(seconds + 1, script, disc0=some_disc(chance))
+
+
+def some_disc(chance):
+    """A disc of files of all lengths and addresses, some of them locked."""
+    disc = dfs.disc_of(title="".join(chance.choice("AZ az09") for _ in range(chance.randrange(13))))
+    for number in range(chance.choice((0, 3, 12, 25, 31))):
+        disc = with_file(disc, dfs.new("F%d" % number, chance.randbytes(
+            chance.choice((0, 1, 255, 256, 257, 1000, 5000))), chance.getrandbits(18),
+            chance.getrandbits(18), chance.random() < 0.2, chance.choice("$AB")))
+    return disc
+
+
+def discs(chance):
+    """Commands on two discs; a damaged catalogue may give errors, and nothing else."""
+    made = []
+    for _ in range(2):
+        image = bytearray(some_disc(chance).image)
+        for _ in range(chance.choice((0, 0, 1, 3, 20))):
+            image[chance.randrange(512)] = chance.randrange(256)
+        made.append(Disc(image))
+    lines = []
+    for _ in range(10):
+        name = chance.choice(("F0", "F1", "A.F2", "B.F4", "F#", "*", ":1.$.F3", ":2.X", "", "A."))
+        lines.append(chance.choice(("*CAT " + name[1:2], "*INFO " + name, "*DELETE " + name,
+            "*ACCESS %s L" % name, "*ACCESS " + name, "*COMPACT %d" % chance.randrange(3),
+            "*RENAME %s B.NEW" % name, "*TITLE " + name, "*DRIVE %d" % chance.randrange(4),
+            "*SAVE %s C000 +%X" % (name, chance.choice((0, 1, 300, 9000))), "*TYPE " + name,
+            "*DUMP " + name, "*COPY 0 1 " + name, "*OPT4,2", "*DIR " + name, "*SPOOL " + name,
+            "*ENABLE", "*BACKUP 0 1", "*DESTROY " + name, "*EXEC " + name)))
+    text = "".join(line + "{RETURN}{WAIT %.1f}" % chance.choice((0.3, 1, 2)) for line in lines)
+    typed = beebtube.typed(text + "{WAIT 4}{ESCAPE}{WAIT 3}{ESCAPE}{WAIT 0.5}*SPOOL{RETURN}{WAIT 1}"
+        "S 2000 5A{RETURN}{WAIT 0.5}", start=1)
+    return dfs.started(typed.ticks / SECOND, typed, disc0=made[0], disc1=made[1])
+
+
+def cuts(chance):
+    """A file that is lost is what the run gives instead of a machine."""
+    disc = dfs.disc_of()
+    for number in range(chance.choice((5, 12, 20, 29))):
+        disc = with_file(disc, dfs.new("F%d" % number, chance.randbytes(
+            chance.choice((0, 1, 255, 256, 257, 1000, 3000))), folder=chance.choice("$A")))
+    for file in list(disc.catalogue().files):
+        if chance.random() < 0.3:
+            disc = without_file(disc, file.whole_name)
+    wanted = {name: [data] for name, data in dfs.files_of(disc).items()}
+    lines = []
+    for number in range(4):
+        name, length = chance.choice(sorted(wanted) + ["$.NEW"]), chance.choice((1, 256, 700, 2000))
+        if chance.random() < 0.7:
+            lines.append("*SAVE %s C%03X +%X" % (name, number, length))
+            wanted.setdefault(name, [None]).append(system.OS[number : number + length])
+        elif name in wanted:
+            lines.append("*DELETE " + name)
+            wanted[name].append(None)
+    lines.insert(chance.randrange(len(lines) + 1), "*COMPACT")
+    moment = chance.uniform(0.7, 15)
+    _, after = dfs.done(lines, disc, moment)
+    found = dfs.files_of(after)
+    lost = [name for name, data in wanted.items() if found.get(name) not in data]
+    return " ".join(["%.4f s" % moment] + lost + lines) if lost else None
+
+
+KINDS = {"codes": codes, "commands": commands, "keys": keys, "tube": both, "discs": discs,
+    "cuts": cuts}
+
+
+def fault(kind, run):
+    """What is wrong after a run; None where nothing is."""
+    if kind == "cuts":
+        return run
+    memory = run.para if kind == "tube" else run.host
+    is_done = memory[0x2000] == 0x5A
+    if kind in ("tube", "discs"):
+        return None if is_done else "no end"
+    free = list(range(0x0D01, 0x0D9F)) + list(range(0x0E00, 0x2000))
+    changed = ["%04X" % at for at in free if memory[at]]
+    if changed or not is_done and (kind != "codes" or run.registers["host"].halted):
+        return " ".join(changed[:8]) or "no end"
+    return None if is_done else "slow"
 
 
 def main(words):
@@ -139,16 +231,10 @@ def main(words):
     failed = 0
     for kind in kinds:
         for seed in range(first, first + count):
-            run = KINDS[kind](random.Random(seed))
-            memory = run.host
-            free = list(range(0x0D01, 0x0D9F)) + list(range(0x0E00, 0x2000))
-            changed = ["%04X" % at for at in free if memory[at]]
-            is_done = memory[0x2000] == 0x5A
-            if changed or not is_done and (kind != "codes" or run.registers["host"].halted):
-                failed = 1
-                print("%s %d: %s" % (kind, seed, " ".join(changed[:8]) or "no end"), flush=True)
-            elif not is_done:
-                print("codes %d: slow" % seed, flush=True)
+            told = fault(kind, KINDS[kind](random.Random(seed)))
+            if told:
+                failed |= told != "slow"
+                print("%s %d: %s" % (kind, seed, told), flush=True)
         print("%s: %d runs" % (kind, count), flush=True)
     return failed
 
