@@ -12,6 +12,7 @@ import shlex
 import shutil
 import subprocess
 import time
+import xml.etree.ElementTree
 import zipfile
 
 from common import EXAMPLES, IS_ROOT, TOP, Case, beebtube, call, child_of, children_of, is_alive, put, signal, text_of, unittest
@@ -796,6 +797,54 @@ class Against(Suite):
         self.assertEqual(sorted(read_table(self.at("results/results.csv"))), [name.replace(";=", ";\\u003d") for name in names])
         os.rename(self.at("results/results.csv"), self.at("stored.csv"))
         self.assertEqual({line.split()[0] for line in self.lines(self.suite("--against", "stored.csv"))}, {"same"})
+
+
+class Reports(Suite):
+    def test_the_states_of_all_runs(self):
+        self.discs("good.ssd", "a<&\">#\\.ssd", "changes.ssd", "\x01\n\u200b.ssd")
+        put(self.at("discs/long.ssd"), bytes(204801))
+        self.suite(status=1)
+        os.rename(self.at("results/results.csv"), self.at("stored.csv"))
+        put(self.at("discs/changes.ssd"), b"other bytes")
+        put(self.at("discs/new.ssd"), b"new")
+        self.suite("--against", "stored.csv", "--junit", "t.xml", "--tap", "t.tap", status=1)
+        rows = self.table()
+        good = {name for name, row in rows.items() if row["state"] in ("same", "equal", "failing")}
+        self.assertEqual(set(rows) - good, {"changes.ssd", "new.ssd"})
+        suite = xml.etree.ElementTree.parse(self.at("t.xml")).getroot()[0]
+        self.assertEqual({name: suite.get(name) for name in ("name", "tests", "failures")},
+                         {"name": "discs", "tests": "6", "failures": "2"})
+        self.assertEqual([case.get("name") for case in suite], list(rows))
+        self.assertEqual({case.get("name") for case in suite if not len(case)}, good)
+        self.assertEqual([(it.get("type"), it.get("message")) for case in suite for it in case],
+                         [("differs", "differs changes.ssd: d0 read:disc0.ssd"), ("new", "new new.ssd")])
+        for case in suite:
+            self.assertEqual("%.3f" % float(case.get("time")), rows[case.get("name")]["seconds"])
+        lines = text_of(self.at("t.tap")).decode().splitlines()
+        self.assertEqual(lines[:2], ["TAP version 13", "1..6"])
+        named = [re.fullmatch("(ok|not ok) ([0-9]+) - (.*)", line) for line in lines]
+        named = [match.groups() for match in named if match]
+        told = [("ok" if name in good else "not ok", str(number), name.replace("\\", "\\\\").replace("#", "\\#"))
+                for number, name in enumerate(rows, 1)]
+        self.assertEqual(named, told)
+
+    def test_a_file_that_is_read_stays(self):
+        self.discs("good.ssd")
+        put(self.at("list.csv"), b"name,disc0\na,discs/good.ssd\n")
+        for option in ("--junit", "--tap"):
+            done = self.suite(option, "list.csv", name="list.csv", status=1)
+            self.assertIn("list.csv is read too, and is not written over", done.err)
+            self.assertIn("results/results.csv is read too", self.suite(option, "results/results.csv", status=1).err)
+        self.assertEqual(text_of(self.at("list.csv")), b"name,disc0\na,discs/good.ssd\n")
+        self.assertEqual(len(self.table()), 1)
+
+    @unittest.skipUnless(shutil.which("prove"), "prove is not there")
+    def test_another_program_reads_it(self):
+        self.discs("good.ssd", "skip # SKIP.ssd", "todo # TODO x.ssd")
+        put(self.at("discs/long # SKIP.ssd"), bytes(204801))
+        self.suite("--tap", "t.tap", status=1)
+        done = call(["prove", "--exec", "cat", "t.tap"], self.folder)
+        self.assertIn("Failed 1/4 subtests", done.out)
 
 
 class Elsewhere(Suite):
