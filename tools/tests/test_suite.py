@@ -12,6 +12,7 @@ import shlex
 import shutil
 import subprocess
 import time
+import urllib.parse
 import xml.etree.ElementTree
 import zipfile
 
@@ -845,6 +846,76 @@ class Reports(Suite):
         self.suite("--tap", "t.tap", status=1)
         done = call(["prove", "--exec", "cat", "t.tap"], self.folder)
         self.assertIn("Failed 1/4 subtests", done.out)
+
+
+class Crates(Suite):
+    def crate(self, folder):
+        """The entities of a folder's metadata, by their ids; each reference has one."""
+        text = json.loads(text_of(self.at(folder + "/ro-crate-metadata.json")).decode())
+        graph = text["@graph"]
+        found = {entity["@id"]: entity for entity in graph}
+        self.assertEqual(len(found), len(graph))
+        self.assertEqual(text["@context"][0], "https://w3id.org/ro/crate/1.1/context")
+        self.assertEqual((found["ro-crate-metadata.json"]["about"], found["ro-crate-metadata.json"]["conformsTo"]),
+                         ({"@id": "./"}, {"@id": "https://w3id.org/ro/crate/1.1"}))
+        for entity in graph:
+            for name, value in entity.items():
+                for it in value if isinstance(value, list) and name != "identifier" else ():
+                    self.assertIn(it["@id"], found)
+        return found
+
+    def test_each_file_of_a_suite_with_its_checksum(self):
+        self.discs("one.ssd", "a <b>\n#%41.ssd")
+        put(os.fsencode(self.at("discs/")) + b"\xff.ssd", b"bytes")
+        put(self.at("discs/long.ssd"), bytes(204801))
+        self.suite("--keep", "kept", status=1)
+        self.tool("manifest", "--crate", "kept", env={"SOURCE_DATE_EPOCH": "86400"})
+        first = text_of(self.at("kept/ro-crate-metadata.json"))
+        found = self.crate("kept")
+        parts = {urllib.parse.unquote_to_bytes(it["@id"]): found[it["@id"]] for it in found["./"]["hasPart"]}
+        top = os.fsencode(self.at("kept"))
+        here = {os.path.relpath(os.path.join(at, name), top) for at, _, names in os.walk(top) for name in names}
+        self.assertEqual(set(parts), here - {b"ro-crate-metadata.json"})
+        for name, entity in parts.items():
+            data = text_of(os.path.join(top, name))
+            self.assertEqual((entity["sha256"], entity["contentSize"]), (hashlib.sha256(data).hexdigest(), str(len(data))))
+        runs = {found[it["@id"]]["name"]: found[it["@id"]] for it in found["./"]["mentions"]}
+        self.assertEqual(sorted(runs), ["\\xff.ssd", "a <b>\\x0a#%41.ssd", "long.ssd", "one.ssd"])
+        ends = {name: run["actionStatus"].rpartition("/")[2] for name, run in runs.items()}
+        self.assertEqual({name for name, end in ends.items() if end != "CompletedActionStatus"}, {"long.ssd"})
+        self.assertEqual(runs["long.ssd"]["error"], "status 3\nbad image disc0 204801")
+        one = runs["one.ssd"]
+        self.assertEqual([it["@id"] for it in one["object"]], ["one.ssd/os", "one.ssd/tube", "one.ssd/disc0.ssd"])
+        self.assertIn({"@id": "one.ssd/out.report"}, one["result"])
+        self.assertEqual(one["description"], "beebtube run 2000 out --os os --tube tube --disc0 disc0.ssd")
+        self.assertEqual(found["./"]["datePublished"], "1970-01-02")
+        self.tool("manifest", "--crate", "kept", env={"SOURCE_DATE_EPOCH": "86400"})
+        self.assertEqual(text_of(self.at("kept/ro-crate-metadata.json")), first)
+
+    def test_a_manifest_by_itself(self):
+        self.pair()
+        words = ("replay", "host", os.devnull, "2000", "x", "--os", "os", "--no-tube")
+        put(self.at("m"), self.tool("manifest", *words).out.encode())
+        self.tool("manifest", "--crate", "m")
+        found = self.crate(".")
+        self.assertEqual({it["@id"] for it in found["./"]["hasPart"]}, {"m", "os", "x.host", "x.report"})
+        empty = hashlib.sha256(b"").hexdigest()
+        self.assertEqual(found["#sha256-" + empty]["name"], os.devnull)
+        self.assertIn({"@id": "#sha256-" + empty}, found["#run-m"]["object"])
+
+    def test_what_is_not_here_is_refused(self):
+        self.discs("one.ssd")
+        self.suite("--keep", "kept")
+        put(self.at("kept/one.ssd/out.host"), b"other bytes")
+        self.assertIn("kept/one.ssd/out.manifest has another checksum", self.tool("manifest", "--crate", "kept", status=1).err)
+        os.unlink(self.at("kept/one.ssd/out.host"))
+        self.assertIn("one.ssd/out.host is not here", self.tool("manifest", "--crate", "kept", status=1).err)
+        self.assertFalse(os.path.exists(self.at("kept/ro-crate-metadata.json")))
+        self.assertIn("has no run", self.tool("manifest", "--crate", "discs", status=1).err)
+        os.mkdir(self.at("own"))
+        put(self.at("own/ro-crate-metadata.json"), b"{}")
+        put(self.at("own/m"), self.tool("manifest", "gen", "1").out.encode())
+        self.assertIn("is not written over", self.tool("manifest", "--crate", "own/m", status=1).err)
 
 
 class Elsewhere(Suite):
