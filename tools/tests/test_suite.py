@@ -1067,7 +1067,32 @@ class Sheet(Suite):
         frames = [lines_in(text_of(self.at("results/" + it["src"])))[0] for it in pictures[:2]]
         places = [(x, y) for y in range(256) for x in range(640)
                   if (frames[0][642 * y + 1 + x // 2] ^ frames[1][642 * y + 1 + x // 2]) >> (0 if x % 2 else 4) & 15]
-        self.assertIn("pixels differ in x %d to %d, y %d to %d" % (min(x for x, _ in places), max(x for x, _ in places), places[0][1], places[-1][1]), self.page())
+        box = "x %d to %d, y %d to %d" % (min(x for x, _ in places), max(x for x, _ in places), places[0][1], places[-1][1])
+        self.assertIn("pixels differ in " + box, self.page())
+        # The run's own page has both frames, and the pixels that differ.
+        links = [attributes.get("href", "") for tag, attributes in self.Reader(self.page()).elements if tag == "a"]
+        name, = {it for it in links if it.endswith(".against.html")}
+        page = self.page("results/" + name)
+        self.assertIn("Pixels differ in %s." % box, page)
+        section = self.Reader(page.partition('<section id="against"')[2].partition("</section>")[0])
+        shown = [attributes for tag, attributes in section.elements if tag == "img"]
+        self.assertEqual([it["alt"] for it in shown], ["The last frame " + what for what in (
+            "of this run", "of the stored run", "with the pixels that differ in white")])
+        drawn = [beebtube.Frame.of_png(base64.b64decode(it["src"].partition(",")[2])) for it in shown]
+        whole = [beebtube.Frame.of_png(text_of(self.at("results/" + it["src"]))) for it in pictures[:2]]
+        self.assertEqual(drawn, [*whole, whole[0].difference(whole[1])])
+        self.assertIn(("a", {"href": "#against"}), self.Reader(page).elements)
+        self.assertEqual(page.replace(page[page.index('\n<section id="against"') : page.index("\n</main>")], "")
+                         .replace('<li><a href="#against">Against the stored run</a></li>', ""),
+                         self.page("results/" + name.replace(".against", "")))
+        # Nothing of it is left once nothing differs, and once its result goes.
+        self.suite("--shot", ticks="2000000", words=words)
+        self.assertEqual(self.runs("against.html"), [])
+        self.suite("--shot", "--against", "stored.csv", ticks="2000000", words=words, status=1)
+        self.assertEqual(len(self.runs("against.html")), 1)
+        os.unlink(self.at("discs/a.keys"))
+        self.suite("--shot", "--clear", ticks="2000000", words=words)
+        self.assertEqual(self.runs("against.html"), [])
 
     def test_all_can_be_reached_and_is_named(self):
         self.discs("a.ssd", "b.ssd")
