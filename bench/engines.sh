@@ -1,5 +1,5 @@
 #!/usr/bin/env bash
-# engines.sh [--runs N] [--ticks N] [--said] [ENGINE ..]: does one collection by `tools/suite` alone and by engines that other people made, and compares the tables.
+# engines.sh [--runs N] [--ticks N] [--small N] [--batch N] [--said] [ENGINE ..]: does one collection by `tools/suite` alone and by engines that other people made, and compares the tables.
 # The engines are `parallel` (GNU parallel over ssh, to two machines which are both this one), `slurm` (an array, with one controller and two nodes, all
 # on this machine) and `snakemake`; all three where none is named. What an engine needs (sshd, munged, slurmctld, slurmd) is started here, in a folder of
 # its own and on ports of its own, and ended by its number. Where an engine is not installed that is said, and it is passed over; Debian's packages are
@@ -8,12 +8,17 @@
 # The collection has N runs (16 where none is said) of the typed text, each of some ticks of its own, one with signs in its name that shells and pages
 # take for others, and one that is refused. A line for each tells the processor's seconds: of the runs themselves, of the tool around them (Python, sums,
 # frames, pages), of the engine; and of the clock. With --said what an engine said is printed. The status is 1 where a table is another one.
+#
+# With --small N the collection is a folder of N discs with a file of 256 bytes each. A run of such a disc has 100,000 ticks, 1/60 s
+# of machine time, and a shot. With --batch N a job has N runs.
 . "$(dirname "$0")/common.sh"
-runs=16 ticks=12000000 is_heard=
+runs=16 ticks=12000000 is_heard='' small='' batch=1
 while [ $# -gt 0 ]; do
     case $1 in
         --runs) runs=$2 && shift ;;
         --ticks) ticks=$2 && shift ;;
+        --small) small=$2 && shift ;;
+        --batch) batch=$2 && shift ;;
         --said) is_heard=yes ;;
         *) break ;;
     esac
@@ -35,9 +40,9 @@ failed=0
 
 # --- The collection ---
 
-"$top/examples/typing.sh" "$work"
-"$top/tools/type" --start 0.1 --shot 'Hi!{RETURN}' >hi.keys 2>told
-{
+one_by_one() {
+    "$top/examples/typing.sh" "$work"
+    "$top/tools/type" --start 0.1 --shot 'Hi!{RETURN}' >hi.keys 2>told
     echo 'name,ticks,disc0'
     for ((at = 1; at <= runs; at++)); do
         seq "$at" 400 | head -c 1024 >"disc $at.ssd"
@@ -46,8 +51,24 @@ failed=0
     echo "it's <b>&\$(id)\`id\`,$ticks,disc 1.ssd"
     head -c 204801 /dev/zero >long.ssd
     echo "long,$ticks,long.ssd"
-} >list.csv
-words=(--os os --tube tube --font font --keys hi.keys)
+}
+# A disc has a catalogue with one file, which is different on each disc.
+small_discs() {
+    python3 -c 'import os, sys
+for at in range(int(sys.argv[1])):
+    head = b"D%07dFILE   $" % at + bytes(240)
+    head += bytes(5) + b"\x08\3\x20" + b"\0\x19\0\x19\0\1\0\2" + bytes(240)
+    with open("discs/disc%05d.ssd" % at, "wb") as disc:
+        disc.write(head + b"%256d" % at)' "$1"
+}
+if [ -n "$small" ]; then
+    mkdir discs && small_discs "$small"
+    "$top/beebtube" asm 6502 "$top/examples/disc-os.asm" os
+    runs=$((small - 2)) ticks=100000 list=discs more=(--ticks 100000 --shot) words=(--os os)
+else
+    one_by_one >list.csv
+    list=list.csv more=() words=(--os os --tube tube --font font --keys hi.keys)
+fi
 bare() { # RESULTS: the table without what differs each time
     python3 -c 'import csv, sys
 for row in csv.DictReader(open(sys.argv[1] + "/results.csv")):
@@ -76,14 +97,14 @@ tell() { # ENGINE RUNS JOBS ENGINE-SECONDS CLOCK
 
 TIMEFORMAT='%U %S %R'
 echo "$(nproc) processors; $((runs + 2)) runs of $ticks ticks and more"
-{ time "$top/tools/suite" list.csv alone -- "${words[@]}" >said || true; } 2>times
+{ time "$top/tools/suite" "${more[@]}" "$list" alone -- "${words[@]}" >said || true; } 2>times
 tail -n 2 said
 tell 'tools/suite alone' "$(sum_of alone processor)" "$(cut -d' ' -f1,2 times | added)" 0 "$(cut -d' ' -f3 times)"
 
 # Each job as a command that leaves its processor's seconds in a file of its own, too.
 make_jobs() { # ENGINE
     mkdir "times.$1"
-    "$top/tools/suite" --jobs list.csv "$1" -- "${words[@]}" >"plain.$1"
+    "$top/tools/suite" --jobs --batch "$batch" "${more[@]}" "$list" "$1" -- "${words[@]}" >"plain.$1"
     awk -v times="$work/times.$1" '{ printf "/usr/bin/time -f \"%%U %%S\" -o %s/%d %s\n", times, NR, $0 }' "plain.$1" >"jobs.$1"
 }
 
@@ -92,7 +113,7 @@ heard() { # FILE
 }
 
 gather() { # ENGINE
-    "$top/tools/suite" --gather list.csv "$1" -- "${words[@]}" >gathered || true
+    "$top/tools/suite" --gather "${more[@]}" "$list" "$1" -- "${words[@]}" >gathered || true
     tail -n 1 gathered
     if diff <(bare alone) <(bare "$1") >differs; then
         echo "$1: the table is that of tools/suite alone"

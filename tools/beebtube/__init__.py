@@ -16,6 +16,8 @@ its standard library. docs/PYTHON.md has more.
 from __future__ import annotations
 
 import os as _os
+from typing import TYPE_CHECKING as _TYPE_CHECKING
+from typing import Any as _Any
 
 from .calling import Called, call
 from .disc import Catalogue, Disc
@@ -31,8 +33,11 @@ from .report import Registers, Report
 from .script import Event, Script, Typed, key, pressed, typed
 from .trace import Access, Trace
 
+if _TYPE_CHECKING:
+    from .past import Past
+
 __all__ = [
-    "Access", "Called", "Catalogue", "Disc", "Ended", "Event", "Executed", "Fault", "Frame", "Labels", "Program", "Refused", "Registers",
+    "Access", "Called", "Catalogue", "Disc", "Ended", "Event", "Executed", "Fault", "Frame", "Labels", "Past", "Program", "Refused", "Registers",
     "Report", "Run", "Script", "Source", "Trace", "Typed", "Version", "asm", "build", "call", "check", "dis", "execute", "explain", "follow", "gen",
     "host", "inside", "key", "labels_of", "picture_of", "pressed", "read_file", "replay", "resume", "run", "screen_of",
     "solo", "sum_of", "typed", "version", "write_beside",
@@ -41,6 +46,16 @@ __all__ = [
 _VERSION = _os.path.join(_TOP, "VERSION")
 __version__ = read_text(_VERSION).strip() if _os.path.exists(_VERSION) else "unknown"
 _program = Program()
+
+
+# What needs many modules is loaded by its first use.
+def __getattr__(name: str) -> _Any:
+    if name == "Past":
+        from .past import Past
+        return Past
+    raise AttributeError(f"module {__name__!r} has no attribute {name!r}")
+
+
 run = _program.run
 solo = _program.solo
 resume = _program.resume

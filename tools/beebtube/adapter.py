@@ -18,7 +18,7 @@ from .listings import Start
 from .naming import Names
 from .naming import read as naming_read
 from .past import SIDES, Past
-from .program import TOP, Program
+from .program import TOP, Part, Program
 from .shown import REQUESTS, SIDE_OF, THREADS, Shown, request
 from .wire import Message, Wire
 
@@ -193,7 +193,8 @@ class Adapter(Shown):
             return Past.of_session(self.program, session, self._progress)
 
     def _add_sources(self, side: str, given: Message, labels: List[Any]) -> None:
-        source, part = self.sources[side], {"host": "6502", "para": "65c02"}[side]
+        source = self.sources[side]
+        part: Part = "6502" if side == "host" else "65c02"
         for name in _list(given, f"{side}Debug"):
             source.add_ld65(name, given.get("sourceFolder") or ".")
         for name in _list(given, f"{side}Source"):
@@ -248,7 +249,8 @@ class Adapter(Shown):
 
     def _set(self, group: str, given: List[Message],
              places: Callable[[Message], List[Tuple[str, int, Message]]], reason: str) -> Message:
-        self.breaks[group], told = [], []
+        self.breaks[group] = []
+        told: List[Message] = []
         for one in given:
             try:
                 found = places(one)

@@ -43,7 +43,9 @@ def columns_of(name: Name) -> Columns:
     if not is_plain(name):
         raise Fault("%s is no plain file" % name)
     trace = Trace(name)
-    orders, codes, values = array("I"), [], []
+    orders = array("I")
+    codes: List[bytes] = []
+    values: List[bytes] = []
     left = TRACE_CAP
     with open_file(name) as file:
         if trace.speed == 4:

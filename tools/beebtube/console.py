@@ -168,7 +168,7 @@ def ask(debugger: Debugger, progress: Progress) -> None:
         readline.set_completer_delims(" \t;")
         readline.set_completer(lambda text, number: (
             completions(debugger, readline.get_line_buffer()[: readline.get_endidx()], text)
-            + [None])[number])  # type: ignore[list-item]
+            + [""])[number] or None)
         readline.parse_and_bind("tab: complete")
     debugger.try_to("where")
     debugger.forget()
@@ -235,15 +235,17 @@ def debug(words: Sequence[str]) -> int:
             if limit_of(past):
                 sys.stderr.write(f"debug: {limit_of(past)}\n")
         out = Clearing(progress, asked.is_asking)
-        debugger = Debugger(pasts[0], names, *pasts[1:], out=out)  # type: ignore[arg-type]
-        return _debugged(asked, debugger, progress)
+        other = pasts[1] if pasts[1:] else None
+        debugger = Debugger(pasts[0], names, other, out=out)  # type: ignore[arg-type]
+        status = _debugged(asked, debugger, progress)
+    return status
 
 
 # The lines of standard input, as they come.
 def _given() -> Iterator[str]:
     if sys.stdin is None:
         raise Fault("cannot read -")
-    sys.stdin.reconfigure(errors="surrogateescape")  # type: ignore[union-attr]
+    sys.stdin.reconfigure(errors="surrogateescape")  # type: ignore[attr-defined]
     while True:
         try:
             line = sys.stdin.readline(LONGEST)

@@ -282,7 +282,7 @@ def _of_sounds(one: bytes, other: bytes) -> List[str]:
             if at is not None:
                 number = (block + at) // 2
                 values = struct.unpack_from("<h", here, at) + struct.unpack_from("<h", there, at)
-                return ["sample %s, at %.3f ms: %d | %d" % (("{:,}".format(number), number * 1000 / rate) + values)]
+                return ["sample %s, at %.3f ms: %s" % ("{:,}".format(number), number * 1000 / rate, " | ".join(map(str, values)))]
     if len(first) != len(second):
         return ["%s samples | %s samples, the same as far as both go" % ("{:,}".format(len(first) // 2), "{:,}".format(len(second) // 2))]
     return []

@@ -8,7 +8,7 @@ from typing import Callable, Dict, Iterable, Iterator, List, NamedTuple, Optiona
 from .accesses import is_status
 from .calls import Calls, Frame
 from .conditions import Condition
-from .effects import address_of, effects_of, sequences
+from .effects import Effects, address_of, effects_of, sequences
 from .faults import Fault
 from .listings import Change, Start
 from .machine import FAR, SOME, Machine
@@ -211,7 +211,7 @@ class Engine:
     # The starts of instructions that touch a range, with each address there; with `pushes` those
     # before an interrupt, too.
     def _touching(self, low: int, high: int, tick: int, back: bool,
-                  touched: Callable[..., List[int]], pushes: bool
+                  touched: Callable[[Effects], List[int]], pushes: bool
                   ) -> Iterator[Tuple[Start, int]]:
         bound = self.machine.bound
         while tick > 0 if back else tick < bound:
@@ -221,7 +221,7 @@ class Engine:
             tick = first if back else last
 
     def _touched(self, first: int, last: int, low: int, high: int,
-                 touched: Callable[..., List[int]], pushes: bool
+                 touched: Callable[[Effects], List[int]], pushes: bool
                  ) -> Iterator[Tuple[Start, int]]:
         machine = self.machine
         begin = machine.current(first) or machine.following(first)

@@ -47,7 +47,7 @@ class Machine:
 
     def __init__(self, past: "Past", side: str):
         self.past, self.side = past, side
-        self.bound = past.held + 1
+        self.bound: int = past.held + 1
         self.view = View(self)
         self._states: "OrderedDict[int, State]" = OrderedDict()
         # The one that was used last comes last.

@@ -291,7 +291,8 @@ class Page:
             parts.append(element("h3", shown(difference.ending)))
             parts.append(element("pre", "\n".join(shown(line) for line in difference.lines), tabindex="0"))
             if difference.ending.endswith(".ppm") and difference.ending in one.names and difference.ending in other.names:
-                parts.append(_beside(one.names[difference.ending], other.names[difference.ending], difference.ending))
+                frames = Frame.read(one.names[difference.ending]), Frame.read(other.names[difference.ending])
+                parts.append(_beside(*frames, "Frame " + difference.ending[:-4], "of the other run"))
         if len(parts) == 1:
             parts.append("<p>Nothing differs: %d files are the same.</p>" % len(one.names))
         self.add("against", "Against %s" % shown(os.path.basename(self.asked.against)), *parts)
@@ -317,13 +318,27 @@ _VIEW = """<div class="tools" role="group" aria-label="A memory"><label for="mem
 <div><h3 id="code-title">Disassembly</h3><pre id="code" tabindex="0" aria-labelledby="code-title"></pre></div></div>"""
 
 
-def _beside(one: str, other: str, name: str) -> str:
-    frames = picture_frames(Frame.read(one), Frame.read(other))
+# Two frames and where they differ, as pictures of the page.
+def _beside(one: Frame, other: Frame, name: str, of_other: str) -> str:
     images = []
-    for frame, what in zip(frames, ("of this run", "of the other run", "with the pixels that differ in white")):
+    for frame, what in zip(picture_frames(one, other), ("of this run", of_other, "with the pixels that differ in white")):
         source = "data:image/png;base64," + base64.b64encode(frame.png()).decode()
-        images.append(element("li", '<img src="%s" alt="Frame %s %s" width="640" height="512">' % (source, shown(name[:-4]), what) + element("span", what)))
+        images.append(element("li", '<img src="%s" alt="%s %s" width="640" height="512">' % (source, shown(name), what) + element("span", what)))
     return element("ol", "\n".join(images), class_="beside")
+
+
+def with_stored_frame(page: bytes, own: Frame, stored: Frame, told: str) -> bytes:
+    """A page that `page_of` made, with another section: the run's last frame and that of the stored run.
+
+    told  a sentence about the pixels that differ
+    """
+    inner = element("h2", "Against the stored run", id="against-title") + element("p", shown(told))
+    inner += _beside(own, stored, "The last frame", "of the stored run")
+    section = element("section", inner, id="against", aria_labelledby="against-title")
+    head, nav, rest = page.partition(b"</ul></nav>")
+    body, main, end = rest.rpartition(b"\n</main>")
+    link = element("li", element("a", "Against the stored run", href="#against")).encode()
+    return b"".join((head, link, nav, body, b"\n", section.encode(), main, end))
 
 
 def _registers(of: Registers) -> List[str]:

@@ -139,6 +139,12 @@ class Past:
         self.pool.shutdown()
         self._close()
 
+    def __enter__(self) -> "Past":
+        return self
+
+    def __exit__(self, *_: object) -> None:
+        self.close()
+
     def cycle(self, side: str) -> int:
         """How many ticks a cycle of a side has."""
         ticks = {"host": 3, "para": 2} if self.speed == 3 else {"host": 6, "para": 3}

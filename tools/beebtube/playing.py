@@ -125,7 +125,9 @@ class Player:
                 raise Fault("%s is read too, and is not written over" % name)
         options: Dict[str, Any] = {option[2:]: value for option, value in self.options.items() if self.both or option != "--tube"}
         program = Program()
-        machine: Callable[..., Run] = program.run if self.both else program.host
+        machine: Callable[..., Run] = program.host
+        if self.both:
+            machine = program.run
         try:
             with machine(self.ticks, keys=self.script, wav=sound, **options) as run:
                 frames, heard = run.frames, run.wav if sound else b""

@@ -9,7 +9,7 @@ import os
 import re
 import subprocess
 import weakref
-from typing import Any, Dict, List, Literal, Mapping, NamedTuple, Optional, Sequence, Set, Tuple, Union
+from typing import TYPE_CHECKING, Any, Dict, List, Literal, Mapping, NamedTuple, Optional, Sequence, Set, Tuple, Union
 
 from .disc import LARGEST, Disc, is_double
 from .explain import explain
@@ -22,6 +22,9 @@ from .report import parse as parse_report
 from .script import Script
 from .sets import read_set
 from .trace import Trace
+
+if TYPE_CHECKING:
+    from .past import Past
 
 # The folder above release/, docs/, examples/ and tools/: the clone, or an installed package, which has what it needs of them.
 _PACKAGE = os.path.dirname(os.path.realpath(__file__))
@@ -261,7 +264,7 @@ class Program:
         if ended.status != 0:
             raise _refusal(ended, words, made.folder, named)
         made.said = ended.out.decode("utf-8", "replace")
-        made.words = words
+        made.words, made.program = words, self
         return made
 
     # --- Texts and images ---
@@ -304,12 +307,14 @@ class Program:
 class Run:
     """What a call wrote, in a folder of its own, which goes away with this (or at `close()`).
 
-    said   what stood on standard output
-    words  the words of the call
+    said     what stood on standard output
+    words    the words of the call
+    program  the program that was called
     """
 
     said = ""
     words: List[str] = []
+    program: Optional[Program] = None
 
     def __repr__(self) -> str:
         return f"<Run: {' '.join(self.words)}>"
@@ -404,6 +409,11 @@ class Run:
     def session(self) -> bytes:
         """The session file, of save=True; `resume` takes it."""
         return self.output("save")
+
+    def past(self) -> Past:
+        """The run with all its moments, of save=True."""
+        from .past import Past
+        return Past.of_session(self.program or Program(), self.path("save"))
 
     @property
     def listing(self) -> str:

@@ -26,6 +26,7 @@ from .manifest import HEAD, files_in, program_lines, run_lines
 from .program import Ended, Program, version
 
 FORM = "beebtube result 2"
+AGAINST = "against.html"  # the ending of a page with the stored frame, too
 PAGES = ("none", "plain", "whole")
 ROOM = 134217728  # bytes: what the files of any one run fit into
 
@@ -129,7 +130,7 @@ class Store:
         for name in sorted(os.listdir(self.runs)) if os.path.isdir(self.runs) else ():
             key, ending = name.split(".", 1) if "." in name else (name, "")
             result = self.load(key) if ending == "json" and key not in used else None
-            for part in [part for part, *_ in result.parts] + ["json"] if result is not None else ():
+            for part in [part for part, *_ in result.parts] + [AGAINST, "json"] if result is not None else ():
                 if os.path.lexists(self.place(key, part)):
                     os.unlink(self.place(key, part))
                     files += 1

@@ -31,6 +31,6 @@ def serve(words: Sequence[str]) -> int:
         while True:
             client, _ = listening.accept()
             with client, client.makefile("rb") as source, client.makefile("wb") as target:
-                Adapter(source, target).serve()  # type: ignore[arg-type]
+                Adapter(source, target).serve()
 
 

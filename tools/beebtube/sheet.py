@@ -5,14 +5,16 @@ pictures of files. What is named or read is data: all of it is escaped, and file
 """
 from __future__ import annotations
 
+import os
 import re
-from typing import Dict, List, Sequence
+from typing import Dict, List, Optional, Sequence
 
 from .faults import Fault
-from .files import is_plain, read_file
-from .frame import PICTURE_CAP, box_of, lines_in
+from .files import OUTPUT_CAP, is_plain, read_file, write_beside
+from .frame import PICTURE_CAP, Frame, box_of, lines_in
 from .markup import asset, element, grouped, shown
-from .results import Store
+from .page import with_stored_frame
+from .results import AGAINST, Store
 from .table import ORDER, STATES, Row, sums_in
 
 BEGIN = "<!DOCTYPE html>\n<!-- beebtube collection 1 -->\n"
@@ -45,7 +47,7 @@ def _summary(rows: Sequence[Row]) -> str:
 
 def _card(row: Row, store: Store) -> str:
     name, result = shown(row.name), row.result
-    page = store.page(result.key) if result is not None else None
+    page = _page(row, store)
     frame = _frame(store, result.key if result is not None and result.frame else "", "The last frame of " + row.name)
     head = element("h3", '<a href="%s">%s</a>' % (page, name) if page is not None else name)
     # The frame is a second way to the page, for the mouse alone.
@@ -53,7 +55,7 @@ def _card(row: Row, store: Store) -> str:
     if row.cells["title"] or row.cells["files"]:
         parts.append(element("p", shown("%s: files %d" % (row.cells["title"] or "no title", len(row.cells["files"].split())))))
     if row.cells["differs"]:
-        parts += [_stored_frame(row, store), _differences(row)]
+        parts += [_stored_frame(row, store, stored_box(row, store)), _differences(row)]
     if row.cells["words"]:
         parts.append('<p class="quiet">%s</p>' % element("code", shown(row.cells["words"])))
     return element("li", element("article", "".join(parts), class_="card"))
@@ -66,19 +68,53 @@ def _frame(store: Store, key: str, alt: str) -> str:
     return '<span class="frame none">No frame</span>'
 
 
-# The last frame of the stored run, if it is another one and its result is here too, and where the pixels differ.
-def _stored_frame(row: Row, store: Store) -> str:
+# The last frame of the stored run, if it is another one, and where the pixels differ.
+def _stored_frame(row: Row, store: Store, told: str) -> str:
+    if not told:
+        return ""
+    frame = _frame(store, (row.stored or {})["key"], "The last frame of the stored run of " + row.name)
+    return frame + element("p", "The stored frame; pixels differ in " + told)
+
+
+def stored_box(row: Row, store: Store) -> str:
+    """The box of the pixels in which a run's last frame and that of its stored run differ; nothing if they are equal, or are not
+    both in the folder of results."""
     key = (row.stored or {}).get("key", "")
-    if not re.fullmatch("[0-9a-f]{64}", key) or row.result is None or not row.result.frame:
+    if not row.cells["differs"] or not re.fullmatch("[0-9a-f]{64}", key) or row.result is None or not row.result.frame:
         return ""
     try:
-        box = box_of(*(lines_in(read_file(store.place(it, "png"), PICTURE_CAP, plain=True))[-1] for it in (key, row.result.key)))
+        box = box_of(*(lines_in(_picture(store, it))[-1] for it in (key, row.result.key)))
     except Fault:
         return ""
-    if box is None:
-        return ""
-    told = "x %d to %d, y %d to %d" % box
-    return _frame(store, key, "The last frame of the stored run of " + row.name) + element("p", "The stored frame; pixels differ in " + told)
+    return "x %d to %d, y %d to %d" % box if box is not None else ""
+
+
+def _picture(store: Store, key: str) -> bytes:
+    return read_file(store.place(key, "png"), PICTURE_CAP, plain=True)
+
+
+def write_against(rows: Sequence[Row], store: Store) -> None:
+    """Writes for each run whose last frame differs from the stored one its page with both frames, beside its page; removes those of
+    earlier comparisons."""
+    boxes = {row.result.key: (row, box) for row in rows for box in [stored_box(row, store)] if box and row.result is not None}
+    for key in {row.result.key for row in rows if row.result is not None}:
+        place, name = store.place(key, AGAINST), store.page(key)
+        if key not in boxes or name is None:
+            if os.path.lexists(place):
+                os.unlink(place)
+            continue
+        (row, box), data = boxes[key], read_file(os.path.join(store.folder, name), OUTPUT_CAP, plain=True)
+        frames = (Frame.of_png(_picture(store, it)) for it in (key, (row.stored or {})["key"]))
+        write_beside(place, with_stored_frame(data, *frames, "Pixels differ in %s." % box), follow=False)
+
+
+# The name of a run's page below the folder: of a run whose frame differs, the one with both frames.
+def _page(row: Row, store: Store) -> Optional[str]:
+    if row.result is None:
+        return None
+    if row.cells["differs"] and is_plain(store.place(row.result.key, AGAINST)):
+        return "runs/%s.%s" % (row.result.key, AGAINST)
+    return store.page(row.result.key)
 
 
 def _told(row: Row) -> str:

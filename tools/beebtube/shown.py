@@ -49,6 +49,7 @@ class Shown:
 
     def __init__(self) -> None:
         self.past: Optional[Past] = None
+        self._debugger: Optional[Debugger] = None
         self.out = io.StringIO()
         self.sources = {side: Source() for side in SIDES}
         self._frames: List[Tuple[str, int, Optional[Frame], int]] = []
@@ -56,7 +57,7 @@ class Shown:
     @property
     def debugger(self) -> Debugger:
         """The engine and its commands; Fault before `launch`."""
-        if self.past is None:
+        if self._debugger is None:
             raise Fault("nothing is launched")
         return self._debugger
 
@@ -95,8 +96,8 @@ class Shown:
                 current = debugger.machine.current(debugger.tick)
                 if current is not None and current.registers == registers:
                     places[0] = (registers.pc, None, current.tick)
-                for _, frame in zip(range(MOST_FRAMES), debugger.frames()):
-                    places.append((frame.start.registers.pc, frame, frame.start.tick))
+                for _, it in zip(range(MOST_FRAMES), debugger.frames()):
+                    places.append((it.start.registers.pc, it, it.start.tick))
         first, told = int(given.get("startFrame") or 0), []
         for pc, frame, tick in places[first : first + int(given.get("levels") or MOST_FRAMES)]:
             self._frames.append((side, pc, frame, tick))

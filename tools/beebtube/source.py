@@ -9,7 +9,7 @@ from typing import Dict, List, NamedTuple, Optional, Tuple
 from .faults import Fault
 from .files import SOURCE_CAP, Name, read_file, read_text
 from .labels import Labels
-from .program import Program
+from .program import Part, Program
 
 FIELD = re.compile(r'(\w+)=("[^"]*"|[^,]*)')
 STATEMENT = re.compile(r"\s*(?:([A-Za-z_][A-Za-z0-9_]*)\s*:)?\s*([^;\s][^;]*)?(?:;.*)?$")
@@ -93,7 +93,7 @@ class Source:
                 if at < 65536:
                     self.symbols[row["name"].lstrip("_")] = at
 
-    def add_asm(self, program: Program, part: str, name: Name) -> None:
+    def add_asm(self, program: Program, part: Part, name: Name) -> None:
         """The lines of a source of `beebtube asm`: each statement gets a label, and the program
         itself says where they are."""
         text, numbers = [], []

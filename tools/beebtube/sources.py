@@ -48,7 +48,7 @@ class Sources:
     def __init__(self, program: Program, names: Iterable[Name]):
         """Those of all files; Fault if one has no form that is known."""
         source, labels = Source(), []
-        for name in map(os.fspath, names):
+        for name in [os.fspath(it) for it in names]:
             data = read_file(name, SOURCE_CAP * 4)
             try:
                 if data.startswith(b"version\tmajor="):

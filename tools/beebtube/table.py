@@ -195,7 +195,7 @@ def read_table(name: str) -> Dict[str, Dict[str, str]]:
     found: Dict[str, Dict[str, str]] = {}
     reader = csv.reader(io.StringIO(read_text(name, OUTPUT_CAP), newline=""))
     try:
-        heads = next(reader, [])
+        heads: List[str] = next(reader, [])
         if not set(NEEDED) <= set(heads) or len(set(heads)) < len(heads):
             raise Fault("%s is no table of results" % name)
         for cells in reader:

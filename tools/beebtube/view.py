@@ -11,6 +11,7 @@ from .naming import length_of
 
 if TYPE_CHECKING:
     from .machine import Machine
+    from .program import Part
 
 BOOT = 0xF800  # the boot ROM's first address
 # The most accesses of one instruction to the Tube.
@@ -330,7 +331,7 @@ class View:
         """Addresses and texts of `count` instructions from an address on, at most to the end of
         memory. Where the instruction under way is, its text is that of the listing."""
         data = self.bytes_at(tick, address, 3 * count + 2)
-        part = "6502" if self.side == "host" else "65c02"
+        part: Part = "6502" if self.side == "host" else "65c02"
         told: List[Tuple[int, str]] = []
         if tick <= self.past.held:
             found = self.phase(tick)

@@ -146,6 +146,38 @@ class Frames(Case):
             beebtube.Frame.of_png(beebtube.picture_of([one, other], 100))
 
 
+class Pasts(Case):
+    def test_each_moment_is_that_of_the_run(self):
+        self.pair()
+        with beebtube.run(2000, os=self.at("os"), tube=self.at("tube"), save=True) as run:
+            with run.past() as past:
+                self.assertIsInstance(past, beebtube.Past)
+                self.assertEqual((past.sides, past.end, past.second), (("host", "para"), 2000, 6000000))
+                for side, state in past.states(2000).items():
+                    self.assertEqual((state.registers, state.memory), (run.registers[side], run.memory[side]))
+                for side in past.sides:
+                    start = past.machines[side].following(1000)
+                    self.assertEqual(past.machines[side].preceding(start.tick + 1), start)
+                    self.assertEqual(past.machines[side].current(start.tick), start)
+                folder = past.folder
+            self.assertFalse(os.path.exists(folder))
+        with beebtube.run(2000, os=self.at("os"), tube=self.at("tube")) as run:
+            with self.assertRaises(beebtube.Fault):
+                run.past()
+
+    def test_a_model_b_alone(self):
+        self.pair()
+        words = ["host", "2000", "x", "--os", self.at("os")]
+        with beebtube.Past.of_words(beebtube.Program(), words) as past, beebtube.host(2000, os=self.at("os")) as run:
+            self.assertEqual(past.sides, ("host",))
+            self.assertEqual(past.machines["host"].state(2000).memory, run.host)
+
+    def test_each_public_name_is_there(self):
+        self.assertEqual([name for name in beebtube.__all__ if getattr(beebtube, name, None) is None], [])
+        with self.assertRaises(AttributeError):
+            beebtube.Futures
+
+
 # Another version has other opinions, of needless comments too.
 @unittest.skipUnless(shutil.which("mypy") and "mypy 1.0." in call(["mypy", "--version"], "/").out, "mypy 1.0 is not there")
 class Types(Case):

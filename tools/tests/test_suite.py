@@ -11,6 +11,9 @@ import re
 import shlex
 import shutil
 import subprocess
+import time
+import urllib.parse
+import xml.etree.ElementTree
 import zipfile
 
 from common import EXAMPLES, IS_ROOT, TOP, Case, beebtube, call, child_of, children_of, is_alive, put, signal, text_of, unittest, wait_until
@@ -783,6 +786,124 @@ class Against(Suite):
         self.assertEqual({line.split()[0] for line in self.lines(self.suite("--against", "stored.csv"))}, {"same"})
 
 
+class Reports(Suite):
+    def test_the_states_of_all_runs(self):
+        self.discs("good.ssd", "a<&\">#\\.ssd", "changes.ssd", "\x01\n\u200b.ssd")
+        put(self.at("discs/long.ssd"), bytes(204801))
+        self.suite(status=1)
+        os.rename(self.at("results/results.csv"), self.at("stored.csv"))
+        put(self.at("discs/changes.ssd"), b"other bytes")
+        put(self.at("discs/new.ssd"), b"new")
+        self.suite("--against", "stored.csv", "--junit", "t.xml", "--tap", "t.tap", status=1)
+        rows = self.table()
+        good = {name for name, row in rows.items() if row["state"] in ("same", "equal", "failing")}
+        self.assertEqual(set(rows) - good, {"changes.ssd", "new.ssd"})
+        suite = xml.etree.ElementTree.parse(self.at("t.xml")).getroot()[0]
+        self.assertEqual({name: suite.get(name) for name in ("name", "tests", "failures")},
+                         {"name": "discs", "tests": "6", "failures": "2"})
+        self.assertEqual([case.get("name") for case in suite], list(rows))
+        self.assertEqual({case.get("name") for case in suite if not len(case)}, good)
+        self.assertEqual([(it.get("type"), it.get("message")) for case in suite for it in case],
+                         [("differs", "differs changes.ssd: d0 read:disc0.ssd"), ("new", "new new.ssd")])
+        for case in suite:
+            self.assertEqual("%.3f" % float(case.get("time")), rows[case.get("name")]["seconds"])
+        lines = text_of(self.at("t.tap")).decode().splitlines()
+        self.assertEqual(lines[:2], ["TAP version 13", "1..6"])
+        named = [re.fullmatch("(ok|not ok) ([0-9]+) - (.*)", line) for line in lines]
+        named = [match.groups() for match in named if match]
+        told = [("ok" if name in good else "not ok", str(number), name.replace("\\", "\\\\").replace("#", "\\#"))
+                for number, name in enumerate(rows, 1)]
+        self.assertEqual(named, told)
+
+    def test_a_file_that_is_read_stays(self):
+        self.discs("good.ssd")
+        put(self.at("list.csv"), b"name,disc0\na,discs/good.ssd\n")
+        for option in ("--junit", "--tap"):
+            done = self.suite(option, "list.csv", name="list.csv", status=1)
+            self.assertIn("list.csv is read too, and is not written over", done.err)
+            self.assertIn("results/results.csv is read too", self.suite(option, "results/results.csv", status=1).err)
+        self.assertEqual(text_of(self.at("list.csv")), b"name,disc0\na,discs/good.ssd\n")
+        self.assertEqual(len(self.table()), 1)
+
+    @unittest.skipUnless(shutil.which("prove"), "prove is not there")
+    def test_another_program_reads_it(self):
+        self.discs("good.ssd", "skip # SKIP.ssd", "todo # TODO x.ssd")
+        put(self.at("discs/long # SKIP.ssd"), bytes(204801))
+        self.suite("--tap", "t.tap", status=1)
+        done = call(["prove", "--exec", "cat", "t.tap"], self.folder)
+        self.assertIn("Failed 1/4 subtests", done.out)
+
+
+class Crates(Suite):
+    def crate(self, folder):
+        """The entities of a folder's metadata, by their ids; each reference has one."""
+        text = json.loads(text_of(self.at(folder + "/ro-crate-metadata.json")).decode())
+        graph = text["@graph"]
+        found = {entity["@id"]: entity for entity in graph}
+        self.assertEqual(len(found), len(graph))
+        self.assertEqual(text["@context"][0], "https://w3id.org/ro/crate/1.1/context")
+        self.assertEqual((found["ro-crate-metadata.json"]["about"], found["ro-crate-metadata.json"]["conformsTo"]),
+                         ({"@id": "./"}, {"@id": "https://w3id.org/ro/crate/1.1"}))
+        for entity in graph:
+            for name, value in entity.items():
+                for it in value if isinstance(value, list) and name != "identifier" else ():
+                    self.assertIn(it["@id"], found)
+        return found
+
+    def test_each_file_of_a_suite_with_its_checksum(self):
+        self.discs("one.ssd", "a <b>\n#%41.ssd")
+        put(os.fsencode(self.at("discs/")) + b"\xff.ssd", b"bytes")
+        put(self.at("discs/long.ssd"), bytes(204801))
+        self.suite("--keep", "kept", status=1)
+        self.tool("manifest", "--crate", "kept", env={"SOURCE_DATE_EPOCH": "86400"})
+        first = text_of(self.at("kept/ro-crate-metadata.json"))
+        found = self.crate("kept")
+        parts = {urllib.parse.unquote_to_bytes(it["@id"]): found[it["@id"]] for it in found["./"]["hasPart"]}
+        top = os.fsencode(self.at("kept"))
+        here = {os.path.relpath(os.path.join(at, name), top) for at, _, names in os.walk(top) for name in names}
+        self.assertEqual(set(parts), here - {b"ro-crate-metadata.json"})
+        for name, entity in parts.items():
+            data = text_of(os.path.join(top, name))
+            self.assertEqual((entity["sha256"], entity["contentSize"]), (hashlib.sha256(data).hexdigest(), str(len(data))))
+        runs = {found[it["@id"]]["name"]: found[it["@id"]] for it in found["./"]["mentions"]}
+        self.assertEqual(sorted(runs), ["\\xff.ssd", "a <b>\\x0a#%41.ssd", "long.ssd", "one.ssd"])
+        ends = {name: run["actionStatus"].rpartition("/")[2] for name, run in runs.items()}
+        self.assertEqual({name for name, end in ends.items() if end != "CompletedActionStatus"}, {"long.ssd"})
+        self.assertEqual(runs["long.ssd"]["error"], "status 3\nbad image disc0 204801")
+        one = runs["one.ssd"]
+        self.assertEqual([it["@id"] for it in one["object"]], ["one.ssd/os", "one.ssd/tube", "one.ssd/disc0.ssd"])
+        self.assertIn({"@id": "one.ssd/out.report"}, one["result"])
+        self.assertEqual(one["description"], "beebtube run 2000 out --os os --tube tube --disc0 disc0.ssd")
+        self.assertEqual(found["./"]["datePublished"], "1970-01-02")
+        self.tool("manifest", "--crate", "kept", env={"SOURCE_DATE_EPOCH": "86400"})
+        self.assertEqual(text_of(self.at("kept/ro-crate-metadata.json")), first)
+
+    def test_a_manifest_by_itself(self):
+        self.pair()
+        words = ("replay", "host", os.devnull, "2000", "x", "--os", "os", "--no-tube")
+        put(self.at("m"), self.tool("manifest", *words).out.encode())
+        self.tool("manifest", "--crate", "m")
+        found = self.crate(".")
+        self.assertEqual({it["@id"] for it in found["./"]["hasPart"]}, {"m", "os", "x.host", "x.report"})
+        empty = hashlib.sha256(b"").hexdigest()
+        self.assertEqual(found["#sha256-" + empty]["name"], os.devnull)
+        self.assertIn({"@id": "#sha256-" + empty}, found["#run-m"]["object"])
+
+    def test_what_is_not_here_is_refused(self):
+        self.discs("one.ssd")
+        self.suite("--keep", "kept")
+        put(self.at("kept/one.ssd/out.host"), b"other bytes")
+        self.assertIn("kept/one.ssd/out.manifest has another checksum", self.tool("manifest", "--crate", "kept", status=1).err)
+        os.unlink(self.at("kept/one.ssd/out.host"))
+        self.assertIn("one.ssd/out.host is not here", self.tool("manifest", "--crate", "kept", status=1).err)
+        self.assertFalse(os.path.exists(self.at("kept/ro-crate-metadata.json")))
+        self.assertIn("has no run", self.tool("manifest", "--crate", "discs", status=1).err)
+        os.mkdir(self.at("own"))
+        put(self.at("own/ro-crate-metadata.json"), b"{}")
+        put(self.at("own/m"), self.tool("manifest", "gen", "1").out.encode())
+        self.assertIn("is not written over", self.tool("manifest", "--crate", "own/m", status=1).err)
+
+
 class Elsewhere(Suite):
     def jobs(self, *more, **how):
         return self.suite("--jobs", *more, **how).out.splitlines()
@@ -932,7 +1053,32 @@ class Sheet(Suite):
         frames = [lines_in(text_of(self.at("results/" + it["src"])))[0] for it in pictures[:2]]
         places = [(x, y) for y in range(256) for x in range(640)
                   if (frames[0][642 * y + 1 + x // 2] ^ frames[1][642 * y + 1 + x // 2]) >> (0 if x % 2 else 4) & 15]
-        self.assertIn("pixels differ in x %d to %d, y %d to %d" % (min(x for x, _ in places), max(x for x, _ in places), places[0][1], places[-1][1]), self.page())
+        box = "x %d to %d, y %d to %d" % (min(x for x, _ in places), max(x for x, _ in places), places[0][1], places[-1][1])
+        self.assertIn("pixels differ in " + box, self.page())
+        # The run's own page has both frames, and the pixels that differ.
+        links = [attributes.get("href", "") for tag, attributes in self.Reader(self.page()).elements if tag == "a"]
+        name, = {it for it in links if it.endswith(".against.html")}
+        page = self.page("results/" + name)
+        self.assertIn("Pixels differ in %s." % box, page)
+        section = self.Reader(page.partition('<section id="against"')[2].partition("</section>")[0])
+        shown = [attributes for tag, attributes in section.elements if tag == "img"]
+        self.assertEqual([it["alt"] for it in shown], ["The last frame " + what for what in (
+            "of this run", "of the stored run", "with the pixels that differ in white")])
+        drawn = [beebtube.Frame.of_png(base64.b64decode(it["src"].partition(",")[2])) for it in shown]
+        whole = [beebtube.Frame.of_png(text_of(self.at("results/" + it["src"]))) for it in pictures[:2]]
+        self.assertEqual(drawn, [*whole, whole[0].difference(whole[1])])
+        self.assertIn(("a", {"href": "#against"}), self.Reader(page).elements)
+        self.assertEqual(page.replace(page[page.index('\n<section id="against"') : page.index("\n</main>")], "")
+                         .replace('<li><a href="#against">Against the stored run</a></li>', ""),
+                         self.page("results/" + name.replace(".against", "")))
+        # Nothing of it is left once nothing differs, and once its result goes.
+        self.suite("--shot", ticks="2000000", words=words)
+        self.assertEqual(self.runs("against.html"), [])
+        self.suite("--shot", "--against", "stored.csv", ticks="2000000", words=words, status=1)
+        self.assertEqual(len(self.runs("against.html")), 1)
+        os.unlink(self.at("discs/a.keys"))
+        self.suite("--shot", "--clear", ticks="2000000", words=words)
+        self.assertEqual(self.runs("against.html"), [])
 
     def test_all_can_be_reached_and_is_named(self):
         self.discs("a.ssd", "b.ssd")
