@@ -11,7 +11,6 @@ import re
 import shlex
 import shutil
 import subprocess
-import time
 import urllib.parse
 import xml.etree.ElementTree
 import zipfile
