@@ -158,7 +158,7 @@ def look_at_place(name: Name) -> None:
             found = file.read(len(begin) + 20 + len(palette))
         # The part `acTL` of a moving picture, 20 bytes, may come before its colours.
         if found and not (found.startswith(begin) and found[len(begin) :].startswith((palette, b"\0\0\0\10acTL"))):
-            raise Fault("%s is there, and is no picture that was made here: it is not written over" % os.fspath(name))
+            raise Fault("%s is there, and is no picture that was made here: it is not overwritten" % os.fspath(name))
 
 
 # The parts of a picture, by their names; Fault where it ends inside one, or a part has another sum.
@@ -172,7 +172,7 @@ def _parts_of(picture: bytes, name: str) -> Iterator[Tuple[bytes, bytes]]:
         if len(data) != size or len(sum_there) != 4:
             raise Fault("%s is cut" % name)
         if struct.unpack(">I", sum_there)[0] != zlib.crc32(kind + data):
-            raise Fault("%s has a part %s with another sum" % (name, kind.decode("latin-1") if kind.isalpha() else "without a name"))
+            raise Fault("%s has a part %s with another checksum" % (name, kind.decode("latin-1") if kind.isalpha() else "without a name"))
         yield kind, data
         place += 12 + size
 
