@@ -132,6 +132,8 @@ class Program:
     """A program in a folder that has all that the runs read."""
 
     def __init__(self, program, folder):
+        if not shutil.which("valgrind"):
+            stop("valgrind is not installed: it counts the instructions")
         self.program, self.folder = os.path.realpath(program), folder
         self.put("empty", b"")
         self.put("empty4", b"T2\n")
@@ -198,8 +200,6 @@ class Program:
 
 def counted(program):
     """The rows of counts: `cycle` and `access`."""
-    if not shutil.which("valgrind"):
-        stop("valgrind is not installed: it counts the instructions")
 
     def cycles(row):
         _, key, length, words = row
