@@ -154,7 +154,7 @@ def _execute(words: List[str]) -> int:
             what = "a folder" if os.path.isdir(name) else "in no folder"
             raise Fault(f"cannot write {name}: it is {what}")
         if any(same_file(name, it) for it in read):
-            raise Fault(f"{name} is an input too, and is not overwritten")
+            raise Fault(f"{name} is read too, and is not written over")
     arguments = [os.fsencode(word) for word in rest]
     runner = Runner(Program(), images, arguments, speed, given.keys, given.font)
     try:

@@ -213,7 +213,7 @@ def write_beside(name: Name, data: Union[bytes, str, Iterable[bytes]], reads: It
     shown = os.fspath(name)
     for read in reads:
         if same_file(name, read):
-            raise Fault("%s is an input too, and is not overwritten" % shown)
+            raise Fault("%s is read too, and is not written over" % shown)
     if isinstance(data, str):
         data = data.encode("utf-8", "surrogateescape")
     blocks = [data] if isinstance(data, bytes) else data
@@ -235,7 +235,7 @@ def write_beside(name: Name, data: Union[bytes, str, Iterable[bytes]], reads: It
             return
         place = os.path.realpath(name) if follow else os.path.abspath(name)
         if found is not None and not os.access(place, os.W_OK):
-            raise Fault("cannot write %s: it may not be written" % shown)
+            raise Fault("cannot write %s: it is not to be written" % shown)
         _write_new(place, blocks, None if found is None else stat.S_IMODE(found.st_mode), sync)
     except (OSError, ValueError) as error:
         raise writing_fault(name, error) from None

@@ -16,7 +16,7 @@ HERE = os.path.dirname(os.path.realpath(__file__))
 
 
 def shown(text: str) -> str:
-    """A text of somebody else as a page may have it: what cannot be shown is `?`, and signs of HTML are escaped."""
+    """A text of somebody else as it may stand in a page: what cannot be shown is `?`, and signs of HTML are escaped."""
     return html.escape("".join(letter if letter.isprintable() else "?" for letter in text))
 
 
@@ -46,6 +46,6 @@ def small(data: bytes) -> str:
 
 @functools.lru_cache(maxsize=None)
 def asset(*names: str) -> Tuple[str, str]:
-    """The texts of files of this folder, one after the other, and their checksum as a page's policy has it."""
+    """The texts of files of this folder, one behind the other, and their sum as a page's policy has it."""
     text = "".join(read_text(os.path.join(HERE, name)) for name in names)
     return text, "'sha256-%s'" % base64.b64encode(hashlib.sha256(text.encode()).digest()).decode()

@@ -93,7 +93,7 @@ class Store:
         except OSError as error:
             raise Fault("cannot write %s: %s" % (self.folder, error.strerror)) from None
         if not os.access(self.runs, os.W_OK | os.X_OK):
-            raise Fault("cannot write %s: it may not be written" % self.runs)
+            raise Fault("cannot write %s: it is not to be written" % self.runs)
 
     def place(self, key: str, ending: str) -> str:
         return os.path.join(self.runs, "%s.%s" % (key, ending))
@@ -352,22 +352,22 @@ def _look_at_kept(place: str, inputs: Iterable[Input]) -> None:
     if not os.path.lexists(place):
         return
     if os.path.islink(place) or not os.path.isdir(place):
-        raise Fault("%s is there, and is no folder: it is not overwritten" % place)
+        raise Fault("%s is there, and is no folder: it is not written over" % place)
     try:
         lines = read_text(os.path.join(place, "out.manifest"), plain=True).splitlines()
     except Fault:
         lines = []
     if lines[:1] != [HEAD]:
-        raise Fault("%s is there, and no run was kept in it: it is not overwritten" % place)
+        raise Fault("%s is there, and no run was kept in it: it is not written over" % place)
     known = {name: told for _, name, told in files_in(lines) if OWN_NAME.fullmatch(name)}
     for name in _all_below(place):
         file = os.path.join(place, name)
         if name != "out.manifest" and (name not in known or not is_plain(file) or os.path.islink(file) or str(sum_of(file, None)) != known[name]):
-            raise Fault("%s has %s, which is no file that a run left there: it is not overwritten" % (place, name))
+            raise Fault("%s has %s, which is no file that a run left there: it is not written over" % (place, name))
     real = os.path.realpath(place) + "/"
     for it in inputs:
         if it.path is not None and os.path.realpath(it.path).startswith(real):
-            raise Fault("%s has %s, which is read too: it is not overwritten" % (place, os.path.basename(it.path)))
+            raise Fault("%s has %s, which is read too: it is not written over" % (place, os.path.basename(it.path)))
 
 
 def _all_below(folder: str) -> List[str]:

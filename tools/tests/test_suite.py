@@ -122,7 +122,7 @@ class Running(Suite):
         os.makedirs(self.at("kept/a.ssd"))
         put(self.at("kept/a.ssd/own"), b"own")
         done = self.suite("--keep", "kept", status=1)
-        self.assertIn("it is not overwritten", self.lines(done)[0])
+        self.assertIn("it is not written over", self.lines(done)[0])
         self.assertEqual(self.lines(done)[1], "done b.ssd")
         self.assertEqual(text_of(self.at("kept/a.ssd/own")), b"own")
         self.assertEqual(sorted(os.listdir(self.at("kept"))), ["a.ssd", "b.ssd"])
@@ -137,7 +137,7 @@ class Running(Suite):
         def refused(words=WORDS):
             before = {name: text_of(self.at("kept/a.ssd/" + name)) for name in os.listdir(self.at("kept/a.ssd"))}
             told = self.suite("--keep", "kept", status=1, words=words).out
-            self.assertIn("it is not overwritten", told)
+            self.assertIn("it is not written over", told)
             self.assertEqual({name: text_of(self.at("kept/a.ssd/" + name)) for name in os.listdir(self.at("kept/a.ssd"))}, before)
             self.assertEqual(os.listdir(self.at("kept")), ["a.ssd"])
             return told
@@ -381,7 +381,7 @@ class Running(Suite):
         os.mkdir(self.at("results"))
         for name in ("results.csv", "index.html"):
             put(self.at("results/" + name), b"my own")
-            self.assertIn("it is not overwritten", self.suite(status=1).err)
+            self.assertIn("it is not written over", self.suite(status=1).err)
             self.assertEqual(text_of(self.at("results/" + name)), b"my own")
             os.unlink(self.at("results/" + name))
         self.suite()
@@ -783,7 +783,7 @@ class Against(Suite):
         os.symlink("results/results.csv", self.at("link.csv"))
         good = text_of(self.at("results/results.csv"))
         for name in ("results/results.csv", "link.csv"):
-            self.assertIn("is not overwritten", self.suite("--against", name, status=1).err)
+            self.assertIn("is not written over", self.suite("--against", name, status=1).err)
         self.assertEqual(text_of(self.at("results/results.csv")), good)
 
     def test_cells_are_data_for_a_sheet(self):
