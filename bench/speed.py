@@ -12,6 +12,7 @@
 
 It needs valgrind. The counts are the same under any load; the times are not, so the page has the
 load. Each run has a limit, so that a busy computer needs at most about ten minutes.
+BEEBTUBE_RELEASE=FOLDER takes another folder in place of release/.
 """
 import concurrent.futures
 import csv
@@ -31,7 +32,7 @@ import threading
 import time
 
 TOP = os.path.dirname(os.path.dirname(os.path.realpath(__file__)))
-RELEASE = TOP + "/release/beebtube"
+RELEASE = os.environ.get("BEEBTUBE_RELEASE") or TOP + "/release"
 ROWS, HISTORY = TOP + "/bench/speed.csv", TOP + "/bench/history.csv"
 PAGE, README = TOP + "/docs/SPEED.md", TOP + "/README.md"
 SECOND = 6000000
@@ -131,6 +132,8 @@ class Program:
     """A program in a folder that has all that the runs read."""
 
     def __init__(self, program, folder):
+        if not shutil.which("valgrind"):
+            stop("valgrind is not installed: it counts the instructions")
         self.program, self.folder = os.path.realpath(program), folder
         self.put("empty", b"")
         self.put("empty4", b"T2\n")
@@ -197,8 +200,6 @@ class Program:
 
 def counted(program):
     """The rows of counts: `cycle` and `access`."""
-    if not shutil.which("valgrind"):
-        stop("valgrind is not installed: it counts the instructions")
 
     def cycles(row):
         _, key, length, words = row
@@ -458,7 +459,7 @@ def check():
              for it, text in pages(numbers).items() if text_of(it) != text]
     for fact, file, what in (("program", "sum", "another program"),
                              ("sources", "sources", "other sources")):
-        if numbers.facts[fact] != text_of("%s/release/%s" % (TOP, file)).split()[0]:
+        if numbers.facts[fact] != text_of("%s/%s" % (RELEASE, file)).split()[0]:
             wrong.append("bench/speed.csv is of %s than release/%s: bench/speed.py --write"
                          % (what, file))
     with open(HISTORY, encoding="utf-8", newline="") as it:
@@ -470,10 +471,10 @@ def check():
 
 def main(words):
     if words == ["--write"]:
-        if sum_of(RELEASE) != text_of(TOP + "/release/sum").strip():
+        if sum_of(RELEASE + "/beebtube") != text_of(RELEASE + "/sum").strip():
             stop("release/beebtube does not have the checksum of release/sum")
-        rows = measured(RELEASE, text_of(TOP + "/VERSION").strip(), time.strftime("%Y-%m-%d"),
-                        text_of(TOP + "/release/sources").split()[0])
+        rows = measured(RELEASE + "/beebtube", text_of(TOP + "/VERSION").strip(), time.strftime("%Y-%m-%d"),
+                        text_of(RELEASE + "/sources").split()[0])
         made = pages(Numbers(rows))
         write(ROWS, lines_of(rows))
         add_to_history(Numbers(rows))

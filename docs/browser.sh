@@ -1,11 +1,11 @@
 #!/usr/bin/env bash
-# Opens the pages of three runs in Chromium without a window, presses their buttons, and compares what stands there with what the program and the
+# Opens the pages of three runs in Chromium without a window, presses their buttons, and compares their texts with what the program and the
 # tools say: a typed text, a sound with a disc, and a run whose names and files try to be more than data. Then the contact sheet of a collection, with
 # a run that differs, one that fails, and one whose name tries to be more than data.
 #
 #   docs/browser.sh                   compares; status 1 where something differs, 77 where no browser is installed (Debian's package is `chromium`)
 #   docs/browser.sh pictures FOLDER   leaves pictures of the pages too: light, dark and narrow, and one page as it is printed
-#   docs/browser.sh make              makes docs/page.png and docs/sheet.png anew
+#   docs/browser.sh make              makes docs/page.png and docs/sheet.png again
 set -u
 top=$(cd "$(dirname "$(readlink -f "$0")")/.." && pwd)
 how=${1:-compare} folder=${2:-}
@@ -46,7 +46,7 @@ picture() { # PAGE STEPS FILE WIDTH HEIGHT WORD ..
     timeout 300 "$browser" "${flags[@]}" --window-size="$4,$5" --screenshot="$3" "${@:6}" "$(address_of "$1" "$2")" >told 2>&1
 }
 
-# What stands in an element of `dom`: its text, or an attribute.
+# What an element of `dom` has: its text, or an attribute.
 inside() { # ID [ATTRIBUTE]
     python3 - "$@" <<'PY'
 import html.parser
@@ -82,7 +82,7 @@ wants() { # WHAT ID WANTED
     compare "$1" "$3" "$(inside "$2")"
 }
 
-# A page is whole where its script came to its end, told no fault, and nothing is wider than the window.
+# A page is whole if its script came to its end, reported no fault, and nothing is wider than the window.
 whole() { # WHAT
     compare "$1: the script's end" yes "$(inside html data-ready)"
     compare "$1: faults" '' "$(inside fault)"

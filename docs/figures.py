@@ -16,7 +16,7 @@ TOP = os.path.dirname(os.path.dirname(os.path.realpath(__file__)))
 # -- What the figures say --
 
 # The clocks of laziness, from the one that contracts see to those that lag most: the name, the crate and the field, how far
-# it is on the axis from 0 to 100 and behind or ahead of which place, what it is, and what moves it on. The access is at NOW,
+# it is on the axis from 0 to 100 and after or ahead of which place, what it is, and what moves it on. The access is at NOW,
 # the devices are stepped up to NEXT.
 NOW, NEXT = 92, 64
 CLOCKS = [
@@ -44,7 +44,7 @@ PARA = [
     (70, 82, "roll_back", "back to the mark, on to the access", "act"),
     (82, 100, "advance_to_ask", "goes on from there", "work"),
 ]
-# What goes from one to the other: from the host, from which place to which, how wide the text is, the function, what it tells.
+# What goes from one to the other: from the host, from which place to which, how wide the text is, the function, what it says.
 WORDS = [
     (False, 22, 27, 18, "publish_and_entrust", "all events, the mark as horizon, and trust up to the stride's end"),
     (False, 48, 51, 14, "entrust", "the second stride, in one exchange"),

@@ -12,7 +12,7 @@ import zlib
 
 TOP = os.path.dirname(os.path.dirname(os.path.realpath(__file__)))
 
-# The keyboard as it stands on the table: for each row how far in it begins, and its keys with their widths, in
+# The keyboard as it is on the table: for each row how far in it begins, and its keys with their widths, in
 # units of a key. A key that is no part of the matrix has no number.
 ROWS = [
     (3, [("f%d" % n, 1) for n in range(10)] + [("BREAK", 1.5)]),
@@ -60,7 +60,7 @@ class Picture:
     # A text in the middle of x, each dot of a letter `wide` by `high`.
     def text(self, x, y, text, wide, high, colour):
         left = x - len(text) * 6 * wide // 2
-        # In teletext # and _ stand at other codes.
+        # In teletext # and _ have other codes.
         for at, letter in enumerate(text.replace("_", "\x60")):
             for row, bits in enumerate(self.shapes[ord(letter) - 32]):
                 for dot in range(6):

@@ -115,7 +115,7 @@ class Option:
         text = TEXTS[self.word][1]
         return text + ("; it is " + self.value_text() if self.value_text() else "")
 
-    # The words that stand for it among others.
+    # The words that name it among others.
     def shown(self):
         value = TEXTS[self.word][0]
         return self.word + (" " + value if value else "")
@@ -313,7 +313,7 @@ def faults_of_words(options):
     return [word for word in sorted(set(wanted) | set(got)) if wanted.get(word) != got.get(word)] + sorted(commands ^ set(words.COMMANDS))
 
 
-# The page with its list between the two marks made anew.
+# The page with a new list between the two marks.
 def page_of(text, options):
     return re.sub(r"(<!-- options, made by docs/options.py -->\n).*?(<!-- end -->)",
                   lambda found: found.group(1) + list_of(options) + "\n" + found.group(2), text, flags=re.S)

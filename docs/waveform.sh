@@ -1,5 +1,5 @@
 #!/usr/bin/env bash
-# Makes scale.png of this folder anew: what examples/scale-os.asm plays, as the program writes it. With the word `check` it tells if the picture
+# Makes scale.png of this folder again: what examples/scale-os.asm plays, as the program writes it. With the word `check` it reports if the picture
 # shows something else, and ends with 1 then. It needs python3, of which zlib packs the bytes. The strips are, from the top: the whole 2.6 seconds,
 # the least and the greatest sample of each column; 20 milliseconds of the first tone; and 20 milliseconds of the noise.
 set -eu

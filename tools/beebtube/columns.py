@@ -259,11 +259,11 @@ def told(columns: Columns, waits: Waits) -> List[str]:
     for code, places in sorted(empty.items(), key=lambda item: (item[0] & 7, item[0])):
         lines.append("%s reads register %d while it is empty: %d" % (SHORT[code // PARA], code // 2 % 4 + 1, len(places)))
     for (side, register, kind), found in sorted(waits.waits.items()):
-        lines.append("%s waits for %s in register %d: %d, looks %d, %s, longest %s" % (
+        lines.append("%s waits for %s in register %d: %d, polls %d, %s, longest %s" % (
             SHORT[side], kind, register + 1, len(found), sum(it.looks for it in found), us(sum(it.last - it.first for it in found)),
             us(max(it.last - it.first for it in found))))
     for (side, register), it in sorted(waits.at_end.items()):
-        lines.append("%s waits at the end at register %d: looks %d, %s" % (SHORT[side], register + 1, it.looks, us(it.last - it.first)))
+        lines.append("%s waits at the end at register %d: polls %d, %s" % (SHORT[side], register + 1, it.looks, us(it.last - it.first)))
     return lines
 
 

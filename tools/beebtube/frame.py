@@ -172,7 +172,7 @@ def _parts_of(picture: bytes, name: str) -> Iterator[Tuple[bytes, bytes]]:
         if len(data) != size or len(sum_there) != 4:
             raise Fault("%s is cut" % name)
         if struct.unpack(">I", sum_there)[0] != zlib.crc32(kind + data):
-            raise Fault("%s has a part %s with another sum" % (name, kind.decode("latin-1") if kind.isalpha() else "without a name"))
+            raise Fault("%s has a part %s with another checksum" % (name, kind.decode("latin-1") if kind.isalpha() else "without a name"))
         yield kind, data
         place += 12 + size
 

@@ -69,7 +69,7 @@ def read_set(name: str) -> List[Tuple[str, str]]:
         if file is not None:
             digits = sum_of(file, IMAGE_CAP).digits
             if len(parts) == 3 and parts[2] != digits:
-                raise Fault("%s has the sum %s, not %s" % (file, digits, shown(parts[2])))
+                raise Fault("%s has the checksum %s, not %s" % (file, digits, shown(parts[2])))
         found.append((option, value if file is None else file))
     if not found:
         raise Fault("%s has no arguments" % name)

@@ -223,8 +223,9 @@ class Speed(Case):
     def sum(self):
         put(self.at("release/sum"), hashlib.sha256(text_of(self.at("release/beebtube"))).hexdigest().encode() + b"\n")
 
-    def speed(self, *words, status):
-        done = call([self.at("bench/speed.py"), *words], self.folder, env={"PATH": self.at("bin") + ":" + os.environ["PATH"]})
+    def speed(self, *words, status, **env):
+        env = {"BEEBTUBE_RELEASE": "", "PATH": self.at("bin") + ":" + os.environ["PATH"], **env}
+        done = call([self.at("bench/speed.py"), *words], self.folder, env=env)
         self.assertEqual(done.status, status, done.out + done.err)
         return done
 
@@ -257,6 +258,14 @@ class Speed(Case):
         self.assertIn("bench/speed.csv is of another program than release/sum: bench/speed.py --write", self.speed("check", status=1).err)
         put(self.at("release/sources"), b"beef  -\n")
         self.assertIn("bench/speed.csv is of other sources than release/sources", self.speed("check", status=1).err)
+
+    def test_the_release_of_another_folder(self):
+        """A copy whose release/ has a program of edited sources is compared with the shipped one."""
+        self.speed("--write", status=0)
+        shutil.copytree(self.at("release"), self.at("shipped"))
+        put(self.at("release/sum"), b"dead\n")
+        self.speed("check", status=1)
+        self.speed("check", status=0, BEEBTUBE_RELEASE=self.at("shipped"))
 
     def pages(self):
         return {name: text_of(self.at(name)) for name in ("README.md", "docs/SPEED.md", "bench/speed.csv", "bench/history.csv")}

@@ -45,7 +45,7 @@ class Compared(Case):
 
         for picture, wanted in ((other(b"IHDR", lambda data: struct.pack(">I", 320) + data[4:]), "another size"), (other(b"PLTE", lambda data: b"\1" + data[1:]), "other colours"),
                                 (other(b"PLTE", lambda data: data[:-3]), "other colours"), (self.picture[:-6] + b"x" + self.picture[-5:], "a part"),
-                                (self.picture[:100] + bytes([self.picture[100] ^ 1]) + self.picture[101:], "another sum"), (self.picture[:-1], "cut"), (self.picture[:60], "cut"),
+                                (self.picture[:100] + bytes([self.picture[100] ^ 1]) + self.picture[101:], "another checksum"), (self.picture[:-1], "cut"), (self.picture[:60], "cut"),
                                 (whole(self.parts[:-1]), "no picture that"), (whole(self.parts[1:]), "no picture that"), (whole([it for it in self.parts if it[0] != b"PLTE"]), "no picture that"),
                                 (other(b"IDAT", lambda data: data[:-5]), "no picture that"), (b"GIF89a", "no picture")):
             with self.assertRaisesRegex(Fault, wanted):
