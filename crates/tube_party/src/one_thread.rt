@@ -119,20 +119,20 @@ fn act<M: Party>(
     }
 }
 
-/// Whether a party whose step asks this next may go ahead from there: past a look, or what it `reads`.
+/// Whether a party whose step asks this next may go ahead by a stride: past a look, or past a read of its status if the stride is long enough.
 #[inline(always)]
-fn may_go_ahead(ask: Ask, reads: bool) -> bool
+fn may_go_ahead(ask: Ask, stride: u64) -> bool
     ensures { result ≡ true → ask ≢ Ask.Nothing }
 {
     match ask {
         Ask::Nothing => false,
-        Ask::Look(_) => true,
-        Ask::Access(_, op) => reads && is_status(op),
+        Ask::Look(_) => stride >= FEWEST,
+        Ask::Access(_, op) => stride >= TRUSTED && is_status(op),
     }
 }
 
-/// Goes ahead from what is asked next: past all that the chip shows it below `ahead`, and its status too, if it `reads` that, where its notes allow. True if
-/// it is ahead, and what is asked then.
+/// Goes ahead from what is asked next: past all that the chip shows it below `ahead`, and its status too, if the stride is long enough, where its notes
+/// allow. True if it is ahead, and what is asked then.
 #[inline(always)]
 fn go_ahead<M: Rewinds>(
     machine: &mut M,
@@ -142,7 +142,7 @@ fn go_ahead<M: Rewinds>(
     lines: &Lines,
     ask: Ask,
     ahead: Tick,
-    reads: bool,
+    stride: u64,
 ) -> (bool, Ask)
     requires { n.0 ≤ MOST }
     ensures { let old = attended table.old in
@@ -153,8 +153,8 @@ fn go_ahead<M: Rewinds>(
     table.turn = Side::Para;
     table.sure = ahead;
     table.is_read = true;
-    table.is_open = reads;
-    if !may_go_ahead(ask, reads) {
+    table.is_open = stride >= TRUSTED;
+    if !may_go_ahead(ask, stride) {
         return (false, ask);
     }
     match machine.advance_noting(n, lines, ahead, past, table) {
@@ -224,7 +224,7 @@ fn seen_until<H: Party>(host: &H, chip: &Chip, n: Tick, sure: Tick) -> Tick
     }
 }
 
-/// The fewest ticks that the parasite goes ahead.
+/// The fewest ticks that the parasite goes ahead. A shorter stride only grows: after several cuts the parasite stays for some turns.
 const FEWEST: u64 = 16;
 
 /// The most of them.
@@ -282,7 +282,7 @@ pub fn go_on_from<H: Party, P: Rewinds>(
                     let at = tick_of(host_ask);
                     para_ask = roll_back(&mut para, &mut past, &mut table, n, &lines, at, mark);
                     is_ahead = false;
-                    stride = (stride / 8).max(FEWEST);
+                    stride /= 8;
                     continue;
                 }
                 act(
@@ -318,11 +318,10 @@ pub fn go_on_from<H: Party, P: Rewinds>(
                 let asked = para.advance_at(n, &lines, sure, &mut table);
                 mark = table.para_log.mark();
                 let ahead = Tick(tick_of(asked).0.saturating_add(stride));
-                let reads = stride >= TRUSTED;
                 (is_ahead, para_ask) = go_ahead(
-                    &mut para, &mut past, &mut table, n, &lines, asked, ahead, reads,
+                    &mut para, &mut past, &mut table, n, &lines, asked, ahead, stride,
                 );
-                stride = stride.saturating_add(stride / 4).min(FURTHEST);
+                stride = stride.saturating_add(stride / 4 + 1).min(FURTHEST);
             }
         }
     }
