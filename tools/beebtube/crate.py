@@ -19,7 +19,8 @@ from .words import shown
 from .words import told as told_name
 
 METADATA = "ro-crate-metadata.json"
-CONTEXT = ["https://w3id.org/ro/crate/1.1/context", {"sha256": "https://schema.org/sha256"}]
+CRATE = "https://w3id.org/ro/crate/1.1"
+CONTEXT = [CRATE + "/context", {"sha256": "https://schema.org/sha256"}]
 FORMATS = {".png": "image/png", ".wav": "audio/wav", ".ppm": "image/x-portable-pixmap",
            ".report": "text/plain", ".trace": "text/plain", ".manifest": "text/plain"}
 ENDS = "http://schema.org/%sActionStatus"
@@ -55,7 +56,8 @@ class Crate:
         not here, or differs."""
         manifest = Manifest(os.path.join(self.folder, name), {})
         begin = os.path.dirname(name)
-        reads, wrote = [], []
+        reads: List[Entity] = []
+        wrote: List[Entity] = []
         for kind, file, wanted in manifest.files:
             entity = self._file(begin, file, wanted, manifest)
             (reads if kind == "read" else wrote).append(entity)
@@ -116,7 +118,7 @@ class Crate:
             "mentions": _reference(*self.runs)}
         about: Entity = {
             "@id": METADATA, "@type": "CreativeWork", "about": {"@id": "./"},
-            "conformsTo": {"@id": "https://w3id.org/ro/crate/1.1"},
+            "conformsTo": {"@id": CRATE},
             "description": f"Written by beebtube {version}"}
         graph = [about, root, *self.runs, *(self.files[name] for name in names), *self.others.values()]
         return json.dumps({"@context": CONTEXT, "@graph": graph}, indent=1, ensure_ascii=False) + "\n"

@@ -104,8 +104,8 @@ def write_against(rows: Sequence[Row], store: Store) -> None:
                 os.unlink(place)
             continue
         (row, box), data = boxes[key], read_file(os.path.join(store.folder, name), OUTPUT_CAP, plain=True)
-        frames = (Frame.of_png(_picture(store, it)) for it in (key, (row.stored or {})["key"]))
-        write_beside(place, with_stored_frame(data, *frames, "Pixels differ in %s." % box), follow=False)
+        own, old = (Frame.of_png(_picture(store, it)) for it in (key, (row.stored or {})["key"]))
+        write_beside(place, with_stored_frame(data, own, old, "Pixels differ in %s." % box), follow=False)
 
 
 # The name of a run's page below the folder: of a run whose frame differs, the one with both frames.

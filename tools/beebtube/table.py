@@ -64,7 +64,7 @@ class Row(NamedTuple):
 
 def shown_line(text: str) -> str:
     """A text of somebody else as one line on a screen."""
-    return "".join(letter if letter.isprintable() else "?" for letter in text)
+    return text if text.isprintable() else "".join(letter if letter.isprintable() else "?" for letter in text)
 
 
 def _pairs(files: Iterable[Tuple[str, str, int]]) -> Iterator[Tuple[str, str]]:
@@ -161,6 +161,7 @@ def gone_row(stored: Dict[str, str]) -> Row:
 
 # What a sheet takes for the begin of a formula, at the begin of a cell or behind a sign that some sheets take for the end of one.
 _FORMULA = "[=+\\-@\uff1d\uff0b\uff0d\uff20]"
+_is_formula = re.compile("'|" + _FORMULA).match
 
 
 def safe_name(name: str) -> str:
@@ -172,8 +173,9 @@ def safe_name(name: str) -> str:
 def cell_text(cell: str) -> str:
     """A cell's text as it stands in a file."""
     cell = shown_line(cell)
-    cell = re.sub("(?<=;)(?=%s)" % _FORMULA, "'", cell)
-    return "'" + cell if re.match("'|" + _FORMULA, cell) else cell
+    if ";" in cell:
+        cell = re.sub("(?<=;)(?=%s)" % _FORMULA, "'", cell)
+    return "'" + cell if _is_formula(cell) else cell
 
 
 def table_begin() -> str:

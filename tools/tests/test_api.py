@@ -181,13 +181,16 @@ class Pasts(Case):
 # Another version has other opinions, of needless comments too.
 @unittest.skipUnless(shutil.which("mypy") and "mypy 1.0." in call(["mypy", "--version"], "/").out, "mypy 1.0 is not there")
 class Types(Case):
-    def test_the_public_modules(self):
-        words = ["mypy", "--strict", "--follow-imports=silent", "--cache-dir", self.at("cache"), "--python-version", "3.9"]
-        for name in PUBLIC + ["user"]:
-            words += ["-m", name]
+    def test_the_package_the_tools_and_a_user_of_it(self):
+        tools = os.path.join(TOP, "tools")
+        scripts = [name for name in sorted(os.listdir(tools)) if os.path.isfile(os.path.join(tools, name)) and os.access(os.path.join(tools, name), os.X_OK)]
+        self.assertIn("suite", scripts)
+        words = ["mypy", "--strict", "--scripts-are-modules", "--cache-dir", self.at("cache"), "--python-version", "3.9",
+                 "beebtube", self.at("user.py"), *scripts]
         put(self.at("user.py"), b"import beebtube\nrun: beebtube.Run = beebtube.run(9, os=b'', tube='x', keys=beebtube.typed('a'))\n"
-            b"print(run.frames[0].png(), run.registers['host'].pc, beebtube.resume(run.session, 9, keys=beebtube.Script()))\n")
-        done = subprocess.run(words, cwd=os.path.join(TOP, "tools"), env={**os.environ, "MYPYPATH": self.folder}, stdout=subprocess.PIPE, stderr=subprocess.STDOUT)
+            b"print(run.frames[0].png(), run.registers['host'].pc, beebtube.resume(run.session, 9, keys=beebtube.Script()))\n"
+            b"past: beebtube.Past = run.past()\n")
+        done = subprocess.run(words, cwd=tools, stdout=subprocess.PIPE, stderr=subprocess.STDOUT)
         self.assertEqual(done.returncode, 0, done.stdout.decode())
 
 
