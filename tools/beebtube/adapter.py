@@ -33,7 +33,8 @@ CAPABILITIES = (
     "supportsDataBreakpoints", "supportsReadMemoryRequest", "supportsDisassembleRequest",
     "supportsInstructionBreakpoints", "supportsSteppingGranularity", "supportsCancelRequest",
     "supportsTerminateRequest", "supportsLoadedSourcesRequest", "supportsCompletionsRequest",
-    "supportsDataBreakpointBytes", "supportsDelayedStackTraceLoading")
+    "supportsDataBreakpointBytes", "supportsDelayedStackTraceLoading",
+    "supportsExceptionInfoRequest")
 
 
 class Cancelled(Fault):
@@ -69,6 +70,7 @@ class Adapter(Shown):
         self.watched: List[Tuple[str, int, int, str]] = []
         self.filters: List[str] = []
         self._after: List[Message] = []
+        self._why = ""
         self._is_cancelled = self._ended = False
         self._busy: Optional[int] = None
         self._unwanted: Set[Optional[int]] = set()
@@ -130,7 +132,7 @@ class Adapter(Shown):
         self._after.append({"event": event, **({"body": body} if body else {})})
 
     def _stopped(self, reason: str, text: str = "", side: str = "") -> None:
-        self._frames = []
+        self._frames, self._why = [], text or reason
         body = {"reason": reason, "threadId": THREADS[side or self.debugger.side],
                 "allThreadsStopped": True}
         self._event("stopped", **body, **({"text": text, "description": text} if text else {}))
@@ -295,6 +297,11 @@ class Adapter(Shown):
     @request("setExceptionBreakpoints")
     def _set_exceptions(self, given: Message) -> None:
         self.filters = [name for name in given.get("filters") or [] if name in FILTERS]
+
+    @request("exceptionInfo")
+    def _exception(self, _: Message) -> Message:
+        name = next((it for it, text in FILTERS.items() if text == self._why), "none")
+        return {"exceptionId": name, "description": self._why, "breakMode": "always"}
 
     @request("dataBreakpointInfo")
     def _data_info(self, given: Message) -> Message:

@@ -20,6 +20,7 @@ from .wire import Message
 THREADS = {side: number for number, side in enumerate(SIDES, 1)}
 SIDE_OF = {number: side for side, number in THREADS.items()}
 MOST_FRAMES = 256
+REMOVES = re.compile("incsp([1-8])")  # cc65's routines that remove so many bytes and return
 REGISTERS = ("a", "x", "y", "s", "p", "pc")
 Handler = Callable[[Any, Message], Optional[Message]]
 REQUESTS: Dict[str, Handler] = {}
@@ -226,10 +227,17 @@ class Shown:
         first = memory[function.begin + 1] | memory[function.begin + 2] << 8
         if memory[function.begin] == 0x20:  # a parameter in registers is pushed first
             base -= PUSHES.get((names.labels.names_at(first) or [""])[0], 0)
-        ends = [at for at, _ in function.variables[1:]] + [0]
-        for (at, name), end in zip(function.variables, ends):
-            # The debug file has no types of C: the size is what lies up to the next.
-            yield name, base + at & 0xFFFF, max(1, min(4, end - at)) if at < 0 else 2
+        # The debug file has no types of C: the size is what lies up to the next variable, or up to
+        # the end of what the function removes from the stack when it returns.
+        offsets = [at for at, _ in function.variables]
+        last = 0
+        if offsets[-1] >= 0:
+            jump = memory[function.end - 2] | memory[function.end - 1] << 8
+            removes = [REMOVES.fullmatch(it) for it in names.labels.names_at(jump)]
+            sizes = [int(it.group(1)) + min(0, offsets[0]) for it in removes if it]
+            last = sizes[0] if sizes and memory[function.end - 3] == 0x4C else offsets[-1] + 2
+        for (at, name), end in zip(function.variables, offsets[1:] + [last]):
+            yield name, base + at & 0xFFFF, max(1, min(4, end - at))
 
     @request("evaluate")
     def _evaluate(self, given: Message) -> Message:

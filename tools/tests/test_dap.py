@@ -1,5 +1,6 @@
 """The debug adapter, driven by a client over a pipe and over a socket."""
 import base64
+import glob
 import io
 import json
 import os
@@ -466,6 +467,91 @@ class Hosts(Adapters):
         self.tool("dap", "more", status=2)
         self.assertIn(
             "port 1", self.tool("dap", "--port", "1", status=1).err if os.getuid() else "port 1"
+        )
+
+
+EMACS = """
+(setq user-emacs-directory (expand-file-name "emacs/")
+      dap-breakpoints-file (expand-file-name "breakpoints")
+      lsp-session-file (expand-file-name "session") load-prefer-newer t)
+(require 'package)
+(push "/usr/share/emacs/site-lisp/elpa" package-directory-list)
+(package-initialize)
+(load (expand-file-name "settings.el"))
+(defvar at nil) (defvar ended nil)
+(defun here (session)
+  (let ((frame (dap--debug-session-active-frame session)))
+    (when frame
+      (setq at session)
+      (princ (format "%s %s: %s\n" (gethash "name" frame) (gethash "line" frame)
+                     (if (dap--get-path-for-frame frame)
+                         (string-trim (thing-at-point 'line t)) "no source"))))))
+(add-hook 'dap-stack-frame-changed-hook 'here)
+(add-hook 'dap-terminated-hook (lambda (_) (setq ended t)))
+(defun wait (how) (while (not (funcall how)) (accept-process-output nil 1)))
+(defun asks (command arguments)
+  (let ((answer nil))
+    (dap--send-message (dap--make-request command arguments)
+                       (lambda (it) (setq answer it)) at)
+    (wait (lambda () answer))
+    (princ (format "%s %s\n" command (gethash "success" answer)))
+    (gethash "body" answer)))
+(defun step (command)
+  (let ((session at))
+    (setq at nil)
+    (princ (format "%s: " command))
+    (dap--step command session)
+    (wait (lambda () at))))
+(dap-debug (cdr (assoc "beebtube game" dap-debug-template-configurations)))
+(wait (lambda () at))
+(step "next") (step "stepBack") (step "stepIn") (step "stepOut")
+(let ((info (asks "dataBreakpointInfo" '(:name "limit"))))
+  (asks "setDataBreakpoints"
+        (list :breakpoints (vector (list :dataId (gethash "dataId" info) :accessType "write")))))
+(step "reverseContinue")
+(princ (format "%s\n" (mapcar (lambda (it) (list (gethash "name" it) (gethash "line" it)))
+    (seq-take (gethash (dap--debug-session-thread-id at)
+                       (dap--debug-session-thread-stack-frames at)) 3))))
+(step "continue")
+(asks "disconnect" nil)
+(wait (lambda () ended))
+"""
+
+
+class Editors(Adapters):
+    @unittest.skipUnless(
+        shutil.which("emacs") and glob.glob("/usr/share/emacs/site-lisp/elpa/dap-mode-*"),
+        "it needs emacs and elpa-dap-mode",
+    )
+    def test_emacs(self):
+        """The settings of the page, in Emacs' dap-mode: it shows the lines to which each request
+        leads. The test waits for what arrives, however long that takes."""
+        with open(os.path.join(TOP, "docs", "EDITORS.md"), encoding="utf-8") as file:
+            settings = file.read().split("```elisp\n")[1].split("```")[0]
+        self.assertIn("/path/to/beebtube", settings)
+        put(self.at("settings.el"), settings.replace("/path/to/beebtube", TOP).encode())
+        put(self.at("steps.el"), EMACS.encode())
+        for ending in ("", ".labels", ".dbg"):
+            shutil.copy(os.path.join(BUILT, "limit" + ending), self.at("game" + ending))
+        os.symlink(EXAMPLES, self.at("examples"))
+        words = ["emacs", "-Q", "--batch", "-l", "steps.el"]
+        done = call(words, self.folder, env={"HOME": self.folder, "LC_ALL": "C.UTF-8"})
+        self.assertEqual(done.status, 0, done.out + done.err)
+        self.assertEqual(
+            done.out.splitlines(),
+            [
+                "main 16: fill();",
+                'next: main 17: printf("the limit is %u\\n", limit);',
+                "stepBack: main 16: fill();",
+                "stepIn: fill 10: for (at = 1; at <= 5; ++at) {",
+                'stepOut: main 17: printf("the limit is %u\\n", limit);',
+                "dataBreakpointInfo t",
+                "setDataBreakpoints t",
+                "reverseContinue: staxspidx+22 15: no source",
+                "((staxspidx+22 15) (fill 11) (main 16))",
+                "continue: staxspidx+24 16: no source",
+                "disconnect t",
+            ],
         )
 
 
