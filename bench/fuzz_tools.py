@@ -12,7 +12,8 @@ some calls no file may grow above 300 bytes, or the disk is full (if this proces
 the user has no rights (if this process is root). In some calls a signal comes while the tool works,
 and in some eight equal calls run at once in one folder. After each call this checks:
 
-- the tool ends within one minute, by no signal of its own, without a traceback or an internal error
+- the tool ends within 60 CPU seconds, by no signal of its own, without a traceback or an internal
+  error
 - its status is the one that follows from the files and arguments as they were made
 - a tool that ends with a status other than 0 prints a message, unless its output is closed
 - a tool that ends with status 0 prints and writes the same as in plain surroundings, and the
@@ -148,6 +149,7 @@ class Sandbox:
             try:
                 for number in SIGNALS[:3]:
                     signal.signal(number, signal.SIG_DFL)
+                resource.setrlimit(resource.RLIMIT_CPU, (LIMIT, LIMIT + 9))
                 signal.pthread_sigmask(signal.SIG_UNBLOCK, SIGNALS)
                 self.go_on(made.tool, words, around, anew, (stdin, out, err, writer))
             finally:
@@ -159,7 +161,7 @@ class Sandbox:
 
     def end(self, pid, out, err):
         signal.signal(signal.SIGALRM, lambda number, frame: os.kill(pid, signal.SIGKILL))
-        signal.alarm(LIMIT)
+        signal.alarm(10 * LIMIT)
         ended = os.waitstatus_to_exitcode(os.waitpid(pid, 0)[1])
         if signal.alarm(0) == 0 and ended == -signal.SIGKILL:
             ended = None
@@ -340,7 +342,7 @@ class Judge:
         box = self.sandbox
         box.fresh(made)
         before, started = box.stand(), box.start(made, "plain", False)
-        until = time.monotonic() + LIMIT
+        until = time.monotonic() + 10 * LIMIT
         while not os.fstat(started[1]).st_size and time.monotonic() < until:
             time.sleep(0.01)
         os.kill(started[0], made.signal)
@@ -363,8 +365,8 @@ class Judge:
 
     def of_end(self, made, around, status, out, err):
         faults = []
-        if status is None:
-            return ["it did not end within %d seconds" % LIMIT]
+        if status in (None, -signal.SIGXCPU):
+            return ["it did not end within %d CPU seconds" % LIMIT]
         if status not in STATUSES[made.tool]:
             faults.append("the status is %d" % status)
         if b"Traceback" in err or b"a fault of this tool" in err or b"Exception ignored" in err:

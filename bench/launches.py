@@ -7,7 +7,7 @@ signal ends at a random moment of its first 0.2 s: its status is this signal. Th
 default, with 8 loops and 8 busy loops.
 
 If a status differs, or a call takes longer than five minutes, this prints the call, and its own
-exit status is 1.
+exit status is 1. SIGINT and SIGTERM end it after the calls that run.
 """
 import argparse
 import os
@@ -67,11 +67,15 @@ def main():
     for name, value in (("--seed", 1), ("--count", 1000), ("-j", 8), ("--busy", 8)):
         asked.add_argument(name, type=int, default=value)
     asked = asked.parse_args()
-    wrong, done, lock = [], [0], threading.Lock()
+    wrong, done, lock, ending = [], [0], threading.Lock(), threading.Event()
+    for number in SIGNALS[:2]:
+        signal.signal(number, lambda *_: ending.set())
 
     def loop(at):
         dice = random.Random("%d %d" % (asked.seed, at))
         for _ in range(at, asked.count, asked.j):
+            if ending.is_set():
+                return
             if dice.random() < 0.1:
                 number = dice.choice(SIGNALS)
                 words, wanted = LONG, -number
@@ -84,7 +88,8 @@ def main():
                 done[0] += 1
                 if status != wanted:
                     wrong.append(status)
-                    print("status %s, not %d: %s after %.4f s" % (status, wanted, " ".join(words), moment), flush=True)
+                    print("status %s, not %d: %s after %.4f s"
+                          % (status, wanted, " ".join(words), moment), flush=True)
 
     busy = [subprocess.Popen([sys.executable, "-c", "while True: pass"]) for _ in range(asked.busy)]
     try:
