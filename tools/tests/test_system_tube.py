@@ -182,7 +182,8 @@ class OnBoth(unittest.TestCase):
         def gbpb(a, at, memory, count, pointer):
             return poke(at, b"\0" + struct.pack("<III", memory, count, pointer)) + \
                 "        LDA &%04X\n        STA &%04X\n" % (handle, at) + asked(0xFFD1, a, at,
-                0x2701) + "        PHP\n        PLA\n        AND #1\n        STA &%04X\n" % (at + 14)
+                0x2701) + "        PHP\n        PLA\n        AND #1\n" \
+                "        STA &%04X\n" % (at + 14)
 
         source += block(0x2900, name["DATA"], 0, 0, 0, 0) + asked(0xFFDD, 5, 0x2900, 0x2710)
         source += block(0x2920, name["NONE"], 0, 0, 0, 0) + asked(0xFFDD, 5, 0x2920, 0x2711)
