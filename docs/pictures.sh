@@ -1,7 +1,8 @@
 #!/usr/bin/env bash
 # Makes this folder's pictures again from the frames that the program writes: the screens of
-# examples/screen-os.asm in modes 0 to 7, and the typed text of the README. With the
-# word `check` it reports which of them show something else, and ends with 1 then.
+# examples/screen-os.asm in modes 0 to 7, the typed text of the README, and a disc with a program by
+# the ROMs of system/, on the host alone and with the second processor. With the word `check` it
+# reports which of them show something else, and ends with 1 then.
 set -eu
 how=${1:-make}
 case $#$how in
@@ -29,4 +30,16 @@ for mode in 0 1 2 3 4 5 6 7; do picture "screen.00$mode.ppm" "mode$mode.png"; do
 "$top/tools/type" --shot 'Hello, world!{RETURN}' >hello.keys 2>told
 "$top/beebtube" run 24000000 hello --os os --tube tube --font font --keys hello.keys
 picture hello.000.ppm hello.png
+
+"$top/beebtube" asm 6502 "$top/examples/where.asm" WHERE
+echo 'WHERE 002000 002000' >WHERE.inf
+printf '*CAT\r*WHERE\rR\r' >'!BOOT'
+"$top/tools/catalogue" --make where.ssd --title 'Either side' '!BOOT' WHERE
+printf 'at 0 down 00\nat 16000000 shot\n' >where.keys
+own=$("$top/tools/words" "$top/system/system.set")
+also="--keys where.keys --disc0 where.ssd"
+"$top/beebtube" solo 16200000 both $own $also
+"$top/beebtube" replay host empty.trace 16200000 host --no-tube ${own/--tube */} $also
+picture host.000.ppm system-host.png
+picture both.000.ppm system-tube.png
 exit "$status"

@@ -11,6 +11,7 @@ t_to    = $26           ; an address of the second processor: four bytes
 t_from  = $2A
 t_count = $2C
 t_text  = $0700
+t_block = $0780         ; of OSWORD: 128 bytes
 EVNTV   = $0220
 BRKV    = $0202
 brk_rom = $024A
@@ -297,19 +298,19 @@ t_word: JSR t_in
         TAX
         BEQ :++
 :       JSR t_in
-        STA t_text-1,X
+        STA t_block-1,X
         DEX
         BNE :-
 :       JSR t_in
         PHA
-        LDX #<t_text
-        LDY #>t_text
+        LDX #<t_block
+        LDY #>t_block
         LDA t_flag
         JSR OSWORD
         PLA
         TAX
         BEQ @end
-:       LDA t_text-1,X
+:       LDA t_block-1,X
         JSR t_out
         DEX
         BNE :-

@@ -1,4 +1,4 @@
-"""The Tube's code of system/built: programs and languages on the second processor, on one thread."""
+"""The Tube's code of system/built: programs and languages on the second processor."""
 import os
 import random
 import struct
@@ -182,11 +182,13 @@ class OnBoth(unittest.TestCase):
         def gbpb(a, at, memory, count, pointer):
             return poke(at, b"\0" + struct.pack("<III", memory, count, pointer)) + \
                 "        LDA &%04X\n        STA &%04X\n" % (handle, at) + asked(0xFFD1, a, at,
-                0x2701) + "        PHP\n        PLA\n        AND #1\n        STA &%04X\n" % (at + 14)
+                0x2701) + "        PHP\n        PLA\n        AND #1\n" \
+                "        STA &%04X\n" % (at + 14)
 
         source += block(0x2900, name["DATA"], 0, 0, 0, 0) + asked(0xFFDD, 5, 0x2900, 0x2710)
         source += block(0x2920, name["NONE"], 0, 0, 0, 0) + asked(0xFFDD, 5, 0x2920, 0x2711)
-        source += block(0x2940, name["DATA"], 0x2100, 0, 0, 0) + asked(0xFFDD, 255, 0x2940, 0x2712)
+        source += block(0x2940, name["DATA"], 0x2100, 0, 0, 0)
+        source += asked(0xFFDD, 255, 0x2940, 0x2712)
         source += block(0x2960, name["NEW"], 0x1234, 0x5678, 0x2110, 0x2180) + asked(0xFFDD, 0,
             0x2960, 0x2713)
         source += asked(0xFFCE, 0x40, name["DATA"], handle)

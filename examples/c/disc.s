@@ -1,0 +1,391 @@
+; Start-up code, files and console of C programs that are *RUN from a disc, by calls of the operating system. Such a
+; program comes back to its caller with RTS. An error of the system ends it, unless it takes BRKV.
+
+        .export         _exit, __STARTUP__ : absolute = 1
+        .export         _open, _close, _read, _write, _lseek, __sysremove, __osmaperrno
+        .export         _clrscr, _gotoxy, gotoxy, _wherex, _wherey, _cputc, _cputcxy, _cgetc, _kbhit
+        .export         _textcolor, _bgcolor
+        .constructor    initmainargs, 24
+        .import         zerobss, initlib, donelib, callmain, __argc, __argv
+        .import         popa, popax, popeax, addysp, __directerrno
+        .include        "zeropage.inc"
+        .include        "errno.inc"
+        .include        "fcntl.inc"
+
+OSFIND  := $FFCE
+OSBPUT  := $FFD4
+OSBGET  := $FFD7
+OSARGS  := $FFDA
+OSFILE  := $FFDD
+OSRDCH  := $FFE0
+OSASCI  := $FFE3
+OSNEWL  := $FFE7
+OSWRCH  := $FFEE
+OSWORD  := $FFF1
+OSBYTE  := $FFF4
+WORDS   = 16                            ; the most arguments, the program's name among them
+
+        .zeropage
+block:  .res    5                       ; of OSARGS, and of OSWORD 5
+
+        .bss
+stack:  .res    1
+text:   .res    256                     ; the command's text; later a name
+words:  .res    2*WORDS+2
+file:   .res    18                      ; of OSFILE
+
+        .segment        "STARTUP"
+        tsx
+        stx     stack
+        lda     #132
+        jsr     OSBYTE
+        stx     sp
+        sty     sp+1
+        lda     stack
+        pha                             ; (zerobss clears it)
+        jsr     zerobss
+        pla
+        sta     stack
+        jsr     initlib
+        jsr     callmain
+_exit:  jsr     donelib
+        ldx     stack
+        txs
+        rts
+
+        .segment        "ONCE"
+; argc and argv: the words of the command's text, which is in the host's memory. The first is the empty text.
+initmainargs:
+        lda     #1
+        ldx     #block
+        ldy     #0
+        jsr     OSARGS
+        ldx     #0
+fetch:  txa
+        pha
+        lda     #5
+        ldx     #<block
+        ldy     #>block
+        jsr     OSWORD
+        pla
+        tax
+        inc     block
+        bne     :+
+        inc     block+1
+:       lda     block+4
+        sta     text,x
+        inx
+        beq     all
+        cmp     #13
+        bne     fetch
+all:    lda     #0
+        sta     text-1,x
+        lda     #<empty
+        sta     words
+        lda     #>empty
+        sta     words+1
+        ldx     #0
+        ldy     #2
+space:  lda     text,x
+        beq     ended
+        cmp     #' '
+        bne     word
+        inx
+        bne     space
+word:   txa
+        clc
+        adc     #<text
+        sta     words,y
+        lda     #>text
+        adc     #0
+        sta     words+1,y
+        iny
+        iny
+more:   inx
+        lda     text,x
+        beq     ended
+        cmp     #' '
+        bne     more
+        lda     #0
+        sta     text,x
+        inx
+        cpy     #2*WORDS
+        bne     space
+ended:  tya
+        lsr     a
+        sta     __argc
+        lda     #<words
+        sta     __argv
+        lda     #>words
+        sta     __argv+1
+        rts
+
+        .rodata
+empty:  .byte   0
+
+        .code
+; The name at A and X, with 0D at its end: its address is in X and Y.
+name:   sta     ptr1
+        stx     ptr1+1
+        ldy     #0
+:       lda     (ptr1),y
+        sta     text,y
+        beq     :+
+        iny
+        bne     :-
+:       lda     #13
+        sta     text,y
+        ldx     #<text
+        ldy     #>text
+        rts
+
+; int open (const char* name, int flags, ...)
+_open:  cpy     #4
+        beq     :+
+        tya                             ; the mode is not used
+        sec
+        sbc     #4
+        tay
+        jsr     addysp
+:       jsr     popax
+        sta     tmp1
+        jsr     popax
+        jsr     name
+        lda     tmp1
+        and     #O_TRUNC
+        bne     new
+        lda     #$40
+        ldx     tmp1
+        cpx     #O_RDONLY
+        beq     find
+        lda     #$C0
+        ldx     #<text
+        jsr     OSFIND
+        tay
+        bne     opened
+        lda     tmp1
+        and     #O_CREAT
+        beq     none
+new:    lda     #$80
+find:   ldx     #<text
+        ldy     #>text
+        jsr     OSFIND
+        tay
+        beq     none
+opened: lda     tmp1
+        and     #O_APPEND
+        beq     :+
+        ldx     #block
+        lda     #2                      ; its length becomes its pointer
+        jsr     OSARGS
+        lda     #1
+        jsr     OSARGS
+:       tya
+        ldx     #0
+        rts
+none:   lda     #ENOENT
+        jmp     __directerrno
+
+; int close (int file)
+_close: cmp     #3
+        bcc     :+
+        tay
+        lda     #0
+        jsr     OSFIND
+:       lda     #0
+        tax
+        rts
+
+; int read (int file, void* buffer, unsigned count): from the keyboard a line at most
+_read:  jsr     parameters
+get:    jsr     left
+        beq     told
+        ldy     tmp1
+        beq     key
+        jsr     OSBGET
+        bcs     told
+        jsr     put
+        bne     get
+key:    jsr     OSRDCH
+        bcs     told
+        jsr     OSASCI
+        cmp     #13
+        bne     :+
+        lda     #10
+        jsr     put
+        jmp     told
+:       jsr     put
+        bne     get
+
+; int write (int file, const void* buffer, unsigned count)
+_write: jsr     parameters
+out:    jsr     left
+        beq     told
+        ldy     #0
+        lda     (ptr1),y
+        ldy     tmp1
+        cpy     #3
+        bcc     :+
+        jsr     OSBPUT
+        jmp     next
+:       cmp     #10
+        bne     :+
+        lda     #13
+:       jsr     OSASCI
+next:   jsr     on
+        bne     out
+told:   lda     ptr2
+        ldx     ptr2+1
+        rts
+; ptr1 the buffer, ptr2 how much is done, ptr3 how much is left, tmp1 the file.
+parameters:
+        sta     ptr3
+        stx     ptr3+1
+        jsr     popax
+        sta     ptr1
+        stx     ptr1+1
+        jsr     popax
+        sta     tmp1
+        lda     #0
+        sta     ptr2
+        sta     ptr2+1
+        rts
+left:   lda     ptr3
+        ora     ptr3+1
+        rts
+put:    ldy     #0
+        sta     (ptr1),y
+on:     inc     ptr1
+        bne     :+
+        inc     ptr1+1
+:       lda     ptr3
+        bne     :+
+        dec     ptr3+1
+:       dec     ptr3
+        inc     ptr2
+        bne     :+
+        inc     ptr2+1
+:       lda     #1                      ; never 0
+        rts
+
+; off_t lseek (int file, off_t offset, int whence): from the start (2), from the pointer (0) or the end (1)
+_lseek: sta     tmp2
+        jsr     popeax
+        sta     ptr1
+        stx     ptr1+1
+        lda     sreg
+        sta     ptr2
+        jsr     popax
+        tay
+        lda     #0
+        sta     block
+        sta     block+1
+        sta     block+2
+        sta     block+3
+        ldx     #block
+        lda     tmp2
+        cmp     #2
+        beq     :+
+        asl     a                       ; 0 its pointer, 2 its length
+        jsr     OSARGS
+:       clc
+        lda     block
+        adc     ptr1
+        sta     block
+        lda     block+1
+        adc     ptr1+1
+        sta     block+1
+        lda     block+2
+        adc     ptr2
+        sta     block+2
+        ldx     #block
+        lda     #1
+        jsr     OSARGS
+        lda     block+2
+        sta     sreg
+        lda     #0
+        sta     sreg+1
+        ldx     block+1
+        lda     block
+        rts
+
+; unsigned char _sysremove (const char* name): 0, or what is wrong
+__sysremove:
+        jsr     name
+        stx     file
+        sty     file+1
+        lda     #6
+        ldx     #<file
+        ldy     #>file
+        jsr     OSFILE
+        tay
+        beq     :+
+        lda     #0
+        tax
+        rts
+:       lda     #ENOENT
+; Its numbers are C's own.
+__osmaperrno:
+        ldx     #0
+        rts
+
+; --- conio ---
+
+_clrscr:
+        lda     #12
+        jmp     OSWRCH
+; void gotoxy (unsigned char x, unsigned char y)
+gotoxy: jsr     popa
+_gotoxy:
+        sta     tmp1
+        lda     #31
+        jsr     OSWRCH
+        jsr     popa
+        jsr     OSWRCH
+        lda     tmp1
+        jmp     OSWRCH
+_wherex:
+        jsr     where
+        txa
+        ldx     #0
+        rts
+_wherey:
+        jsr     where
+        tya
+        ldx     #0
+        rts
+where:  lda     #134
+        jmp     OSBYTE
+_cputcxy:
+        pha
+        jsr     gotoxy
+        pla
+_cputc: cmp     #10
+        bne     :+
+        jmp     OSWRCH
+:       jmp     OSASCI
+_cgetc: jsr     OSRDCH
+        ldx     #0
+        rts
+; The bytes that wait in the keyboard's buffer.
+_kbhit: lda     #128
+        ldx     #255
+        ldy     #255
+        jsr     OSBYTE
+        txa
+        beq     :+
+        lda     #1
+:       ldx     #0
+        rts
+_textcolor:
+        pha
+        lda     #17
+        jsr     OSWRCH
+        pla
+        jsr     OSWRCH
+        lda     #7                      ; (the one before is not known)
+        ldx     #0
+        rts
+_bgcolor:
+        ora     #128
+        jmp     _textcolor

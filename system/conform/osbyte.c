@@ -1,0 +1,76 @@
+#include "conform.h"
+
+int main(void)
+{
+    unsigned char before, count;
+
+    osbyte(0, 1, 0);
+    check("0 gives the machine in X", r.x == 1);
+    osbyte(1, 7, 0);
+    osbyte(1, 9, 0);
+    check("1 gives the value before", r.x == 7);
+    check("241 is that of 1", variable(241) == 9);
+    osbyte(241, 0x0F, 0xF0);
+    check("a variable becomes (old AND Y) EOR X", variable(241) == ((9 & 0xF0) ^ 0x0F));
+    osbyte(4, 1, 0);
+    check("4: the cursor keys' state is 237", variable(237) == 1);
+    osbyte(4, 0, 0);
+    check("4 gives the state before", r.x == 1);
+    osbyte(11, 5, 0);
+    osbyte(12, 6, 0);
+    check("11 and 12 are 196 and 197", variable(196) == 5 && variable(197) == 6);
+    osbyte(12, 0, 0);
+    check("12 with 0: 50 and 8", variable(196) == 50 && variable(197) == 8);
+    before = variable(176);
+    osbyte(19, 0, 0);
+    check("19 waits for a vertical sync", variable(176) != before);
+    osbyte(21, 0, 0);
+    osbyte(128, 255, 255);
+    check("21, 128: an empty keyboard buffer", r.x == 0);
+    osbyte(138, 0, 'A');
+    osbyte(138, 0, 'B');
+    osbyte(128, 255, 255);
+    check("138, 128: two characters in it", r.x == 2);
+    osbyte(145, 0, 0);
+    check("145 gives the first, with C clear", r.y == 'A' && !carry);
+    osbyte(152, 0, 0);
+    osbyte(145, 0, 0);
+    check("145 gives the next", r.y == 'B' && !carry);
+    osbyte(145, 0, 0);
+    check("145 sets C at the end", carry);
+    osbyte(129, 3, 0);
+    check("129 ends with C and FF", carry && r.y == 255);
+    osbyte(129, 0xBE, 255);
+    check("129: the key A is up", r.x == 0 && r.y == 0);
+    osbyte(125, 0, 0);
+    osbyte(126, 0, 0);
+    check("125, 126: an ESCAPE was taken note of", r.x == 255);
+    osbyte(126, 0, 0);
+    check("126: there is none", r.x == 0);
+    osbyte(130, 0, 0);
+    check("130: one number for both halves", r.x == r.y && (r.x == 0 || r.x == 255));
+    osbyte(131, 0, 0);
+    check("131: the start of memory is below this program", r.y <= 0x19);
+    osbyte(132, 0, 0);
+    check("132: the end is above it", r.y >= 0x7C);
+    osbyte(133, 0, 0);
+    check("133: mode 0 begins at 3000", r.x == 0 && r.y == 0x30);
+    osbyte(133, 4, 0);
+    check("133: mode 4 begins at 5800", r.y == 0x58);
+    osbyte(134, 0, 0);
+    count = r.y;
+    osbyte(135, 0, 0);
+    check("135: mode 7 in Y", r.y == 7);
+    osbyte(134, 0, 0);
+    check("134: the line of the cursor", r.y == count && r.x == 0);
+    osbyte(160, 8, 0);
+    check("160: the text window's left and bottom", r.x == 0 && r.y == 24);
+    osbyte(200, 1, 0);
+    check("200 gives 0 before", r.x == 0);
+    osbyte(200, 0, 0);
+    check("200 gives 1 before", r.x == 1);
+    check("235: no speech processor", variable(235) == 0);
+    check("252: a language's slot", variable(252) < 16);
+    ended("OSBYTE");
+    return 0;
+}
