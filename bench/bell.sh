@@ -6,6 +6,7 @@
 # A line for each: how many states there are, and whether a side sleeps for ever. The exit status is
 # 1 if a line is not as it must be, and 2 if spin or gcc is missing.
 set -euo pipefail
+if [ "${1:-}" = --help ]; then sed -n '2,/^[^#]/s/^# //p' "$0"; exit; fi
 model=$(realpath "$(dirname "$0")")/bell.pml
 last=${1:-3}
 for tool in spin gcc; do

@@ -1,3 +1,4 @@
 pub mod Assembling
+pub mod Fitting
 pub mod ImageLemmas
 pub mod WordLemmas

@@ -1,9 +1,10 @@
 -- The demonstration pair: a program for each machine, and 256 drawn bytes that the second processor sends.
-use Rattle.std.specs.Prelude.{ℕ, zero, suc, ◌%◌, List, [], ◌∷◌, ◌++◌, map, take, drop, codes, Result, Ok, Err}
+use Rattle.std.specs.Prelude.{ℕ, zero, suc, ◌≡◌, ◌%◌, length, List, [], ◌∷◌, ◌++◌, map, take, drop, codes, Result, Ok, Err}
 use Rattle.rand_pcg.specs.Lcg.{Lcg, started, increment_of}
 use Rattle.rand_pcg.specs.Pcg.{pcg32, multiplier_64}
 use Rattle.asm65.specs.declared.AsmError.{AsmError}
-use Rattle.asm65.specs.Source.{Program}
+use Rattle.op_table.specs.declared.Part.TheVariants.{Nmos, Cmos}
+use Rattle.asm65.specs.Source.{Program, source}
 
 -- the host takes bytes from the Tube's register 1, keeps each at 2000 and X, and their sum at 0070 and 0071
 unfoldable pub host_text : List ℕ
@@ -37,3 +38,15 @@ image_of (Err e) = Err e
 abbrev pub image_holding : List ℕ → Result Program AsmError → Result (List ℕ) AsmError
 image_holding bytes (Ok program) = Ok (image_with bytes program.1)
 image_holding bytes (Err e) = Err e
+
+-- Both texts have images, of the lengths that the machines ask for: 16,384 bytes of an operating system, and 2,048 of a boot ROM.
+pub record HasFittingImages (seed : ℕ) : Type 0 where
+  pub os : List ℕ
+  pub os_is : image_of (source Nmos host_text) ≡ Ok os
+  pub os_fits : length os ≡ 16384
+  pub tube : List ℕ
+  pub tube_is : image_holding (drawn_bytes seed) (source Cmos tube_text) ≡ Ok tube
+  pub tube_fits : length tube ≡ 2048
+
+abbrev pub ImagesFit : Type 0
+ImagesFit = (seed : ℕ) → HasFittingImages seed

@@ -4,7 +4,7 @@
 ghost use Rattle.std.specs.Prelude.{◌≡◌, ◌%◌, Ok, IsOk, IfOk, take, drop};
 ghost use Rattle.asm65.specs.Source.{source};
 ghost use Rattle.rand_pcg.specs.Pcg.{pcg32};
-ghost use Rattle.demo_gen.specs.Demo.{host_text, tube_text, drawn_bytes, image_with, image_of, image_holding};
+ghost use Rattle.demo_gen.specs.Demo.{host_text, tube_text, drawn_bytes, image_with, image_of, image_holding, ImagesFit};
 
 use asm65::{AsmError, Image, assemble};
 use beeb_bits::NoMemory;
@@ -80,6 +80,11 @@ pub fn pair(alloc: Global, seed: u64) -> Result<Demo, NoMemory>
     let tube = tube_image(alloc, seed)?;
     Ok(Demo { os, tube })
 }
+
+/// The images of every seed have the lengths that their machines ask for.
+pub fn images_fit()
+    ensures { ImagesFit }
+{}
 
 // The image of a text that assembles.
 fn assembled(alloc: Global, part: Part, text: &[u8]) -> Result<Image, NoMemory>

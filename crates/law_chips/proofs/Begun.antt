@@ -19,8 +19,9 @@ use Rattle.law_chips.specs.SectorReads.{IsAtSector}
 use Rattle.law_chips.specs.Searches.{has_match, steps_to, sector_angle}
 use Rattle.law_chips.specs.InTime.{settle_time, IsFound, found_after}
 use Rattle.law_chips.proofs.Reading.{same_disc}
-use Rattle.law_chips.proofs.Search.{search_ends}
+use Rattle.law_chips.proofs.Search.{search_ends, within_turn}
 use Rattle.law_chips.proofs.Waiting.{CountsDown, waits_so, Waited}
+use Rattle.law_chips.proofs.Motor.{motor_rests}
 use Rattle.wd1770.specs.declared.drive.Drive.{Drive}
 use Rattle.wd1770.specs.declared.drive.DriveNumber.{DriveNumber}
 use Rattle.wd1770.specs.declared.drive.DriveNumber.TheVariants.{Drive0, Drive1}
@@ -85,7 +86,7 @@ starts s v settles waits low high is =
     let has : has_match t s2 ≡ true =
     same_match s s2 t (cc) (cc) sector drive0 drive1 ∙ is.has in
     let waited = subst (λ n. count_steps waits ≡ steps_to (sector_angle n) s2) (sym sector) is.waited in
-    let found = search_ends.found s2 t 1000001 waits searches (omega arith) has off is.wait waited in
+    let found = search_ends.found s2 t 1000001 waits searches (within_turn s2 1000001 (omega arith)) has off is.wait waited in
     record {
       at = subst (λ n. IsAtSector (history waits s2) t n) sector found.0;
       lost = cc;
@@ -156,6 +157,7 @@ record Moved (m : Motion) (there value : ℕ) (before x : State) : Type 0 where
   pub track : x.track ≡ value
   pub not_found : x.record_not_found ≡ (before.record_not_found || (m.verifies && not (value == there)))
   pub last_inward : x.last_inward ≡ (if m.steps == 0 then before.last_inward else m.inward)
+  pub motor : x.motor ≡ 2000000
 
 moved : (m : Motion) (s : State) → Moved m (head_after m s) (track_after m s) s (move_leaves m s)
 moved m s = grind arith
@@ -205,6 +207,10 @@ arrived s v waits m left low is moves some drive verifies end =
             ∙ ap (λ b. b && not (track_after m y1 == head_after m y1)) verifies
             ∙ ap (λ n. bit v 2 && not (n == head_after m y1)) becomes
             ∙ ap (λ n. bit v 2 && not (track_changed m.track m.inward s.track == n)) head;
+        motor = motor_rests 2000000 x (record {
+          command = ap (λ (x : State). x.command) is_x ∙ e.over;
+          motor = ap (λ (x : State). x.motor) is_x ∙ e.motor;
+        });
       },
       ap (λ (x : State). x.last_inward) is_x ∙ e.last_inward
           ∙ ap (λ b. if m.steps == 0 then b else m.inward) (w.last_inward ∙ ap (λ (x : State). x.last_inward) written),
@@ -257,24 +263,31 @@ unfolding left_of
 time_by v n s is = ap (λ k. max 1 (k * step_time v)) is
 
 restored : (s : State) (v : ℕ) (waits : List Event) → v < 0x10 → IsGiven s waits → count_steps waits + 1 ≡ motion_time v s →
-    Arrives v 0 0 (ended_after v waits s)
+    Arrives v 0 0 (ended_after v waits s) × ((ended_after v waits s).last_inward ≡ (if head_selected s == 0 then s.last_inward else false))
 unfolding motion head_by track_by
 restored s v waits low is end =
     let n = head_selected s in
     let m = motion v false (Becomes 0) n s in
-    let a = (arrived s v waits m (left_of v n) (omega arith) is (is_restore v s low) (some_left v n) refl refl (end ∙ time_of_restore v s low)).0 in
+    let a = arrived s v waits m (left_of v n) (omega arith) is (is_restore v s low) (some_left v n) refl refl (end ∙ time_of_restore v s low) in
     let none : n - n ≡ 0 = omega arith in
-    subst (λ h. Arrives v h 0 (ended_after v waits s)) none a
+    (subst (λ h. Arrives v h 0 (ended_after v waits s)) none a.0, a.1)
+
+-- a seek makes no step if both registers are the same
+no_steps : (byte track : ℕ) → (max byte track - min byte track == 0) ≡ (track == byte)
+no_steps byte track = grind arith
 
 sought : (s : State) (v : ℕ) (waits : List Event) → 0x10 ≤ v → v < 0x20 → IsGiven s waits → count_steps waits + 1 ≡ motion_time v s →
     Arrives v (head_moved (nat_lt s.track s.byte) (head_steps v s) (head_selected s)) s.byte (ended_after v waits s)
+    × ((ended_after v waits s).last_inward ≡ (if s.track == s.byte then s.last_inward else nat_lt s.track s.byte))
 unfolding motion head_by track_by
 sought s v waits low high is end =
     let n = max s.byte s.track - min s.byte s.track in
     let m = motion v (nat_lt s.track s.byte) (Becomes s.byte) n s in
     let same = steps_of_seek v s low high in
-    let a = (arrived s v waits m (left_of v n) (omega arith) is (is_seek v s low high) (some_left v n) refl refl (end ∙ time_by v n s same)).0 in
-    subst (λ k. Arrives v (head_moved (nat_lt s.track s.byte) k (head_selected s)) s.byte (ended_after v waits s)) (sym same) a
+    let a = arrived s v waits m (left_of v n) (omega arith) is (is_seek v s low high) (some_left v n) refl refl (end ∙ time_by v n s same) in (
+      subst (λ k. Arrives v (head_moved (nat_lt s.track s.byte) k (head_selected s)) s.byte (ended_after v waits s)) (sym same) a.0,
+      a.1 ∙ ap (λ b. if b then s.last_inward else nat_lt s.track s.byte) (no_steps s.byte s.track),
+    )
 
 -- a head that is where the track register says comes to where the data register says
 gets_there : (byte track : ℕ) → byte ≤ 83 → head_moved (nat_lt track byte) (max byte track - min byte track) track ≡ byte
@@ -340,8 +353,10 @@ pub motions_arrive : MotionsArrive
 unfolding inward_by
 motions_arrive = record {
   until = until;
-  restore = restored;
-  seek = sought;
+  restore = λ s v waits low is end. (restored s v waits low is end).0;
+  seek = λ s v waits low high is end. (sought s v waits low high is end).0;
+  restore_way = λ s v waits low is end. (restored s v waits low is end).1;
+  seek_way = λ s v waits low high is end. (sought s v waits low high is end).1;
   sought = found_it;
   step_on = λ s v waits low high is end.
       stepped s v s.last_inward waits low (omega arith) (ap (λ b. if b then s.last_inward else nat_lt v 0x60) (lt-ltb v 0x40 high)) is end;

@@ -18,7 +18,7 @@ forced : (s : State) (v : ℕ) → is_reset s.latch ≡ false → v / 16 ≡ 0xD
 forced s v live is = rw (live, eq-eqb (v / 16) 0xD is)
 
 -- no command, and INTRQ
-record Rests (asks : Bool) (s : State) : Type 0 where
+pub record Rests (asks : Bool) (s : State) : Type 0 where
   pub command : s.command ≡ Idle
   pub intrq : s.intrq ≡ asks
 
@@ -44,19 +44,19 @@ unheard : (asks : Bool) → asks ≡ (asks && true)
 unheard true = refl
 unheard false = refl
 
-run : (asks : Bool) (events : List Event) (s : State) → AllLetGo events → Rests asks s → Rests (asks && not (status_is_read events)) (history events s)
-run asks [] s all is = subst (λ b. Rests b s) (unheard asks) is
-run asks (microsecond ∷ es) s all is = run asks es (step s) all.1 (stepped asks s is)
-run asks (read reg ∷ es) s all is =
+pub rests_until_read : (asks : Bool) (events : List Event) (s : State) → AllLetGo events → Rests asks s → Rests (asks && not (status_is_read events)) (history events s)
+rests_until_read asks [] s all is = subst (λ b. Rests b s) (unheard asks) is
+rests_until_read asks (microsecond ∷ es) s all is = rests_until_read asks es (step s) all.1 (stepped asks s is)
+rests_until_read asks (read reg ∷ es) s all is =
     subst (λ b. Rests b (history es (read_leaves reg s))) (both asks (reg == 0) (status_is_read es))
-    (run (asks && not (reg == 0)) es (read_leaves reg s) all.1 (was_read asks reg s is))
-run asks (write reg v ∷ es) s all is = run asks es (write_leaves reg v s) all.1 (was_written asks reg v s all.0.0 all.0.1 is)
-run asks (latch v ∷ es) s all is = run asks es (latch_leaves v s) all.1 (was_latched asks v s all.0 is)
+    (rests_until_read (asks && not (reg == 0)) es (read_leaves reg s) all.1 (was_read asks reg s is))
+rests_until_read asks (write reg v ∷ es) s all is = rests_until_read asks es (write_leaves reg v s) all.1 (was_written asks reg v s all.0.0 all.0.1 is)
+rests_until_read asks (latch v ∷ es) s all is = rests_until_read asks es (latch_leaves v s) all.1 (was_latched asks v s all.0 is)
 
 from_forced : (s : State) (v : ℕ) (events : List Event) → is_reset s.latch ≡ false → v / 16 ≡ 0xD → AllLetGo events →
     Rests (bit v 3 && not (status_is_read events)) (history events (write_leaves 0 v s))
 from_forced s v events live is all =
-    run (bit v 3) events (write_leaves 0 v s) all (subst (Rests (bit v 3)) (sym (forced s v live is)) (assumption))
+    rests_until_read (bit v 3) events (write_leaves 0 v s) all (subst (Rests (bit v 3)) (sym (forced s v live is)) (assumption))
 
 pub interrupts_are_forced : InterruptsAreForced
 interrupts_are_forced = record {

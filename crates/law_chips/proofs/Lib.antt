@@ -2,12 +2,14 @@ pub mod Halves
 pub mod Typing
 pub mod CardBytes
 pub mod Queueing
+pub mod Holding
 pub mod Reading
 pub mod Search
 pub mod Losing
 pub mod Streams
 pub mod Writing
 pub mod Waiting
+pub mod Motor
 pub mod Begun
 pub mod Timely
 pub mod Forcing

@@ -19,7 +19,7 @@ use Rattle.law_chips.specs.Queues.{reader, queue, byte_number, byte_sent, clears
 use Rattle.law_chips.specs.Queues.{leaves, comes, over, MayAsk, DestroysNothing, ClearsNothing, RegistersAreQueues, NothingIsLost, FifoLosesNothing}
 
 -- registers have numbers 1 to 4
-four : (P : ℕ → Type 0) → P 1 → P 2 → P 3 → P 4 → (k : ℕ) → 1 ≤ k → k ≤ 4 → P k
+pub four : (P : ℕ → Type 0) → P 1 → P 2 → P 3 → P 4 → (k : ℕ) → 1 ≤ k → k ≤ 4 → P k
 four P a b c d k low high = grind arith
 
 -- one register of a bank changes, and no other
@@ -151,7 +151,7 @@ write_by_own Host k number byte c low lk hk =
 write_by_own Para k number byte c low lk hk =
     changes (λ i r. write_leaves (capacity Para i c.flags) byte r) c.to_host (register_number number) k (number_some number) (number_low number low) lk hk
 
-after_odd_write : (from : Side) (k number byte : ℕ) (c : State) → is_status number ≡ false → number < 8 → 1 ≤ k → k ≤ 4 →
+pub after_odd_write : (from : Side) (k number byte : ℕ) (c : State) → is_status number ≡ false → number < 8 → 1 ≤ k → k ≤ 4 →
     queue from k (chip_after c from (Write number byte))
     ≡ (if number == byte_number k then write_leaves (capacity from k c.flags) byte (queue from k c) else queue from k c)
 after_odd_write from k number byte c odd low lk hk = grind (arith, counted_keeps, write_by_own, odd_is)

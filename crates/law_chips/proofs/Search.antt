@@ -1,7 +1,7 @@
 -- A search, step by step.
-use Rattle.std.proofs.Common.{◌≡◌, ◌∙◌, sym, ap, subst, ℕ, ◌+◌, ◌-◌, ◌%◌, ◌<◌, ◌≤◌, ◌==◌, ◌&&◌, Bool, true, false, List, [], ◌∷◌, arith, inl, inr}
+use Rattle.std.proofs.Common.{◌≡◌, ◌∙◌, sym, ap, subst, refl, ℕ, ◌+◌, ◌-◌, ◌%◌, ◌<◌, ◌≤◌, ◌==◌, ◌&&◌, not, Bool, true, false, List, [], ◌∷◌, arith, inl, inr}
 use Rattle.std.specs.Prelude.{Some, nat_lt, if◌then◌else◌}
-use Rattle.std.proofs.lemmas.Bool.{cases_eq, eq-eqb, le-ltb, and_from, and_left}
+use Rattle.std.proofs.lemmas.Bool.{cases_Bool, cases_eq, eq-eqb, le-ltb, and_from, and_left}
 use Rattle.wd1770.specs.declared.command.Command.TheVariants.{Idle, Searching, Transferring}
 use Rattle.wd1770.specs.declared.command.Transfer.{Transfer}
 use Rattle.wd1770.specs.State.{State}
@@ -10,7 +10,9 @@ use Rattle.wd1770.specs.Sectors.{is_found, search_step}
 use Rattle.wd1770.specs.Registers.{read_leaves}
 use Rattle.wd1770.specs.Step.{next_angle, work_leaves, step}
 use Rattle.wd1770.specs.History.{Event, microsecond, read, write, latch, history, count_steps}
-use Rattle.law_chips.specs.Searches.{AllWait, steps_to, sector_angle, has_match, SearchEnds}
+use Rattle.law_chips.specs.Searches.{AllWait, steps_to, sector_angle, has_match, ComesNot, SearchEnds}
+use Rattle.law_chips.specs.Interrupts.{status_is_read}
+use Rattle.law_chips.proofs.Forcing.{Rests, rests_until_read}
 use Rattle.law_chips.proofs.Reading.{same_disc}
 use Rattle.law_chips.proofs.Waiting.{Waited, CountsFrom, one_step, waited_read, at_first, waits_from}
 
@@ -32,6 +34,11 @@ pub record Found (s0 : State) (t : Transfer) (s : State) : Type 0 where
 record Lost (s : State) : Type 0 where
   pub command : s.command ≡ Idle
   pub none : s.record_not_found ≡ true
+
+-- the step at which it is over
+record IsOver (s : State) : Type 0 where
+  pub lost : Lost s
+  pub rests : Rests true s
 
 -- One step.
 searched : (s : State) (t : Transfer) (left : ℕ) → s.command ≡ Searching t left →
@@ -79,14 +86,17 @@ finds s0 s t left m going has now =
       sector = going.sector;
     })
 
-loses : (s0 s : State) (t : Transfer) (left m : ℕ) → Going s0 t left s m → NoneAt s0 t m → m + 1 ≡ left → Lost (step s)
+loses : (s0 s : State) (t : Transfer) (left m : ℕ) → Going s0 t left s m → NoneAt s0 t m → m + 1 ≡ left → IsOver (step s)
 unfolding NoneAt
 loses s0 s t left m going none end =
     let s1 : State = record s { angle = Some (next_angle s.angle) } in
     let is : work_leaves s ≡ not_found s1 =
     step_by false s0 s t left m going none
     ∙ ap (λ b. if b then record s1 { command = Searching t (left - m - 1) } else not_found s1) (le-ltb 1 (left - m) (omega arith)) in
-    subst (λ y. Lost (count_leaves (is_asking s) y)) (sym is) (assumption)
+    subst (λ y. IsOver (count_leaves (is_asking s) y)) (sym is) (record {
+      lost = record { command = refl; none = refl };
+      rests = record { command = refl; intrq = refl };
+    })
 
 -- ---- Reads of registers.
 
@@ -148,16 +158,28 @@ never : (s : State) (t : Transfer) → has_match t s ≡ false → (i : ℕ) →
 unfolding NoneAt
 never s t none i = and_left (has_match t s) _ none
 
+-- none in the time that is left
+none_comes : (s : State) (t : Transfer) (left : ℕ) → ComesNot t left s → (i : ℕ) → i < left → NoneAt s t i
+none_comes s t left (inl none) i early = never s t none i
+none_comes s t left (inr late) i early = elim (cases_Bool (has_match t s)) [
+  | inl has ↦ not_before s t has i (omega arith)
+  | inr none ↦ never s t none i
+]
+
 turn : (s : State) → (sector_angle s.sector + 200000 - next_angle s.angle) % 200000 < 200000
 turn s = omega arith
 
+-- a turn is enough for each sector
+pub within_turn : (s : State) (left : ℕ) → 200000 ≤ left → steps_to (sector_angle s.sector) s ≤ left
+within_turn s left enough = omega (arith, turn s)
+
 -- a search that finds its sector
 pub search_found : (s : State) (t : Transfer) (left : ℕ) (events : List Event) →
-    s.command ≡ Searching t left → 200000 ≤ left → has_match t s ≡ true → AllWait events →
+    s.command ≡ Searching t left → steps_to (sector_angle s.sector) s ≤ left → has_match t s ≡ true → AllWait events →
     count_steps events ≡ steps_to (sector_angle s.sector) s → Found s t (history events s)
 search_found s t left events is enough has all count =
     let last = (sector_angle s.sector + 200000 - next_angle s.angle) % 200000 in
-    run_done (Found s t) (found_read s t) s t left last (λ x going. finds s x t left last going has (then_now s t has)) (omega (arith, turn s))
+    run_done (Found s t) (found_read s t) s t left last (λ x going. finds s x t left last going has (then_now s t has)) (omega arith)
     (not_before s t has)
     events s 0 all (omega arith) (omega arith) (begins s t left is)
 
@@ -165,7 +187,7 @@ pub search_ends : SearchEnds
 search_ends = record {
   goes_on = λ s t left events is enough has all early.
       let last = (sector_angle s.sector + 200000 - next_angle s.angle) % 200000 in
-      runs_on s t left last events is (omega (arith, turn s)) (not_before s t has) all (omega arith);
+      runs_on s t left last events is (omega arith) (not_before s t has) all (omega arith);
   found = λ s t left events is enough has off all count.
       let found = search_found s t left events is enough has all count in (
         record { command = found.command; angle = found.angle; drq = found.drq off },
@@ -174,11 +196,20 @@ search_ends = record {
         found.sector,
       );
   waits = λ s t left events is none all early.
-      runs_on s t left (count_steps events) events is early (λ i h. never s t none i) all (omega arith);
+      runs_on s t left (count_steps events) events is early (λ i h. none_comes s t left none i (omega arith)) all (omega arith);
   not_found = λ s t left events is some none all count.
       let lost : Lost (history events s) =
-      run_done Lost lost_read s t left (left - 1) (λ x going. loses s x t left (left - 1) going (never s t none (left - 1)) (omega arith))
+      run_done Lost lost_read s t left (left - 1)
+      (λ x going. (loses s x t left (left - 1) going (none_comes s t left none (left - 1) (omega arith)) (omega arith)).lost)
       (omega arith)
-      (λ i h. never s t none i) events s 0 all (omega arith) (omega arith) (begins s t left is) in
+      (λ i h. none_comes s t left none i (omega arith)) events s 0 all (omega arith) (omega arith) (begins s t left is) in
       (lost.command, lost.none);
+  asks = λ s t left waits others is none all count free.
+      let going : Going s t left (history waits s) (count_steps waits) =
+      waits_from (λ m. Searching t (left - m)) (count_steps waits) s
+      (goes_on s t left (count_steps waits) (omega arith) (λ i h. none_comes s t left none i (omega arith)))
+      waits all (omega arith) (begins s t left is).command in
+      let over : IsOver (step (history waits s)) =
+      loses s (history waits s) t left (count_steps waits) going (none_comes s t left none (count_steps waits) (omega arith)) count in
+      (rests_until_read true others (step (history waits s)) free over.rests).intrq;
 }

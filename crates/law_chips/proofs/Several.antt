@@ -21,7 +21,7 @@ use Rattle.law_chips.specs.SeveralSectors.{HasAll, IsOutside, SectorsAreWritten}
 use Rattle.law_chips.proofs.Reading.{same_disc, at_each, moved_on, worked_is, reads_is, behind_bytes, of_sector, is_given, at_start}
 use Rattle.law_chips.proofs.Streams.{IsAccess, waiting, waits_read, runs_all, Program, writing, writes_let, lets_go}
 use Rattle.law_chips.proofs.Streams.{Taking, takes_step, takes_access}
-use Rattle.law_chips.proofs.Search.{search_found}
+use Rattle.law_chips.proofs.Search.{search_found, within_turn}
 use Rattle.law_chips.proofs.Timely.{served, whole}
 use Rattle.std.specs.List.{range_with_len}
 use Rattle.std.proofs.lemmas.List.FromFn.{fill_by_all, length-map-range_with_len, get_or-map-range_with_len}
@@ -140,7 +140,7 @@ one s t d round is few timely =
     let s1 = history round.waits s in
     let s2 = history round.serves s1 in
     let found =
-    search_found s t 1000001 round.waits is.command (omega arith) (matches s t d is.density is.track is.disc is.on_disc few) timely.wait timely.waited in
+    search_found s t 1000001 round.waits is.command (within_turn s 1000001 (omega arith)) (matches s t d is.density is.track is.disc is.on_disc few) timely.wait timely.waited in
     let at : IsAtSector s1 t k = record { command = found.command; angle = found.angle; drq = found.drq is.drq } in
     let disc1 : disc_in t.target.drive s1 ≡ Some d = same_disc t.target.drive s1 s found.drive0 found.drive1 ∙ is.disc in
     let bytes = sector_bytes d t.target.side t.target.head k in
@@ -285,7 +285,7 @@ one_written back others s t d round is few timely =
     let s1 = history round.waits s in
     let s2 = history round.serves s1 in
     let found =
-    search_found s t 1000001 round.waits is.command (omega arith) (matches s t d is.density is.track is.disc is.on_disc few) timely.wait timely.waited in
+    search_found s t 1000001 round.waits is.command (within_turn s 1000001 (omega arith)) (matches s t d is.density is.track is.disc is.on_disc few) timely.wait timely.waited in
     let at : IsAtSector s1 t k = record { command = found.command; angle = found.angle; drq = found.drq is.drq } in
     let disc1 : disc_in t.target.drive s1 ≡ Some d = same_disc t.target.drive s1 s found.drive0 found.drive1 ∙ is.disc in
     let has = has_it d t k few is.on_disc in

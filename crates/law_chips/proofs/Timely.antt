@@ -1,11 +1,11 @@
 -- Lost data during a sector, and sectors that are read or written in time.
-use Rattle.std.proofs.Common.{◌≡◌, ◌∙◌, sym, ap, subst, refl, ℕ, ◌+◌, ◌-◌, ◌*◌, ◌/◌, ◌%◌, ◌<◌, ◌≤◌, ◌==◌, ◌&&◌, ◌||◌, not, Bool, true, false, List, [], ◌∷◌}
+use Rattle.std.proofs.Common.{◌≡◌, ◌∙◌, sym, ap, subst, refl, ℕ, ◌+◌, ◌-◌, ◌*◌, ◌/◌, ◌%◌, ◌^◌, ◌<◌, ◌≤◌, ◌==◌, ◌&&◌, ◌||◌, not, Bool, true, false, List, [], ◌∷◌}
 use Rattle.std.proofs.Common.{◌++◌, arith, inl, inr, ◌⊎◌}
 use Rattle.std.specs.Prelude.{Some, nat_lt, if◌then◌else◌, Option}
 use Rattle.std.specs.List.{list_any}
 use Rattle.std.proofs.lemmas.Bool.{cases_Bool, cases_eq, cases_lt, eq-eqb, ne_eqb, lt-ltb, le-ltb, lt-leb, true≢false, and_parts, ltb-true}
 use Rattle.std.proofs.lemmas.List.{append-nil}
-use Rattle.wd1770.specs.declared.command.Command.TheVariants.{Transferring}
+use Rattle.wd1770.specs.declared.command.Command.TheVariants.{Idle, Transferring}
 use Rattle.wd1770.specs.declared.command.Transfer.{Transfer}
 use Rattle.wd1770.specs.State.{State}
 use Rattle.wd1770.specs.Ends.{is_asking, count_leaves, finish_leaves}
@@ -19,13 +19,13 @@ use Rattle.law_chips.proofs.Writing.{by_place, put, writes_is, sector_written}
 use Rattle.law_chips.proofs.Streams.{has_place, any_stays, any_other, any_now, or_true, stays_lost, Either as Taken, run as reads_run}
 use Rattle.law_chips.proofs.Streams.{Accessed, is_data, letting_go, runs_all, reading, lets_go, writing}
 use Rattle.disc_image.specs.Image.{Image, has_sector}
-use Rattle.law_chips.specs.InTime.{IsInTime, found_after, ReadsInTime, WritesInTime}
+use Rattle.law_chips.specs.InTime.{IsInTime, IsFound, found_after, ReadsInTime, WritesInTime}
 use Rattle.law_chips.proofs.Begun.{is_read, starts, is_write}
 use Rattle.disc_image.specs.Laws.{IsReadBack, OthersStay}
 use Rattle.wd1770.specs.Select.{disc_in}
 use Rattle.law_chips.specs.SectorWrites.{AllWritten, bytes_given, IsStored}
 use Rattle.law_chips.specs.WholeReads.{SearchedAndRead}
-use Rattle.law_chips.proofs.Search.{search_ends}
+use Rattle.law_chips.proofs.Search.{search_ends, within_turn}
 
 -- byte i was given
 given : ℕ → List ℕ → Bool
@@ -355,6 +355,25 @@ whole s t k d bytes events at has reads kept all count in_time =
     ∙ ap (λ b. bytes_taken s events ++ (if b then (history events s).byte ∷ [] else [])) (sym end.off)
     ∙ sector_read.whole s t k d bytes events at has reads all count end.kept
 
+-- bit 4 of a command, by its high digit
+one_sector : (v : ℕ) → v / 16 % 2 ≡ 0 → (v / 2 ^ 4 % 2 == 1) ≡ false
+one_sector v is = grind arith
+
+more_sectors : (v : ℕ) → v / 16 % 2 ≡ 1 → (v / 2 ^ 4 % 2 == 1) ≡ true
+more_sectors v is = grind arith
+
+-- the command after a sector that 8x or 9x reads
+after_read : (s : State) (v : ℕ) (d : Image) (bytes : List ℕ) (settles waits reads : List Event) →
+    0x80 ≤ v → v < 0xA0 → IsFound s v settles waits → HasBytes s (transfer_of v s) s.sector d bytes →
+    AllRead reads → count_steps reads ≡ sector_steps →
+    (history reads (found_after v settles waits s)).command ≡ command_behind (transfer_of v s)
+after_read s v d bytes settles waits reads low high is has all count =
+    let t = transfer_of v s in
+    let found = starts s v settles waits low (omega arith) is in
+    let s1 = found_after v settles waits s in
+    let on_disc : HasBytes s1 t s.sector d bytes = record { disc = found.disc ∙ has.disc; sector = has.sector } in
+    sector_read.end s1 t s.sector d bytes reads found.at on_disc (is_read v low high) all count
+
 pub reads_in_time : ReadsInTime
 reads_in_time = record {
   whole = whole;
@@ -364,6 +383,12 @@ reads_in_time = record {
       let s1 = found_after v settles waits s in
       let on_disc : HasBytes s1 t s.sector d bytes = record { disc = found.disc ∙ has.disc; sector = has.sector } in
       whole s1 t s.sector d bytes reads found.at on_disc (is_read v low high) found.lost all count in_time;
+  ends = λ s v d bytes settles waits reads low high is has all count.
+      after_read s v d bytes settles waits reads low (omega arith) is has all count
+      ∙ ap (λ b. if b then search_of (transfer_of v s) else Idle) (one_sector v (omega arith));
+  goes_on = λ s v d bytes settles waits reads low high is has all count.
+      after_read s v d bytes settles waits reads (omega arith) high is has all count
+      ∙ ap (λ b. if b then search_of (transfer_of v s) else Idle) (more_sectors v (omega arith));
 }
 
 whole_written : (back : IsReadBack) (others : OthersStay) (s : State) (t : Transfer) (k : ℕ) (d : Image) (events : List Event) →
@@ -382,20 +407,35 @@ on_disc : (o : Option Image) (d : Image) (t : Transfer) (k : ℕ) → o ≡ Some
     has_sector d.kind t.target.side t.target.head k ≡ true
 on_disc o d t k is has = sym (ap (λ o. is_on_disc o t.target k) is) ∙ has
 
+-- a sector that Ax or Bx writes, and the command after it
+commanded_write : (back : IsReadBack) (others : OthersStay) (s : State) (v : ℕ) (d : Image) (settles waits writes : List Event) →
+    0xA0 ≤ v → v < 0xC0 → IsFound s v settles waits → disc_in (transfer_of v s).target.drive s ≡ Some d →
+    AllWritten (found_after v settles waits s) writes → count_steps writes ≡ sector_steps → IsInTime true writes →
+    IsStored d (transfer_of v s) s.sector (bytes_given writes) (history writes (found_after v settles waits s))
+    × ((history writes (found_after v settles waits s)).command ≡ command_behind (transfer_of v s))
+commanded_write back others s v d settles waits writes low high is here all count in_time =
+    let t = transfer_of v s in
+    let found = starts s v settles waits (omega arith) high is in
+    let s1 = found_after v settles waits s in
+    let has : has_sector d.kind t.target.side t.target.head s.sector ≡ true =
+    on_disc (disc_in t.target.drive s) d t s.sector here (and_parts _ _ (and_parts _ _ is.has).1).1 in
+    whole_written back others s1 t s.sector d writes found.at (found.disc ∙ here) has (is_write v low high) found.lost all count in_time
+
 pub writes_in_time : (back : IsReadBack) (others : OthersStay) → WritesInTime
 writes_in_time back others = record {
   whole = whole_written back others;
   commanded = λ s v d settles waits writes low high is here all count in_time.
-      let t = transfer_of v s in
-      let found = starts s v settles waits (omega arith) high is in
-      let s1 = found_after v settles waits s in
-      let has : has_sector d.kind t.target.side t.target.head s.sector ≡ true =
-      on_disc (disc_in t.target.drive s) d t s.sector here (and_parts _ _ (and_parts _ _ is.has).1).1 in
-      (whole_written back others s1 t s.sector d writes found.at (found.disc ∙ here) has (is_write v low high) found.lost all count in_time).0;
+      (commanded_write back others s v d settles waits writes low high is here all count in_time).0;
+  ends = λ s v d settles waits writes low high is here all count in_time.
+      (commanded_write back others s v d settles waits writes low (omega arith) is here all count in_time).1
+      ∙ ap (λ b. if b then search_of (transfer_of v s) else Idle) (one_sector v (omega arith));
+  goes_on = λ s v d settles waits writes low high is here all count in_time.
+      (commanded_write back others s v d settles waits writes (omega arith) high is here all count in_time).1
+      ∙ ap (λ b. if b then search_of (transfer_of v s) else Idle) (more_sectors v (omega arith));
 }
 
 pub searched_and_read : SearchedAndRead
 searched_and_read s t d bytes waits reads searches is_read has off bytes_are all_wait count all_read steps kept =
-    let found = search_ends.found s t 1000001 waits searches (omega arith) has off all_wait count in
+    let found = search_ends.found s t 1000001 waits searches (within_turn s 1000001 (omega arith)) has off all_wait count in
     let on_disc : HasBytes (history waits s) t s.sector d bytes = record { disc = found.1 ∙ bytes_are.disc; sector = bytes_are.sector } in
     sector_read.whole (history waits s) t s.sector d bytes reads found.0 on_disc is_read all_read steps kept

@@ -6,7 +6,7 @@ use Rattle.wd1770.specs.declared.command.Command.TheVariants.{Idle}
 use Rattle.wd1770.specs.declared.command.Transfer.{Transfer}
 use Rattle.wd1770.specs.State.{State}
 use Rattle.wd1770.specs.Select.{is_reset, disc_in}
-use Rattle.wd1770.specs.Sectors.{transfer_of}
+use Rattle.wd1770.specs.Sectors.{transfer_of, search_of}
 use Rattle.wd1770.specs.Registers.{write_leaves}
 use Rattle.wd1770.specs.History.{Event, history, count_steps}
 use Rattle.law_chips.specs.SectorReads.{sector_steps, AllRead, bytes_taken, IsAtSector, HasBytes, command_behind}
@@ -48,6 +48,15 @@ pub record ReadsInTime : Type 0 where
       0x80 ≤ v → v < 0xA0 → IsFound s v settles waits → HasBytes s (transfer_of v s) s.sector d bytes →
       AllRead reads → count_steps reads ≡ sector_steps → IsInTime false reads →
       bytes_taken (found_after v settles waits s) reads ≡ bytes
+  -- 8x is over then, and 9x searches for the next sector
+  pub ends : (s : State) (v : ℕ) (d : Image) (bytes : List ℕ) (settles waits reads : List Event) →
+      0x80 ≤ v → v < 0x90 → IsFound s v settles waits → HasBytes s (transfer_of v s) s.sector d bytes →
+      AllRead reads → count_steps reads ≡ sector_steps →
+      (history reads (found_after v settles waits s)).command ≡ Idle
+  pub goes_on : (s : State) (v : ℕ) (d : Image) (bytes : List ℕ) (settles waits reads : List Event) →
+      0x90 ≤ v → v < 0xA0 → IsFound s v settles waits → HasBytes s (transfer_of v s) s.sector d bytes →
+      AllRead reads → count_steps reads ≡ sector_steps →
+      (history reads (found_after v settles waits s)).command ≡ search_of (transfer_of v s)
 
 -- Where a program gives each byte in its time, the bytes that it gave are the sector's, and all others of the disc stay: from where the sector begins,
 -- and from the writing of Ax or Bx.
@@ -60,3 +69,12 @@ pub record WritesInTime : Type 0 where
       0xA0 ≤ v → v < 0xC0 → IsFound s v settles waits → disc_in (transfer_of v s).target.drive s ≡ Some d →
       AllWritten (found_after v settles waits s) writes → count_steps writes ≡ sector_steps → IsInTime true writes →
       IsStored d (transfer_of v s) s.sector (bytes_given writes) (history writes (found_after v settles waits s))
+  -- Ax is over then, and Bx searches for the next sector
+  pub ends : (s : State) (v : ℕ) (d : Image) (settles waits writes : List Event) →
+      0xA0 ≤ v → v < 0xB0 → IsFound s v settles waits → disc_in (transfer_of v s).target.drive s ≡ Some d →
+      AllWritten (found_after v settles waits s) writes → count_steps writes ≡ sector_steps → IsInTime true writes →
+      (history writes (found_after v settles waits s)).command ≡ Idle
+  pub goes_on : (s : State) (v : ℕ) (d : Image) (settles waits writes : List Event) →
+      0xB0 ≤ v → v < 0xC0 → IsFound s v settles waits → disc_in (transfer_of v s).target.drive s ≡ Some d →
+      AllWritten (found_after v settles waits s) writes → count_steps writes ≡ sector_steps → IsInTime true writes →
+      (history writes (found_after v settles waits s)).command ≡ search_of (transfer_of v s)

@@ -5,7 +5,7 @@ use Rattle.beeb_bits.specs.Bits.{bit}
 use Rattle.wd1770.specs.declared.command.Command.TheVariants.{Idle}
 use Rattle.wd1770.specs.State.{State}
 use Rattle.wd1770.specs.Select.{is_reset, head_selected}
-use Rattle.wd1770.specs.Ends.{is_busy}
+use Rattle.wd1770.specs.Ends.{is_busy, is_motor_on}
 use Rattle.wd1770.specs.Motion.{step_time}
 use Rattle.wd1770.specs.Registers.{write_leaves}
 use Rattle.wd1770.specs.Step.{step}
@@ -43,13 +43,14 @@ abbrev pub ended_after : ℕ → List Event → State → State
 ended_after v waits s = step (history waits (write_leaves 0 v s))
 
 -- The command is over, with INTRQ. The selected head is at this track, the track register has this value, and where bit 2 asked for verification
--- there is a seek error (record not found) if the two differ.
+-- there is a seek error (record not found) if the two differ. The motor is on for 2,000,000 steps more.
 pub record Arrives (v there value : ℕ) (s : State) : Type 0 where
   pub over : s.command ≡ Idle
   pub asks : s.intrq ≡ true
   pub head : head_selected s ≡ there
   pub track : s.track ≡ value
   pub seek_error : s.record_not_found ≡ (bit v 2 && not (value == there))
+  pub motor : (others : List Event) → AllWait others → is_motor_on (history others s) ≡ nat_lt (count_steps others) 2000000
 
 pub record MotionsArrive : Type 0 where
   -- as long as its time lasts the command is busy, and the head and the track register are where they were
@@ -63,6 +64,11 @@ pub record MotionsArrive : Type 0 where
   -- seek: the head moves by as much as the track register, which becomes the data register
   pub seek : (s : State) (v : ℕ) (waits : List Event) → 0x10 ≤ v → v < 0x20 → IsGiven s waits → count_steps waits + 1 ≡ motion_time v s →
       Arrives v (head_moved (nat_lt s.track s.byte) (head_steps v s) (head_selected s)) s.byte (ended_after v waits s)
+  -- The last direction is that of their steps, if they make one: restore steps outward, and seek toward the track of the data register.
+  pub restore_way : (s : State) (v : ℕ) (waits : List Event) → v < 0x10 → IsGiven s waits → count_steps waits + 1 ≡ motion_time v s →
+      (ended_after v waits s).last_inward ≡ (if head_selected s == 0 then s.last_inward else false)
+  pub seek_way : (s : State) (v : ℕ) (waits : List Event) → 0x10 ≤ v → v < 0x20 → IsGiven s waits → count_steps waits + 1 ≡ motion_time v s →
+      (ended_after v waits s).last_inward ≡ (if s.track == s.byte then s.last_inward else nat_lt s.track s.byte)
   -- where the track register is the head's track the head is then at that of the data register
   pub sought : (s : State) (v : ℕ) (waits : List Event) → 0x10 ≤ v → v < 0x20 → IsGiven s waits → count_steps waits + 1 ≡ motion_time v s →
       s.track ≡ head_selected s → s.byte ≤ 83 → Arrives v s.byte s.byte (ended_after v waits s)

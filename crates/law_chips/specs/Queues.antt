@@ -1,6 +1,6 @@
 -- Each register of the Tube is a queue, in each direction: what comes into it and what leaves it over any run of accesses and looks of both
 -- sides. (Application Note 004, the registers and their status: register 1 to the host has 24 bytes, register 3 one or two by V, each other one.)
-use Rattle.std.specs.Prelude.{ℕ, ◌-◌, ◌*◌, ◌≡◌, ◌≤◌, ◌==◌, ◌&&◌, ◌||◌, Bool, true, false, not, List, [], ◌∷◌, ◌++◌, Option, None, Some, is_some, if◌then◌else◌}
+use Rattle.std.specs.Prelude.{ℕ, ◌-◌, ◌*◌, ◌≡◌, ◌≤◌, ◌==◌, ◌&&◌, ◌||◌, nat_lt, Bool, true, false, not, List, [], ◌∷◌, ◌++◌, length, take, Option, None, Some, is_some, if◌then◌else◌}
 use Rattle.beeb_bits.specs.Bits.{bit}
 use Rattle.beeb_bits.specs.declared.Side.{Side}
 use Rattle.beeb_bits.specs.declared.Side.TheVariants.{Host, Para}
@@ -10,7 +10,7 @@ use Rattle.tube_chip.specs.declared.Answer.{Answer}
 use Rattle.tube_chip.specs.declared.Answer.TheVariants.{Byte, Seen}
 use Rattle.tube_chip.specs.Register.{Register, held_bytes}
 use Rattle.tube_chip.specs.State.{State, register, outgoing_bank, capacity, is_empty, power_on}
-use Rattle.tube_chip.specs.Act.{MayDo, Query, access, look, is_not_full, act}
+use Rattle.tube_chip.specs.Act.{MayDo, Query, access, look, is_not_full, chip_after, act}
 use Rattle.tube_chip.specs.Events.{Event, IsAnsweredFrom, after_from, is_side}
 
 -- the side that reads what this one writes
@@ -140,3 +140,32 @@ abbrev pub FifoLosesNothing : Type 0
 FifoLosesNothing =
     (c : State) (events : List Event) → MayCome events → IsAnsweredFrom c events → ClearsNothing events →
     over (read_out Para 1) c events ++ held_bytes (queue Para 1 (after_from c events)) ≡ held_bytes (queue Para 1 c) ++ over (written_in Para 1) c events
+
+-- ---- How many bytes a register holds.
+
+-- a side writes these bytes to register k, one after the other
+abbrev pub all_written : Side → ℕ → List ℕ → State → State
+all_written from k [] c = c
+all_written from k (byte ∷ bytes) c = all_written from k bytes (chip_after c from (Write (byte_number k) byte))
+
+-- Register k has so much room for a side: of bytes that are written to it while it is empty it holds the first `room`, and bit 6 of its status is
+-- set while it holds fewer.
+pub record HasRoom (from : Side) (k room : ℕ) (c : State) : Type 0 where
+  pub holds : (bytes : List ℕ) → is_empty (queue from k c) ≡ true → held_bytes (queue from k (all_written from k bytes c)) ≡ take room bytes
+  pub shows : is_not_full from k c ≡ nat_lt (length (held_bytes (queue from k c))) room
+
+-- Register k is for one byte: it holds the byte that is written last, and bit 6 of its status is set while it is empty.
+pub record IsForOne (from : Side) (k : ℕ) (c : State) : Type 0 where
+  pub holds : (byte : ℕ) → held_bytes (queue from k (chip_after c from (Write (byte_number k) byte))) ≡ byte ∷ []
+  pub shows : is_not_full from k c ≡ is_empty (queue from k c)
+
+pub record RegistersHold : Type 0 where
+  -- register 1 to the host holds 24 bytes
+  pub fifo : (c : State) → HasRoom Para 1 24 c
+  -- register 3 holds two bytes each way if V is set, and else one
+  pub pair : (from : Side) (c : State) → c.flags.v ≡ true → HasRoom from 3 2 c
+  pub single : (from : Side) (c : State) → c.flags.v ≡ false → IsForOne from 3 c
+  -- every other one holds one byte
+  pub first : (c : State) → IsForOne Host 1 c
+  pub second : (from : Side) (c : State) → IsForOne from 2 c
+  pub fourth : (from : Side) (c : State) → IsForOne from 4 c

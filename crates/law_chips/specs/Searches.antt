@@ -1,13 +1,15 @@
 -- How long a search for a sector takes. (WD1770 data sheet, Type II Commands; the places and times of the sectors are this project's profile.)
-use Rattle.std.specs.Prelude.{ℕ, ◌+◌, ◌-◌, ◌*◌, ◌%◌, ◌≡◌, ◌≤◌, ◌<◌, ◌==◌, ◌&&◌, Bool, true, false, List, [], ◌∷◌}
+use Rattle.std.specs.Prelude.{ℕ, ◌+◌, ◌-◌, ◌*◌, ◌%◌, ◌≡◌, ◌≤◌, ◌<◌, ◌==◌, ◌&&◌, ◌⊎◌, not, Bool, true, false, List, [], ◌∷◌}
 use Rattle.wd1770.specs.declared.command.Command.TheVariants.{Idle, Searching}
 use Rattle.wd1770.specs.declared.command.Transfer.{Transfer}
 use Rattle.wd1770.specs.State.{State}
 use Rattle.wd1770.specs.Select.{is_single_density, disc_in}
 use Rattle.wd1770.specs.Sectors.{is_on_disc}
-use Rattle.wd1770.specs.Step.{next_angle}
+use Rattle.wd1770.specs.Step.{next_angle, step}
 use Rattle.wd1770.specs.History.{Event, microsecond, read, write, latch, history, count_steps}
 use Rattle.law_chips.specs.SectorReads.{IsAtSector}
+use Rattle.law_chips.specs.LostData.{AllLetGo}
+use Rattle.law_chips.specs.Interrupts.{status_is_read}
 
 -- a program that waits: between steps it reads registers, and writes none
 abbrev pub Waits : Event → Type 0
@@ -32,21 +34,28 @@ sector_angle k = 64 * (312 * k)
 abbrev pub has_match : Transfer → State → Bool
 has_match t s = is_single_density s.latch && ((t.target.head == s.track) && is_on_disc (disc_in t.target.drive s) t.target s.sector)
 
--- A search that has a turn left ends within that turn, at the step at which its sector begins, and at none before; the disc, lost data and the
--- sector register stay as they are. One that has no sector ends when its time is over, with record not found and INTRQ until the status is read.
+-- No sector comes in the time that is left: there is none, or it begins later.
+abbrev pub ComesNot : Transfer → ℕ → State → Type 0
+ComesNot t left s = (has_match t s ≡ false) ⊎ (left < steps_to (sector_angle s.sector) s)
+
+-- A search whose sector begins in the time that is left ends at the step at which it begins, and at none before; the disc, lost data and the sector
+-- register stay as they are. Any other ends when its time is over, with record not found, and with INTRQ until the status is read.
 pub record SearchEnds : Type 0 where
   pub goes_on : (s : State) (t : Transfer) (left : ℕ) (events : List Event) →
-      s.command ≡ Searching t left → 200000 ≤ left → has_match t s ≡ true → AllWait events →
+      s.command ≡ Searching t left → steps_to (sector_angle s.sector) s ≤ left → has_match t s ≡ true → AllWait events →
       count_steps events < steps_to (sector_angle s.sector) s →
       (history events s).command ≡ Searching t (left - count_steps events)
   pub found : (s : State) (t : Transfer) (left : ℕ) (events : List Event) →
-      s.command ≡ Searching t left → 200000 ≤ left → has_match t s ≡ true → s.drq ≡ false → AllWait events →
+      s.command ≡ Searching t left → steps_to (sector_angle s.sector) s ≤ left → has_match t s ≡ true → s.drq ≡ false → AllWait events →
       count_steps events ≡ steps_to (sector_angle s.sector) s →
       IsAtSector (history events s) t s.sector × (disc_in t.target.drive (history events s) ≡ disc_in t.target.drive s)
       × ((history events s).lost_data ≡ s.lost_data) × ((history events s).sector ≡ s.sector)
   pub waits : (s : State) (t : Transfer) (left : ℕ) (events : List Event) →
-      s.command ≡ Searching t left → has_match t s ≡ false → AllWait events → count_steps events < left →
+      s.command ≡ Searching t left → ComesNot t left s → AllWait events → count_steps events < left →
       (history events s).command ≡ Searching t (left - count_steps events)
   pub not_found : (s : State) (t : Transfer) (left : ℕ) (events : List Event) →
-      s.command ≡ Searching t left → 0 < left → has_match t s ≡ false → AllWait events → count_steps events ≡ left →
+      s.command ≡ Searching t left → 0 < left → ComesNot t left s → AllWait events → count_steps events ≡ left →
       ((history events s).command ≡ Idle) × ((history events s).record_not_found ≡ true)
+  pub asks : (s : State) (t : Transfer) (left : ℕ) (waits others : List Event) →
+      s.command ≡ Searching t left → ComesNot t left s → AllWait waits → count_steps waits + 1 ≡ left → AllLetGo others →
+      (history others (step (history waits s))).intrq ≡ not (status_is_read others)

@@ -24,4 +24,4 @@ pub use pictures::{
 };
 pub use plugs::a_ram_card_remembers;
 pub use roms::a_half_rom_stands_twice;
-pub use tube::registers_are_queues;
+pub use tube::{registers_are_queues, registers_hold_so_many};

@@ -1,9 +1,14 @@
 //! The Tube.
-ghost use Rattle.law_chips.specs.Queues.{RegistersAreQueues, NothingIsLost, FifoLosesNothing};
+ghost use Rattle.law_chips.specs.Queues.{RegistersAreQueues, NothingIsLost, FifoLosesNothing, RegistersHold};
 
 /// Each register of the Tube is a queue in each direction: what leaves it is what came into it, in that order.
 pub fn registers_are_queues()
     ensures all { RegistersAreQueues }
     ensures nothing_lost { NothingIsLost }
     ensures fifo { FifoLosesNothing }
+{}
+
+/// The registers of the Tube hold 24 bytes, two, or one.
+pub fn registers_hold_so_many()
+    ensures { RegistersHold }
 {}
