@@ -173,6 +173,15 @@ class Gate(Case):
         self.assertEqual(text_of(rows), b"crate,proof,tests,edits,run\nlower,31,,3,2026-12-02 10:00\nbeebtube,22.2,,,2026-12-02 10:00\n")
         self.assertEqual(text_of(runs).count(b"\n"), 2)
 
+    def test_measurements_find_the_program(self):
+        """The scripts of bench/ run the program that the launcher runs, also if nothing was built here."""
+        script = os.path.join(TOP, "bench/common.sh")
+        done = call(["bash", "-c", '. "$0" && echo "program $program"', script], self.folder)
+        shown = call([os.path.join(TOP, "beebtube"), "--version"], self.folder)
+        self.assertEqual((done.status, done.err), (0, ""))
+        self.assertIn(done.out, shown.out)
+        self.assertTrue(os.access(done.out[8:-1], os.X_OK), done.out)
+
     def test_times_beside(self):
         """A run's log says when and where it began, and how long it took."""
         top = self.clone("times")
