@@ -191,7 +191,7 @@ class Program:
         timer.cancel()
         child.returncode = os.waitstatus_to_exitcode(status)
         shutil.rmtree(room)
-        if child.returncode == -signal.SIGKILL:
+        if child.returncode == -signal.SIGKILL and took >= LIMIT:
             return ENDLESS, ENDLESS
         if child.returncode:
             stop("status %d of %s" % (child.returncode, words))
