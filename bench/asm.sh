@@ -21,11 +21,11 @@ open("comment", "w").write(";" * size)
 open("list", "w").write("byte 1" + ",1" * ((size - 6) // 2))
 PY
 
-against_sha256sum source 'a ratio of at most 20' asm 6502 source image
+against_sha256sum source asm 6502 source image
 
 for file in comment list; do
     /usr/bin/time -f '%M' -o one "$program" asm 6502 "$file" image >said || true
     awk -v name="$file" -v memory="$(tail -n 1 one)" -v size="$(stat -c %s "$file")" 'BEGIN {
-        printf "a line of %d bytes, %s: %d kB, %.2f times the file (goal: at most 3)\n", size, name, memory, memory * 1024 / size
+        printf "a line of %d bytes, %s: %d kB, %.2f times the file\n", size, name, memory, memory * 1024 / size
     }'
 done

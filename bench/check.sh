@@ -15,4 +15,4 @@ with open("largest.trace", "w", buffering=1 << 20) as out:
         out.write("%010X %s %s %d %02X\n" % (3 * i, side, way, number, byte))
 PY
 
-against_sha256sum largest.trace 'a ratio of at most 3, and at most 3 times the file' check largest.trace
+against_sha256sum largest.trace check largest.trace

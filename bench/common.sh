@@ -3,18 +3,21 @@
 set -eu
 if [ "${1:-}" = --help ]; then sed -n '2,/^[^#]/s/^# //p' "$0"; exit; fi
 top=$(cd "$(dirname "$0")/.." && pwd)
-program="$top/crates/beebtube/out/beebtube"
 launcher="$top/beebtube"
 if [ -n "${BEEBTUBE:-}" ]; then
     program=$(realpath "$BEEBTUBE")
     launcher=$program
+else
+    # (the first call builds the program if a source was edited)
+    "$launcher" check /dev/null >/dev/null
+    program=$("$launcher" --version | sed -n 's/^program //p')
 fi
 work=$(mktemp -d)
 trap 'rm -rf "$work"' EXIT
 cd "$work"
 
 # The pairs that `run` is timed on: the name, the host's program, the second processor's, and a key script, or `disc` for an empty one in
-# drive 0. A number behind the name stands for the microseconds between two interrupts of the host's timer, in place of the 1,000 of its program.
+# drive 0. A number after the name is the microseconds between two interrupts of the host's timer, in place of the 1,000 of its program.
 pairs='talk bench/pairs/talk-os bench/pairs/talk-tube
 busy bench/busy-os bench/busy-tube
 demo examples/demo-os examples/demo-tube
@@ -37,7 +40,7 @@ pushes bench/busy-os bench/pairs/pushes-tube
 screen bench/pairs/screen-os bench/busy-tube
 disc bench/pairs/disc-os bench/busy-tube disc'
 
-# assemble_pair NAME: assembles the pair as NAME-os and NAME-tube, and leaves the words that run it in `words`, those for its keys or its disc in
+# assemble_pair NAME: assembles the pair as NAME-os and NAME-tube, and leaves the arguments that run it in `words`, those for its keys or its disc in
 # `more`
 assemble_pair() {
     local name os tube input
@@ -67,11 +70,11 @@ move_thread() {
 
 median() { sort -n | sed -n 3p; }
 
-# against_sha256sum FILE GOALS WORD..: runs the program with these words five times, and sha256sum of the file as often. Prints the
-# median times, their ratio, and the peak memory; GOALS is a text that says what both should be.
+# against_sha256sum FILE ARGUMENT..: runs the program with these arguments five times, and sha256sum of the file as often. Prints the
+# median times, their ratio, and the peak memory.
 against_sha256sum() {
-    file=$1 goals=$2
-    shift 2
+    file=$1
+    shift
     "$launcher" "$@"
     for _ in 1 2 3 4 5; do
         /usr/bin/time -f '%e %M' -o one "$program" "$@" >said
@@ -80,9 +83,8 @@ against_sha256sum() {
         cat one >>theirs
     done
     awk -v name="$1" -v ours="$(cut -d' ' -f1 ours | median)" -v theirs="$(median <theirs)" \
-        -v memory="$(cut -d' ' -f2 ours | sort -n | tail -n 1)" -v size="$(stat -c %s "$file")" -v goals="$goals" 'BEGIN {
+        -v memory="$(cut -d' ' -f2 ours | sort -n | tail -n 1)" -v size="$(stat -c %s "$file")" 'BEGIN {
         printf "%s: %.2f s, sha256sum: %.2f s (medians of 5), a ratio of %.2f\n", name, ours, theirs, ours / theirs
         printf "memory: %.0f kB, %.2f times the file\n", memory, memory * 1024 / size
-        printf "goals: %s\n", goals
     }'
 }

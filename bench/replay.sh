@@ -13,7 +13,7 @@
 "$launcher" asm 6502 "$top/examples/font.asm" font
 head -c 204800 /dev/zero >disc
 
-# busy_behind NAME HANDLERS: the busy program of the host behind the lines of standard input, and before these lines
+# busy_behind NAME HANDLERS: the busy program of the host after the lines of standard input, and before these lines
 busy_behind() {
     {
         printf '        org &C000\nstart:  NOP\n'
@@ -66,7 +66,7 @@ irq:    PHA
     screen 4B 3F 28 33 24 1E 02 19 1B 93 12 72 13 28 00
 } | busy_behind teletext-os "$none"
 
-# The side, the option and name of its program, the ticks of a run, those of a bus cycle, and what else is said.
+# The side, the option and name of its program, the ticks of a run, those of a bus cycle, and more arguments.
 while read -r side option name ticks cycle more; do
     for _ in 1 2 3 4 5; do
         /usr/bin/time -f '%e %M' -o one "$program" replay "$side" empty.trace "$ticks" out "--$option" "$name" $more
@@ -93,4 +93,3 @@ host os screen-os 100000000 3
 host os teletext-os 100000000 3 --font font
 host os disc-os 100000000 3 --disc0 disc
 RUNS
-echo 'goals: over 40 times real time for the second processor, over 30 for the host'

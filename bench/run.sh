@@ -1,8 +1,8 @@
 #!/usr/bin/env bash
 # run.sh [--ticks N] [--on A,B] [--apart] [PAIR..]: times `solo`, both replays, `run` on two processors and `run` on one, in turn, five times
-# each, over N ticks (30,000,000, 5 s of machine time, if none is said), for these pairs, or for all that common.sh tells. Prints the fastest,
-# the middle and the slowest of each by the clock on the wall, and compares what each `run` writes with what `solo` wrote. A and B are the
-# processors, the first and the last if none is said, and all but `run` on two is on A. --apart puts a thread on each; else the system does
+# each, over N ticks (30,000,000, 5 s of machine time, without --ticks), for these pairs, or for all of common.sh. Prints the fastest,
+# the middle and the slowest of each by the clock, and compares what each `run` writes with what `solo` wrote. A and B are the
+# processors, the first and the last without --on, and all but `run` on two is on A. --apart puts a thread on each; else the system does
 # as it likes. Two threads that wait for each other need processors of their own: beside other work they are timed with it.
 . "$(dirname "$0")/common.sh"
 
@@ -90,4 +90,3 @@ for pair; do
             }
         }'
 done
-echo 'goals: for busy and demo, solo over 20 times real time and at most 1.15 times both replays, and run on two processors over 4 times real time'

@@ -191,7 +191,7 @@ class Program:
         timer.cancel()
         child.returncode = os.waitstatus_to_exitcode(status)
         shutil.rmtree(room)
-        if child.returncode == -signal.SIGKILL:
+        if child.returncode == -signal.SIGKILL and took >= LIMIT:
             return ENDLESS, ENDLESS
         if child.returncode:
             stop("status %d of %s" % (child.returncode, words))
@@ -395,8 +395,8 @@ def page_of(numbers):
         "\n",
         table(["What runs", "Command", "Seconds by the clock", "CPU seconds"], longest),
         "\n## Instruction counts\n\n",
-        wrapped("""Other work on the computer does not change these counts. Another C library may
-            change them a little."""),
+        wrapped("""Other work on the computer does not change these counts. The environment and
+            another C library may change them a little."""),
         "\n",
         wrapped("""One bus cycle in a replay, without the start of the program, over %s ticks: all
             instructions, and jumps through a table or a register."""

@@ -4,7 +4,7 @@
   docs/figures.py make     writes them
   docs/figures.py check    says which is another than these sources give, and which name in them the code has not, with status 1
 
-What a figure says stands in the lists below; the crates of the house and their layers are those of crates.txt.
+What a figure says is in the lists below; the crates of the house and their layers are those of crates.txt.
 """
 import glob
 import os

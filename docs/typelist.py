@@ -2,10 +2,10 @@
 """Makes the list of public types at the end of docs/MAP.md from the sources: the name of each, its room, and the first sentence of its comment.
 
   docs/typelist.py make     writes it
-  docs/typelist.py check    says which types it lacks, or tells otherwise than the sources do, and which rooms of the sheets'
+  docs/typelist.py check    says which types it lacks or has otherwise than the sources do, and which rooms of the sheets'
                          words in docs/DEFINITIONS.md are not there, with status 1
 
-A type is public where its crate's lib.rt lets it out: by `pub mod`, by `pub use`, or as it stands there.
+A type is public where its crate's lib.rt lets it out: by `pub mod`, by `pub use`, or as it is there.
 """
 import glob
 import os

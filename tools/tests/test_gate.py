@@ -1,8 +1,10 @@
 """The gate's own scripts: what .ci/examples and .ci/test find, and what they leave."""
 import hashlib
+import importlib.util
 import os
 import shutil
 import subprocess
+import unittest.mock
 
 from common import TOP, Case, call, pretend_clone, put, signal, text_of, unittest, wait_until
 
@@ -171,6 +173,15 @@ class Gate(Case):
         self.assertEqual(text_of(rows), b"crate,proof,tests,edits,run\nlower,31,,3,2026-12-02 10:00\nbeebtube,22.2,,,2026-12-02 10:00\n")
         self.assertEqual(text_of(runs).count(b"\n"), 2)
 
+    def test_measurements_find_the_program(self):
+        """The scripts of bench/ run the program that the launcher runs, also if nothing was built here."""
+        script = os.path.join(TOP, "bench/common.sh")
+        done = call(["bash", "-c", '. "$0" && echo "program $program"', script], self.folder)
+        shown = call([os.path.join(TOP, "beebtube"), "--version"], self.folder)
+        self.assertEqual((done.status, done.err), (0, ""))
+        self.assertIn(done.out, shown.out)
+        self.assertTrue(os.access(done.out[8:-1], os.X_OK), done.out)
+
     def test_times_beside(self):
         """A run's log says when and where it began, and how long it took."""
         top = self.clone("times")
@@ -269,6 +280,22 @@ class Speed(Case):
 
     def pages(self):
         return {name: text_of(self.at(name)) for name in ("README.md", "docs/SPEED.md", "bench/speed.csv", "bench/history.csv")}
+
+    def test_a_run_above_the_limit(self):
+        """Such a run is ended and has no time; one that another ends is a fault."""
+        spec = importlib.util.spec_from_file_location("speed", self.at("bench/speed.py"))
+        speed = importlib.util.module_from_spec(spec)
+        with unittest.mock.patch.dict(os.environ, PATH=self.at("bin") + ":" + os.environ["PATH"]):
+            spec.loader.exec_module(speed)
+            for end, limit in ((b"exec sleep 1000", 0.3), (b"kill -9 $$", 1000)):
+                put(self.at("release/beebtube"), COUNTED.replace(b"echo 'tube 10' >out.report", end))
+                speed.LIMIT = limit
+                program = speed.Program(self.at("release/beebtube"), self.folder)
+                if limit < 1:
+                    self.assertEqual(program.time("run {} out", 1), (float("inf"), float("inf")))
+                    self.assertEqual(speed.seconds(float("inf")), "not ended")
+                else:
+                    self.assertRaises(SystemExit, program.time, "run {} out", 1)
 
     def test_a_run_that_fails(self):
         put(self.at("release/beebtube"), COUNTED.replace(b"echo 'tube 10' >out.report", b"exit 7"))
