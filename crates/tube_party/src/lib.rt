@@ -11,6 +11,7 @@ mod one_thread;
 mod party;
 mod replaying;
 mod rewinds;
+mod stride;
 mod table;
 
 pub use desk::{Closed, Desk};

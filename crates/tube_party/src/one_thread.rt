@@ -17,6 +17,7 @@ use crate::log::{Log, LogMark};
 use crate::noting::{Room, note_all};
 use crate::party::{Ask, MOST, Party};
 use crate::rewinds::Rewinds;
+use crate::stride::Stride;
 use crate::table::{Table, passes};
 use beeb_bits::{Side, Tick};
 use std::alloc::Global;
@@ -119,19 +120,19 @@ fn act<M: Party>(
     }
 }
 
-/// Whether a party whose step asks this next may go ahead from there: past a look, or what it `reads`.
+/// Whether a party whose step asks this next may go ahead from there: past a look, or past a read of its status.
 #[inline(always)]
-fn may_go_ahead(ask: Ask, reads: bool) -> bool
+fn may_go_ahead(ask: Ask, stride: &Stride) -> bool
     ensures { result ≡ true → ask ≢ Ask.Nothing }
 {
     match ask {
         Ask::Nothing => false,
-        Ask::Look(_) => true,
-        Ask::Access(_, op) => reads && is_status(op),
+        Ask::Look(_) => stride.pays(),
+        Ask::Access(_, op) => stride.reads() && is_status(op),
     }
 }
 
-/// Goes ahead from what is asked next: past all that the chip shows it below `ahead`, and its status too, if it `reads` that, where its notes allow. True if
+/// Goes ahead from what is asked next: past all that the chip shows it below `ahead`, and its status too, as the stride says, where its notes allow. True if
 /// it is ahead, and what is asked then.
 #[inline(always)]
 fn go_ahead<M: Rewinds>(
@@ -142,7 +143,7 @@ fn go_ahead<M: Rewinds>(
     lines: &Lines,
     ask: Ask,
     ahead: Tick,
-    reads: bool,
+    stride: &Stride,
 ) -> (bool, Ask)
     requires { n.0 ≤ MOST }
     ensures { let old = attended table.old in
@@ -153,8 +154,8 @@ fn go_ahead<M: Rewinds>(
     table.turn = Side::Para;
     table.sure = ahead;
     table.is_read = true;
-    table.is_open = reads;
-    if !may_go_ahead(ask, reads) {
+    table.is_open = stride.reads();
+    if !may_go_ahead(ask, stride) {
         return (false, ask);
     }
     match machine.advance_noting(n, lines, ahead, past, table) {
@@ -224,15 +225,6 @@ fn seen_until<H: Party>(host: &H, chip: &Chip, n: Tick, sure: Tick) -> Tick
     }
 }
 
-/// The fewest ticks that the parasite goes ahead.
-const FEWEST: u64 = 16;
-
-/// The most of them.
-const FURTHEST: u64 = 4_096;
-
-/// How far it has to go for its status to be read ahead.
-const TRUSTED: u64 = 64;
-
 /// Goes on with two parties at one chip for the ticks below `n`, as the reference run does from where both parties are. Before it these accesses were
 /// made: the chip is the one after them, and they count among the accesses of each side, of which as many are kept as `room` has room for.
 ///
@@ -273,7 +265,7 @@ pub fn go_on_from<H: Party, P: Rewinds>(
     let mut host_ask = host.advance(n);
     let mut para_ask = para.advance(n);
     let mut is_ahead = false;
-    let mut stride = FEWEST;
+    let mut stride = Stride::new();
     while let Some(side) = first_of(host_ask, para_ask) {
         match side {
             Side::Host => {
@@ -282,7 +274,7 @@ pub fn go_on_from<H: Party, P: Rewinds>(
                     let at = tick_of(host_ask);
                     para_ask = roll_back(&mut para, &mut past, &mut table, n, &lines, at, mark);
                     is_ahead = false;
-                    stride = (stride / 8).max(FEWEST);
+                    stride.is_cut(at);
                     continue;
                 }
                 act(
@@ -301,6 +293,7 @@ pub fn go_on_from<H: Party, P: Rewinds>(
                 host_ask = host.advance_at(n, &lines, seen, &mut table);
             }
             Side::Para => {
+                stride.take_turn(is_ahead, tick_of(para_ask));
                 act(
                     &mut para,
                     Side::Para,
@@ -317,12 +310,11 @@ pub fn go_on_from<H: Party, P: Rewinds>(
                 let sure = table.sure;
                 let asked = para.advance_at(n, &lines, sure, &mut table);
                 mark = table.para_log.mark();
-                let ahead = Tick(tick_of(asked).0.saturating_add(stride));
-                let reads = stride >= TRUSTED;
+                let ahead = stride.set_out(tick_of(asked));
                 (is_ahead, para_ask) = go_ahead(
-                    &mut para, &mut past, &mut table, n, &lines, asked, ahead, reads,
+                    &mut para, &mut past, &mut table, n, &lines, asked, ahead, &stride,
                 );
-                stride = stride.saturating_add(stride / 4).min(FURTHEST);
+                stride.grow();
             }
         }
     }
