@@ -8,7 +8,7 @@ const FURTHEST: u64 = 4_096;
 
 const TRUSTED: u64 = 64;
 
-// In ticks: what it costs to go ahead if the host cuts that, and twice what it costs if the host does not; and the most credit.
+// In ticks: the cost of a way ahead that the host cuts, which is twice that of a way that it does not cut, and the most credit.
 const COST: u64 = 128;
 
 const MOST_CREDIT: u64 = 1_024;
@@ -17,7 +17,7 @@ const MOST_CREDIT: u64 = 1_024;
 #[derive(Drop)]
 pub(crate) struct Stride {
     ticks: u64,
-    // The ticks that were gained by going ahead, less what that cost. It grows by one in each turn in which the parasite stays, so that it tries again.
+    // The ticks that were gained by going ahead, less their cost. It grows by one in each turn in which the parasite stays, so that the parasite tries again.
     credit: u64,
     // Where the last way began.
     from: Tick,
@@ -32,30 +32,30 @@ impl Stride {
         }
     }
 
-    /// To go ahead pays.
+    /// Whether it pays to go ahead.
     pub(crate) fn pays(&self) -> bool {
         self.credit >= COST
     }
 
-    /// The parasite reads its status on a way of this length.
+    /// Whether the parasite reads its status registers as it goes ahead.
     pub(crate) fn reads(&self) -> bool {
         self.ticks >= TRUSTED && self.pays()
     }
 
-    /// The parasite sets out from this tick: the end of its way.
+    /// The parasite goes ahead from this tick. The tick at which its way ends.
     pub(crate) fn set_out(&mut self, from: Tick) -> Tick {
         self.from = from;
         Tick(from.0.saturating_add(self.ticks))
     }
 
-    /// A way was gone: the next is longer.
+    /// The parasite's turn ends. Its next way is longer, if it pays to go ahead.
     pub(crate) fn grow(&mut self) {
         if self.pays() {
             self.ticks = self.ticks.saturating_add(self.ticks / 4).min(FURTHEST);
         }
     }
 
-    /// The parasite's turn comes at this tick. If it was ahead, all of its way stands.
+    /// The parasite's turn begins at this tick. If it was ahead, the host cut nothing of its way.
     pub(crate) fn take_turn(&mut self, is_ahead: bool, at: Tick) {
         if is_ahead {
             self.account(at, COST / 2);
@@ -70,7 +70,7 @@ impl Stride {
         self.account(at, COST);
     }
 
-    // The last way stands up to this tick, and cost so much.
+    // The host left the last way as it was up to this tick. The way cost so much.
     fn account(&mut self, at: Tick, cost: u64) {
         let gained = at.0.saturating_sub(self.from.0);
         let credit = self.credit.saturating_add(gained).min(MOST_CREDIT);
