@@ -1,7 +1,8 @@
 #!/usr/bin/env bash
-# Has spin look at every interleaving of the two sides of bell.pml, for runs of LAST ticks (3; at 5
-# it takes minutes): no side sleeps for ever, and each step is one that the other side admits. Then
-# it tries four wrong protocols, in each of which spin must find a side that sleeps for ever:
+# Has spin look at every interleaving of the two sides of bell.pml, for runs of LAST ticks (3; at 4
+# there are four times as many states): no side sleeps for ever, and each step is one that the other
+# side admits. Then it tries four wrong protocols, in each of which spin must find a side that sleeps
+# for ever:
 #     bench/bell.sh [LAST]
 # A line for each: how many states there are, and whether a side sleeps for ever. The exit status is
 # 1 if a line is not as it must be, and 2 if spin or gcc is missing.
