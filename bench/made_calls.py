@@ -182,6 +182,9 @@ class Generator:
         made.good = None
         if any(it == "\udce9" for it in (new,)) and made.tool in ("cover", "profile"):
             made.wanted = None  # (words of the program are UTF-8)
+        sources = {name for option, name in zip(made.words, made.words[1:]) if option in ("--host", "--para")}
+        if made.tool == "cover" and made.wanted == {0} and new in sources and "\n" in new:
+            made.wanted = {1}  # (lcov has no form for it)
 
     def other_words(self, dice, words):
         words = list(words)
