@@ -394,6 +394,24 @@ class Hosts(Adapters):
         client.ask("setExceptionBreakpoints", filters=["lost", "reset", "interrupt"])
         self.assertEqual(client.goes("reverseContinue")["text"], "the run's first tick")
 
+    def test_a_byte_that_is_lost_stops_the_run(self):
+        host = (
+            "org &C000\nstart: STA &FEE1\nSTA &FEE1\nl: JMP l\n"
+            "org &FFFA\nword start, start, start\n"
+        )
+        put(self.at("os"), Program().asm("6502", host.encode()))
+        para = "org &F800\nstart: JMP start\norg &FFFA\nword start, start, start\n"
+        put(self.at("tube"), Program().asm("65c02", para.encode()))
+        client = self.client(solo="2000 x --os os --tube tube")
+        self.begin(client)
+        client.ask("setExceptionBreakpoints", filters=["lost"])
+        self.assertEqual(client.goes("continue")["reason"], "exception")
+        told = client.ask("exceptionInfo", threadId=client.thread)
+        self.assertEqual(
+            (told["exceptionId"], told["description"]), ("lost", "A byte is lost in the Tube")
+        )
+        self.assertEqual(client.frames[0]["name"], "C003")
+
     def test_what_is_wrong(self):
         client = self.client()
         self.assertIn("nothing is launched", client.refused("threads"))
@@ -592,6 +610,7 @@ class Types(Adapters):
             client.goes(name)
             asked.add(name)
         ask("threads")
+        ask("exceptionInfo", threadId=client.thread)
         asked.update(("stackTrace", "scopes", "variables"))
         for frame in range(len(client.frames)):
             for scope in ask("scopes", frameId=client.frames[frame]["id"])["scopes"]:
