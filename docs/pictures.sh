@@ -7,7 +7,7 @@ how=${1:-make}
 case $#$how in
     0make | 1make | 1check) ;;
     1--help) sed -n '2,/^set/s/^# //p' "$0"; exit ;;
-    *) echo "docs/pictures.sh: the words are none, or check" >&2; exit 2 ;;
+    *) echo "docs/pictures.sh: the only argument is make or check" >&2; exit 2 ;;
 esac
 top=$(cd "$(dirname "$0")/.." && pwd)
 work=$(mktemp -d) || exit 1
