@@ -1,7 +1,7 @@
 #!/usr/bin/env bash
-# Makes this folder's pictures again from the frames that the program writes: the screens of
+# Makes this folder's pictures anew from the frames that the program writes: the screens of
 # examples/screen-os.asm in modes 0 to 7, and the typed text of the README. With the
-# word `check` it reports which of them show something else, and ends with 1 then.
+# word `check` it tells which of them show something else, and ends with 1 then.
 set -eu
 how=${1:-make}
 case $#$how in
