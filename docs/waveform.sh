@@ -6,7 +6,7 @@ set -eu
 case $#${1:-} in
     0 | 1make | 1check) ;;
     1--help) sed -n '2,/^set/s/^# //p' "$0"; exit ;;
-    *) echo "docs/waveform.sh: the words are none, or check" >&2; exit 2 ;;
+    *) echo "docs/waveform.sh: the only argument is make or check" >&2; exit 2 ;;
 esac
 top=$(cd "$(dirname "$0")/.." && pwd)
 work=$(mktemp -d) || exit 1

@@ -104,7 +104,7 @@ def order_of(words: Sequence[str], folder: str) -> Order:
             raise Fault("%s: a run is one of %s" % (shown(loose[0]), ", ".join(RUNS)))
         kinds = COMMANDS[loose[0]]
         if len(loose) - 1 > len(kinds):
-            raise Fault("%s: a word too many" % shown(loose[len(kinds) + 1]))
+            raise Fault("%s: one argument too many" % shown(loose[len(kinds) + 1]))
         order.command = loose[0]
         order.alone = {kind: place_of(folder, word) if kind in NAMES else word for kind, word in zip(kinds, loose[1:]) if kind != "OUT"}
     return order
@@ -243,7 +243,7 @@ def _split(words: str) -> List[str]:
     try:
         return shlex.split(words)
     except ValueError as error:
-        raise Fault("its words are none: %s" % error) from None
+        raise Fault("its arguments are not valid: %s" % error) from None
 
 
 # The words that cells name: of what is written and of what has no value they say `yes` or `no`.
@@ -396,7 +396,7 @@ def _named(order: Order) -> Tuple[List[str], List[Input]]:
             words.append(value)
     for word in words:
         if not word.isprintable():
-            raise Fault("%s: a word has a letter that cannot be shown" % shown(word))
+            raise Fault("%s: an argument has a character that cannot be shown" % shown(word))
     return words, inputs
 
 
@@ -444,7 +444,7 @@ def packed(word: str) -> str:
 def unpacked(word: str) -> str:
     """The word that was packed; Fault if it was not."""
     if re.search("%(?![0-9A-F]{2})", word):
-        raise Fault("%s is no word of a job" % shown(word))
+        raise Fault("%s is no argument of a job" % shown(word))
     return os.fsdecode(re.sub(b"%([0-9A-F]{2})", lambda match: bytes([int(match.group(1), 16)]), os.fsencode(word)))
 
 

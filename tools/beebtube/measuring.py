@@ -30,7 +30,7 @@ def _reader() -> Reader:
 @contextlib.contextmanager
 def _past(program: Program, given: argparse.Namespace) -> Iterator[Past]:
     if not given.run:
-        raise Usage("a session file or the words of a run are missing")
+        raise Usage("give a session file, or the arguments of a run")
     if len(given.run) > 1:
         past = Past.of_words(program, given.run)
     else:

@@ -36,7 +36,7 @@ def sort_names(names: Sequence[str]) -> Tuple[str, str, Optional[str]]:
             raise Fault("no set is named, and there is no %s here: `tools/words --make %s --os OS --rom15 BASIC ..` makes one" % (chosen, chosen))
         chosen = OWN
     if len(rest) > 2:
-        raise Fault("%s: a text is one word: put it in quotes" % rest[2][:60])
+        raise Fault("%s: a text is one argument: put it in quotes" % rest[2][:60])
     return chosen, rest[0], rest[1] if len(rest) == 2 else None
 
 

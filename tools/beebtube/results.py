@@ -328,7 +328,7 @@ def _look_at_old(store: Store, result: Result) -> None:
     old = store.load(result.key)
     if old is not None and (old.wrote, old.status) != (result.wrote, result.status):
         names = [name for name, *_ in set(old.wrote) ^ set(result.wrote)]
-        raise Fault("two runs of the same words and files differ: %s" % (" ".join(sorted(set(names))) or "status"))
+        raise Fault("two runs of the same arguments and files differ: %s" % (" ".join(sorted(set(names))) or "status"))
 
 
 def _page(plan: Plan, folder: str, wrote: Dict[str, Sum], wanted: Wanted) -> bytes:

@@ -180,7 +180,7 @@ class Call:
         if len(alone) < len(names):
             raise WrongWord("it needs %s: %s" % (names[len(alone)], form))
         if len(alone) > len(names):
-            raise WrongWord("%s: a word too many: %s" % (shown(alone[len(names)]), form))
+            raise WrongWord("%s: one argument too many: %s" % (shown(alone[len(names)]), form))
         self.alone = dict(zip(names, alone))
         return options
 

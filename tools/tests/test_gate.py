@@ -4,7 +4,6 @@ import importlib.util
 import os
 import shutil
 import subprocess
-import unittest.mock
 
 from common import TOP, Case, call, pretend_clone, put, signal, text_of, unittest, wait_until
 
@@ -283,9 +282,11 @@ class Speed(Case):
 
     def test_a_run_above_the_limit(self):
         """Such a run is ended and has no time; one that another ends is a fault."""
+        from unittest import mock
+
         spec = importlib.util.spec_from_file_location("speed", self.at("bench/speed.py"))
         speed = importlib.util.module_from_spec(spec)
-        with unittest.mock.patch.dict(os.environ, PATH=self.at("bin") + ":" + os.environ["PATH"]):
+        with mock.patch.dict(os.environ, PATH=self.at("bin") + ":" + os.environ["PATH"]):
             spec.loader.exec_module(speed)
             for end, limit in ((b"exec sleep 1000", 0.3), (b"kill -9 $$", 1000)):
                 put(self.at("release/beebtube"), COUNTED.replace(b"echo 'tube 10' >out.report", end))

@@ -253,7 +253,7 @@ class Running(Suite):
         said = self.lines(done)
         self.assertEqual(len(said), 13)
         for line, begin in zip(said, ("done good", "failed missing: cannot read nowhere.ssd", "failed refused: 3 bad image disc0 204801: --disc0 long has 204,801 bytes", "failed ticks: 1 usage: 1e6: TICKS",
-                                      "done again", "failed good (line 7): two runs have the name good", "failed line 8: ", "failed more: line 9 has more cells", "failed words: its words are none",
+                                      "done again", "failed good (line 7): two runs have the name good", "failed line 8: ", "failed more: line 9 has more cells", "failed words: its arguments are not valid",
                                       "failed line 11: up/../good: each part", "failed option: 1 usage: --oss: no such option, --os?", "failed zero: /dev/zero is no plain file", "done last")):
             self.assertTrue(line.startswith(begin), (line, begin))
         self.assertIn("suite: 3 of 13 are good: done 3, failed 10", done.out)
@@ -499,7 +499,7 @@ class Once(Suite):
         told["sum"] = results._sum_of_told(told)
         put(name, json.dumps(told).encode())
         done = self.suite("--keep", "kept", status=1)
-        self.assertIn("failed a.ssd: two runs of the same words and files differ: d0", done.out)
+        self.assertIn("failed a.ssd: two runs of the same arguments and files differ: d0", done.out)
         self.assertEqual(os.listdir(self.at("kept")), [])
 
     def test_results_that_no_run_has_are_removed(self):
