@@ -13,7 +13,7 @@ import os
 import re
 import subprocess
 import weakref
-from typing import Callable, Dict, List, Literal, NamedTuple, Optional, Sequence, Tuple, Union
+from typing import Callable, Dict, List, NamedTuple, Optional, Sequence, Tuple, Union
 
 from .disc import Disc
 from .faults import Fault

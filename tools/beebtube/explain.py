@@ -12,7 +12,6 @@ from typing import Dict, List, Optional, Sequence, Tuple
 
 if __package__:
     from .disc import LARGEST
-    from .faults import Fault
     from .files import IMAGE_CAP, SESSION_CAP, SOURCE_CAP, Name, is_plain, open_file, read_file
     from .script import BadScript, Script
     from .words import Call, WrongWord

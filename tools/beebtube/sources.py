@@ -9,7 +9,7 @@ from __future__ import annotations
 import bisect
 import os
 import re
-from typing import Dict, Iterable, List, NamedTuple, Optional, Set, Tuple
+from typing import Dict, Iterable, List, NamedTuple, Optional, Set
 
 from . import naming
 from .faults import Fault, Refused

@@ -6,7 +6,7 @@ import os
 import random
 import zipfile
 
-from common import EXAMPLES, TOP, Case, beebtube, put, text_of, unittest
+from common import EXAMPLES, Case, beebtube, put, text_of, unittest
 
 from beebtube.disc import Disc, NewFile, empty_disc, note_of, parse_inf, split_name, text_of_inf, with_file, with_option, without_file
 from beebtube.faults import Fault

@@ -2,7 +2,7 @@
 import os
 import struct
 
-from common import EXAMPLES, TOP, Case, beebtube, call, put, text_of, unittest
+from common import EXAMPLES, Case, beebtube, put, text_of, unittest
 
 PIXMAP = b"P6\n640 256\n255\n" + b"\0" * (640 * 256 * 3)
 

@@ -5,7 +5,7 @@ import shutil
 import subprocess
 import time
 
-from common import EXAMPLES, IS_ROOT, TOP, Case, beebtube, call, child_of, is_alive, letters, pretend_clone, put, signal, text_of, unittest, wait_until
+from common import EXAMPLES, TOP, Case, beebtube, call, child_of, is_alive, letters, pretend_clone, put, signal, text_of, unittest, wait_until
 
 from beebtube.files import files_below
 

@@ -6,7 +6,6 @@ import re
 from common import EXAMPLES, TOP, Case, beebtube, call, put, text_of, unittest
 
 from beebtube.counting import Count, Counting, Event, parse
-from beebtube.cover import Cover
 from beebtube.past import Past
 from beebtube.profile import UNKNOWN, Profile
 from beebtube.sources import Sources
