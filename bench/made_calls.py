@@ -420,6 +420,8 @@ class Generator:
         wanted = {2} if {"x", "0"} & set(words) else {1} if how == "--gather" and discs and is_plain else {0} if is_plain and how != "--gather" and "--against" not in words else None
         words += [dice.choice(("discs", "discs", "list.csv")), "results", "--", "--os", "os", "--tube", "tube"]
         is_folder = "discs" in words
+        if is_folder and not discs and wanted == {0}:
+            wanted = {1}  # (a folder without a disc has no run)
         if not is_folder and wanted != {2}:
             wanted = {0} if table == "name,ticks,disc0,words\na,2000,,\n" and wanted else None
         if not is_folder and how == "--gather":
