@@ -55,7 +55,11 @@ CHANGES = """beebtube ({version}) stable; urgency=medium
 
  -- The beebtube project <beebtube@localhost.localdomain>  Tue, 01 Jan 1985 00:00:00 +0000
 """
-# What Python wrote beside the package goes with it.
+# Python starts sooner with bytecode, which goes with the package.
+POSTINST = """#!/bin/sh
+set -e
+py3compile -p beebtube
+"""
 PRERM = """#!/bin/sh
 set -e
 find /usr/lib/python3/dist-packages/beebtube -name __pycache__ -prune -exec rm -rf {} +
@@ -103,6 +107,7 @@ def stage(root):
         os.chmod(folder, 0o755)
     size = sum(os.path.getsize(os.path.join(folder, name)) for folder, _, names in os.walk(root) for name in names)
     put(root, "DEBIAN/control", CONTROL.format(version=backend.version(), size=size // 1024 + 1))
+    put(root, "DEBIAN/postinst", POSTINST, 0o755)
     put(root, "DEBIAN/prerm", PRERM, 0o755)
     sums = ""
     for folder, _, names in sorted(os.walk(root)):

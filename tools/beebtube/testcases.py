@@ -6,10 +6,10 @@ reads the lines of examples/c/suite/check, `same NAME` or `differs NAME: TEXT`.
 """
 from __future__ import annotations
 
+import html
 import json
 import sys
 from typing import Dict, Iterable, List, NamedTuple, Optional, Sequence
-from xml.sax.saxutils import quoteattr
 
 from .files import Name, write_beside
 
@@ -33,7 +33,7 @@ def junit_of(title: str, cases: Sequence[TestCase]) -> str:
     """The results as JUnit XML."""
     def attributes(**given: object) -> str:
         told = {name: _plain(str(value)) for name, value in given.items() if value is not None}
-        return "".join(f" {name}={quoteattr(value)}" for name, value in told.items())
+        return "".join(f' {name}="{html.escape(value)}"' for name, value in told.items())
 
     failed = sum(not case.passed for case in cases)
     lines = ['<?xml version="1.0" encoding="UTF-8"?>', "<testsuites>",
