@@ -36,10 +36,13 @@ echo 'WHERE 002000 002000' >WHERE.inf
 printf '*CAT\r*WHERE\rR\r' >'!BOOT'
 "$top/tools/catalogue" --make where.ssd --title 'Either side' '!BOOT' WHERE
 printf 'at 0 down 00\nat 16000000 shot\n' >where.keys
-own=$("$top/tools/words" "$top/system/system.set")
-also="--keys where.keys --disc0 where.ssd"
-"$top/beebtube" solo 16200000 both $own $also
-"$top/beebtube" replay host empty.trace 16200000 host --no-tube ${own/--tube */} $also
+also=(--keys where.keys --disc0 where.ssd)
+"$top/tools/words" "$top/system/system.set" >own.words
+sed 's/--tube [^ ]*//' own.words >alone.words
+read -ra own <own.words
+read -ra alone <alone.words
+"$top/beebtube" solo 16200000 both "${own[@]}" "${also[@]}"
+"$top/beebtube" replay host empty.trace 16200000 host --no-tube "${alone[@]}" "${also[@]}"
 picture host.000.ppm system-host.png
 picture both.000.ppm system-tube.png
 exit "$status"

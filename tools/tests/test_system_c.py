@@ -1,4 +1,4 @@
-"""Programs in C that are *RUN from a disc, and what they find of the calls of system/built's ROMs."""
+"""Programs in C that are *RUN from a disc: what they find of the calls of the ROMs of system/."""
 import os
 import shutil
 

@@ -8,6 +8,8 @@ from common import beebtube, text_of
 from test_system import BUILT, FONT, MON, OS, SECOND, byte, calls, rom, screen, word
 from test_system_dfs import BOOT, DFS, EXEC, SHIFT, code, disc_of, files_of, new
 
+from beebtube.disc import Disc
+
 TUBE = text_of(os.path.join(BUILT, "tube.rom"))
 AT = 0x3000
 
@@ -296,6 +298,17 @@ loop:   BIT &FF
         self.assertEqual(screen(run)[2:], [">*LOOP", "Escape", ">R",
             "PC=2000 A=7E X=FF Y=03 P=00 S=FF", ">"])
         self.assertEqual((run.host[0xFF], run.para[0xFF]), (0, 0))
+
+    def test_a_disc_fault_releases_the_tube(self):
+        """A file of which the disc lacks sectors is an error, and a language can claim the Tube."""
+        disc = disc_of(new("P", program("        LDA #80\n        JSR &FFEE\n        RTS\n"), AT,
+            AT), new(BOOT, b"*LOAD BIG 4000\r*MON\r*P\r"), new("BIG", b"b" * 5000), option=EXEC)
+        image = bytearray(disc.image.ljust(256 * 798, b"\0") + b"b" * 512)
+        image[256 + 14 : 256 + 16] = [3, 798 & 255]  # it begins two sectors before the end
+        run = started(8, SHIFT, disc0=Disc(image))
+        self.assertEqual(screen(run)[2:], [">*LOAD BIG 4000", "Disc fault 10 at 50/00", ">*MON",
+            ">*P", "P>"])
+        self.assertEqual(run.para[0x4000:0x4201], b"b" * 512 + b"\0")
 
     def test_events(self):
         """An event of the host's reaches EVNTV with A, X and Y."""
