@@ -284,9 +284,11 @@ class Judge:
         if after_status == 0:
             if status != 0:
                 faults.append("in plain surroundings the status is %s" % status)
-            if out and made.around in ("closed", "full", "broken", "all closed") and made.tool != "dap":
+            # (an adapter whose client cannot read ends like one whose client is gone)
+            silent = ("closed", "full", "broken", "all closed") + ("short",) * (made.tool == "dap")
+            if out and made.around in silent and made.tool != "dap":
                 faults.append("status 0, and nobody heard what was said")
-            elif out != after_out and made.around not in ("closed", "full", "broken", "all closed") and made.tool != "suite":
+            elif out != after_out and made.tool != "suite" and made.around not in silent:
                 faults.append("status 0, and another text")
             if written != self.written(made):
                 faults.append("status 0, and other files")
@@ -457,6 +459,7 @@ def main():
     asked = reader.parse_args()
     version, program = beebtube_program.version(), beebtube_program.Program().path
     begun, workers = time.time(), []
+    signal.signal(signal.SIGTERM, lambda *_: [os.kill(pid, signal.SIGTERM) for pid in workers])
     for worker in range(asked.j):
         pid = os.fork()
         if pid == 0:
