@@ -319,8 +319,8 @@ loop:   BIT &FF
         chance = random.Random(1)
         for moment in (chance.uniform(0.3, 4) for _ in range(4)):
             run = started(moment + 7, SHIFT + b"at %d break\n" % (moment * SECOND), disc0=disc)
-            self.assertEqual(screen(run)[-4:], [">*LOAD BIG", ">*P", "P>*SAVE COPY 4000 +1400",
-                ">*P", "P>"][-4:], moment)
+            self.assertEqual(screen(run)[-4:], [">*P", "P>*SAVE COPY 4000 +1400", ">*P", "P>"],
+                moment)
             self.assertEqual(run.para[0x4000 : 0x4000 + len(data)], data, moment)
             self.assertEqual(files_of(run.discs[0])["$.COPY"], data, moment)
 
