@@ -310,6 +310,20 @@ loop:   BIT &FF
             ">*P", "P>"])
         self.assertEqual(run.para[0x4000:0x4201], b"b" * 512 + b"\0")
 
+    def test_break_at_any_moment(self):
+        """With SHIFT held the disc starts again, whatever was under way."""
+        data = bytes(range(256)) * 20
+        disc = disc_of(new("P", program("        LDA #80\n        JSR &FFEE\n        RTS\n"), AT,
+            AT), new("BIG", data, 0x4000, 0x4000), new(BOOT,
+            b"*LOAD BIG\r*P\r*SAVE COPY 4000 +1400\r*P\r"), option=EXEC)
+        chance = random.Random(1)
+        for moment in (chance.uniform(0.3, 4) for _ in range(4)):
+            run = started(moment + 7, SHIFT + b"at %d break\n" % (moment * SECOND), disc0=disc)
+            self.assertEqual(screen(run)[-4:], [">*P", "P>*SAVE COPY 4000 +1400", ">*P", "P>"],
+                moment)
+            self.assertEqual(run.para[0x4000 : 0x4000 + len(data)], data, moment)
+            self.assertEqual(files_of(run.discs[0])["$.COPY"], data, moment)
+
     def test_events(self):
         """An event of the host's reaches EVNTV with A, X and Y."""
         source = """
