@@ -197,7 +197,8 @@ class Adapter(Shown):
     def _add_sources(self, side: str, given: Message, labels: List[Any]) -> None:
         source, part = self.sources[side], {"host": "6502", "para": "65c02"}[side]
         for name in _list(given, f"{side}Debug"):
-            source.add_ld65(name, given.get("sourceFolder") or ".")
+            # The working folder is that of `launch` for its time alone.
+            source.add_ld65(name, os.path.abspath(given.get("sourceFolder") or "."))
         for name in _list(given, f"{side}Source"):
             source.add_asm(self.program, part, name)
             labels.append(self.program.labels_of(part, name))
