@@ -198,7 +198,8 @@ class Adapter(Shown):
         source = self.sources[side]
         part: Part = "6502" if side == "host" else "65c02"
         for name in _list(given, f"{side}Debug"):
-            source.add_ld65(name, given.get("sourceFolder") or ".")
+            # The working folder is that of `launch` for its time alone.
+            source.add_ld65(name, os.path.abspath(given.get("sourceFolder") or "."))
         for name in _list(given, f"{side}Source"):
             source.add_asm(self.program, part, name)
             labels.append(self.program.labels_of(part, name))

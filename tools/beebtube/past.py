@@ -34,7 +34,7 @@ from .words import Call, WrongWord
 SIDES = ("host", "para")
 LETTERS = {"host": "H", "para": "P"}
 MOST_ACCESSES = 4194304
-AT_ONCE = 200000000  # ticks that are gone through without being asked, to find the beam
+AT_ONCE = 60000000  # ticks that are gone through without being asked, to find the beam
 BEAM = ((0xFE00, 0xFE07), (0xFE20, 0xFE2F))  # the 6845 and the video ULA
 
 

@@ -5,8 +5,10 @@ run, it is given the accesses to one register from a moment on at which that was
 """
 from __future__ import annotations
 
+import bisect
 import re
-from typing import Dict, Iterator, List, Optional, Sequence, Tuple
+from array import array
+from typing import Dict, List, Optional, Sequence, Tuple
 
 from .accesses import words_of
 from .faults import Fault
@@ -14,9 +16,27 @@ from .trace import LENGTH, Access, access_of
 from .tube import Key, Tube
 
 KEYS: List[Key] = [(side, number) for number in (1, 2, 3, 4) for side in "HP"]
-CONTROL = re.compile(rb" H (?:W 0 |X 0 )")
-CLEARING = re.compile(rb" H (?:W 0 [C-F]|X 0 )")
 OTHER = {"H": "P", "P": "H"}
+
+
+# The columns of a line: the bits of its kind by the letters there. The last is the byte's first
+# digit.
+COLUMNS: List[Tuple[int, Dict[str, int]]] = [
+    (11, {"H": 0, "P": 8}), (13, {"R": 0, "W": 16, "X": 32}),
+    (15, {str(number): number for number in range(8)}),
+    (17, {f"{digit:X}": digit // 4 * 64 for digit in range(16)})]
+
+
+def _kind(side: str, way: str, register: int, quarters: Sequence[int] = range(4)) -> List[int]:
+    """The kinds of an access, by the quarters in which its byte may be: 0 for 00 to 3F, up to 3 for
+    C0 to FF."""
+    letters = dict(zip((11, 13, 15), (side, way, str(register))))
+    first = sum(values[letters[place]] for place, values in COLUMNS[:3])
+    return [first + 64 * quarter for quarter in quarters]
+
+
+CLEARS = _kind("H", "X", 0, [0]) + _kind("H", "W", 0, [3])
+CONTROLS = _kind("H", "X", 0, [0]) + _kind("H", "W", 0)
 
 
 class Traffic:
@@ -25,6 +45,21 @@ class Traffic:
     def __init__(self, trace: bytes):
         self.trace = trace
         self.end = len(trace)
+        self._of_kinds: Optional[bytes] = None
+        self._places: "Dict[bytes, array[int]]" = {}
+
+    @property
+    def _kinds(self) -> bytes:
+        """A byte for each line: what it is, without its tick (`_kind`). A search of these takes a
+        twentieth of the time of one of the lines."""
+        if self._of_kinds is None:
+            found = 0
+            for place, values in COLUMNS:
+                table = bytes(values.get(chr(letter), 0) for letter in range(256))
+                column = self.trace[place::LENGTH].translate(table)
+                found |= int.from_bytes(column, "big")
+            self._of_kinds = found.to_bytes(self.end // LENGTH, "big")
+        return self._of_kinds
 
     def place(self, tick: int) -> int:
         """Where the first line of a tick or a later one begins."""
@@ -71,14 +106,28 @@ class Traffic:
         found = max(self.trace.rfind(form, 0, end) for form in forms)
         return found - found % LENGTH if found >= 0 else -1
 
+    def _last_kind(self, kinds: Sequence[int], end: int) -> int:
+        found = max(self._kinds.rfind(kind, 0, end // LENGTH) for kind in kinds)
+        return LENGTH * found if found >= 0 else -1
+
+    # The lines of these kinds from a place on and before another; they are found once.
+    def _all_kinds(self, kinds: Sequence[int], begin: int, end: int) -> "array[int]":
+        name = bytes(kinds)
+        if name not in self._places:
+            form = re.compile(b"[" + re.escape(name) + b"]")
+            self._places[name] = array("Q", (LENGTH * it.start()
+                                             for it in form.finditer(self._kinds)))
+        places = self._places[name]
+        return places[bisect.bisect_left(places, begin) : bisect.bisect_left(places, end)]
+
     # --- What is in the Tube ---
 
     def resets(self) -> Tuple[List[int], List[int], List[int]]:
         """The ticks at which the host's BREAK comes, those at which the second processor is reset,
         and those of them from which its reset line holds it."""
         tube, breaks, resets, holds = Tube(), [], [], []
-        for match in CONTROL.finditer(self.trace):
-            access = self.access(match.start())
+        for place in self._all_kinds(CONTROLS, 0, self.end):
+            access = self.access(place)
             before = tube.flags & 32
             tube.put(access)
             if access.way == "X":
@@ -89,23 +138,22 @@ class Traffic:
 
     # The lines that give or take bytes of a register, from where it was empty last, and before
     # a place: a status told so, but of register 3, which waits for two bytes at times.
-    def _lines(self, key: Key, end: int, known: int) -> Iterator[int]:
+    def _lines(self, key: Key, end: int, known: int) -> "array[int]":
         side, number = key
-        status = f" {side} R {2 * number - 2} "
         first = -1
         if number != 3:
-            first = self.last([f"{status}{digit}".encode() for digit in range(8)], known)
-        first = max(first, self.last([b" H X 0 ", *(f" H W 0 {it}".encode() for it in "CDEF")],
-                                     known), 0)
-        form = re.compile(f" (?:{side} R|{OTHER[side]} W) {2 * number - 1} ".encode())
-        return (match.start() - 10 for match in form.finditer(self.trace, first, end))
+            first = self._last_kind(_kind(side, "R", 2 * number - 2, (0, 1)), known)
+        first = max(first, self._last_kind(CLEARS, known), 0)
+        data = 2 * number - 1
+        kinds = _kind(side, "R", data) + _kind(OTHER[side], "W", data)
+        return self._all_kinds(kinds, first, end)
 
     def tube(self, end: int, keys: Sequence[Key] = tuple(KEYS),
              known: Optional[int] = None) -> Tube:
         """The Tube after all lines before a place, right for these registers; they are followed
         from where they were empty before `known`."""
-        begin = max(self.last([b" H X 0 "], end), 0)
-        places = [match.start() - 10 for match in CONTROL.finditer(self.trace, begin, end)]
+        begin = max(self._last_kind(_kind("H", "X", 0, [0]), end), 0)
+        places = list(self._all_kinds(CONTROLS, begin, end))
         for key in keys:
             places += self._lines(key, end, end if known is None else known)
         tube = Tube()

@@ -234,6 +234,18 @@ class Programs(Adapters):
         client.goes("goto", targetId=targets[-1]["id"])
         self.assertEqual(client.at(), ("fill", 11))
 
+    def test_sources_from_the_folder_of_the_launch(self):
+        os.mkdir(self.at("project"))
+        for ending in ("", ".dbg"):
+            shutil.copy(os.path.join(BUILT, "limit" + ending), self.at("project/game" + ending))
+        os.symlink(EXAMPLES, self.at("project/examples"))
+        client = self.client(program="game", paraDebug=["game.dbg"], cwd="project")
+        self.begin(client)
+        self.assertEqual(client.at(), ("main", 16))
+        self.assertEqual(
+            os.path.realpath(client.frames[0]["source"]["path"]), os.path.realpath(LIMIT_C)
+        )
+
     def test_commands_and_values(self):
         client = self.limit(at="end")
         self.begin(client)
