@@ -485,6 +485,8 @@ _OPTIONS = {"no_tube": "--no-tube", "from_tick": "--from"}
 def _with_own(options: Dict[str, Any]) -> Dict[str, Any]:
     """Without an operating system a machine has the project's own ROMs, but for those that are given."""
     if options.get("os") is not None:
+        if "no_tube" not in options and options.get("tube") is None:
+            raise TypeError("tube is missing beside os")
         return options
     own = {option[2:]: value for option, value in read_set(OWN) if option != "--tube" or "no_tube" not in options}
     return {**options, **{name: value for name, value in own.items() if options.get(name) is None}}
