@@ -64,7 +64,7 @@ class Made(unittest.TestCase):
         whole = NewFile("$", "ALL", False, 0, 0, bytes(798 * 256))
         self.assertEqual(len(with_file(disc, whole).image), 204800)
         for data in (bytes(798 * 256 + 1),):
-            with self.assertRaisesRegex(Fault, "ALL: it wants 799 sectors, and the largest gap of the disc has 798"):
+            with self.assertRaisesRegex(Fault, "ALL: it needs 799 sectors, and the largest gap of the disc has 798"):
                 with_file(disc, whole._replace(data=data))
         for number in range(31):
             disc = with_file(disc, NewFile("$", "F%d" % number, False, 0, 0, b"x"))
