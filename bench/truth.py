@@ -466,10 +466,10 @@ class Truth:
         if not hasattr(self, "_held"):
             ends = zip(self.sets, self.sets[1:] + [self.end + 1])
             found = (
-                next((at for at in range(low + 1, min(high, low + 40)) if self.state("para", at)[2]), None)
+                [at for at in range(low + 1, min(high, low + 40)) if self.state("para", at)[2]]
                 for low, high in ends
             )
-            self._held = [it for it in found if it is not None and it <= self.end]
+            self._held = [it[0] for it in found if it and it[0] <= self.end]
         return self._held
 
 

@@ -42,7 +42,7 @@ complete -o filenames -F _beebtube beebtube ./beebtube
 _beebtube_debug() {
     local word=${COMP_WORDS[COMP_CWORD]}
     if [ "${word:0:1}" = - ]; then
-        mapfile -t COMPREPLY < <(compgen -W '--help -c --against --host-labels --para-labels' -- "$word")
+        mapfile -t COMPREPLY < <(compgen -W '--help -c --json --against --host-labels --para-labels' -- "$word")
     else
         mapfile -t COMPREPLY < <(compgen -f -- "$word")
     fi

@@ -1,5 +1,5 @@
-/* Draws a line on the host's screen, with a fault that is there on purpose: there are dots at the left edge, too.
-   docs/DEBUG.md finds it. */
+/* Draws a line on the host's screen, with a fault that is there on purpose: it sets dots at the left
+   edge, too. docs/DEBUG.md finds it. */
 #define CRTC ((volatile unsigned char *)0xFE00)
 #define ULA ((volatile unsigned char *)0xFE20)
 #define SCREEN ((unsigned char *)0x3000)

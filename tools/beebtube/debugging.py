@@ -291,7 +291,7 @@ class Debugger(Engine):
         for _, frame in zip(range(self._count(number, 256)), self.frames()):
             self._show(frame.start, "" if frame.kind == "call" else f"{frame.kind} after it")
 
-    @word("TICK", "to a tick; +N and -N count from here, `end` is the run's last; or to a mark")
+    @word("TICK", "to a tick, +N or -N from here, `end`, or a mark")
     def do_go(self, text: str) -> None:
         if text in self._marks:
             past, self.side, self.tick = self._marks[text]
@@ -306,7 +306,7 @@ class Debugger(Engine):
                     else int(text) + (self.tick if text[0] in "+-" else 0))
         self._show_here()
 
-    @word("[NAME]", "marks this moment, so that `go NAME` leads back to it; else shows the marks")
+    @word("[NAME]", "marks this moment for `go NAME`; without a name shows the marks")
     def do_mark(self, name: str = "") -> None:
         if not name:
             for it, (past, side, tick) in self._marks.items():
@@ -500,7 +500,7 @@ class Debugger(Engine):
         self._say(f"the same to tick {found.tick}; then {sides}")
         self._parted(self._other, found)
 
-    @word("", "with --against: to where something more differs than after the next tick")
+    @word("", "with --against: to where something more begins to differ")
     def do_differ(self) -> None:
         if self._other is None:
             raise Fault("there is one run alone: --against names another")
