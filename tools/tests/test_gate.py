@@ -306,5 +306,18 @@ class Speed(Case):
         self.assertEqual(text_of(self.at("docs/SPEED.md")), b"Old.\n")
 
 
+class WrongEdits(unittest.TestCase):
+    def test_each_applies(self):
+        """The files of the crates have each text that an edit of bench/wrong.edits replaces."""
+        for edit in text_of(os.path.join(TOP, "bench", "wrong.edits")).decode().split("\n\n")[1:]:
+            head, *lines = edit.splitlines()
+            for line in lines:
+                key, _, text = line.partition(": ")
+                if key == "file":
+                    code = text_of(os.path.join(TOP, "crates", head.split()[0], text)).decode()
+                elif key == "old":
+                    self.assertIn(text, code, head)
+
+
 if __name__ == "__main__":
     unittest.main()
