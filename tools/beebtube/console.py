@@ -2,6 +2,7 @@
 from __future__ import annotations
 
 import contextlib
+import functools
 import io
 import json
 import os
@@ -293,7 +294,7 @@ def _as_json(asked: Asked, debugger: Debugger, progress: Progress) -> int:
     for line in asked.lines():
         for words in debugger.parts(line):
             if not debugger.ended:
-                answer(" ".join(words), lambda words=words: debugger.try_one(words))
+                answer(" ".join(words), functools.partial(debugger.try_one, words))
     debugger.ended = False
     answer("where", lambda: debugger.try_one(["where"]))
     return 1 if debugger.wrong else 0

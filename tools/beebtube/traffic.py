@@ -125,7 +125,9 @@ class Traffic:
     def resets(self) -> Tuple[List[int], List[int], List[int]]:
         """The ticks at which the host's BREAK comes, those at which the second processor is reset,
         and those of them from which its reset line holds it."""
-        tube, breaks, resets, holds = Tube(), [], [], []
+        tube = Tube()
+        breaks: List[int] = []
+        holds: List[int] = []
         for place in self._all_kinds(CONTROLS, 0, self.end):
             access = self.access(place)
             before = tube.flags & 32
