@@ -87,7 +87,7 @@ complete -o filenames -F _beebtube_play play tools/play
 _beebtube_suite() {
     local word=${COMP_WORDS[COMP_CWORD]}
     if [ "${word:0:1}" = - ]; then
-        mapfile -t COMPREPLY < <(compgen -W '--help --jobs --gather --clear --text --both --ticks --seconds --recursive --shot --against --only --keep --junit --tap --pages --batch -j' -- "$word")
+        mapfile -t COMPREPLY < <(compgen -W '--help --jobs --gather --clear --text --both --ticks --seconds --recursive --shot --against --only --keep --pages --junit --tap --batch -j' -- "$word")
     else
         mapfile -t COMPREPLY < <(compgen -f -- "$word")
     fi
