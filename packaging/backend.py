@@ -20,7 +20,8 @@ FILES = [
     ("VERSION", ""), ("docs/help.txt", "docs"), ("release/*", "release"), ("tools/start.py", "tools"),
     ("system/system.set", "system"), ("system/built/*.rom", "system/built"),
 ] + [("examples/c/" + name, "examples/c") for name in (
-    "arguments.s", "boot.asm", "build", "host.asm", "host.cfg", "io.s", "para.cfg", "sim65.asm", "start.s", "tube.h")]
+    "arguments.s", "boot.asm", "build", "disc.cfg", "disc.s", "host.asm", "host.cfg", "io.s", "language.asm", "para.cfg", "sim65.asm",
+    "start.s", "tube.h")]
 
 
 def text_of(name):

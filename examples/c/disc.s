@@ -30,7 +30,8 @@ block:  .res    5                       ; of OSARGS, and of OSWORD 5
 
         .bss
 stack:  .res    1
-text:   .res    256                     ; the command's text; later a name
+text:   .res    256                     ; the command's text, of which the arguments are parts
+path:   .res    256                     ; a file's name
 words:  .res    2*WORDS+2
 file:   .res    18                      ; of OSFILE
 
@@ -48,7 +49,12 @@ file:   .res    18                      ; of OSFILE
         sta     stack
         jsr     initlib
         jsr     callmain
-_exit:  jsr     donelib
+_exit:  pha
+        jsr     donelib
+        pla
+        tax                             ; the status becomes the user flag
+        lda     #1
+        jsr     OSBYTE
         ldx     stack
         txs
         rts
@@ -129,14 +135,14 @@ name:   sta     ptr1
         stx     ptr1+1
         ldy     #0
 :       lda     (ptr1),y
-        sta     text,y
+        sta     path,y
         beq     :+
         iny
         bne     :-
 :       lda     #13
-        sta     text,y
-        ldx     #<text
-        ldy     #>text
+        sta     path,y
+        ldx     #<path
+        ldy     #>path
         rts
 
 ; int open (const char* name, int flags, ...)
@@ -159,7 +165,7 @@ _open:  cpy     #4
         cpx     #O_RDONLY
         beq     find
         lda     #$C0
-        ldx     #<text
+        ldx     #<path
         jsr     OSFIND
         tay
         bne     opened
@@ -167,8 +173,8 @@ _open:  cpy     #4
         and     #O_CREAT
         beq     none
 new:    lda     #$80
-find:   ldx     #<text
-        ldy     #>text
+find:   ldx     #<path
+        ldy     #>path
         jsr     OSFIND
         tay
         beq     none

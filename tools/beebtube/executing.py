@@ -10,7 +10,8 @@ import sys
 from typing import Callable, Dict, List, Optional, Tuple
 
 from .command import Reader, Usage, read_standard_input, tell
-from .execution import CPUS, DECK, KEPT, NOT_RUN, SLOT, Executed, Runner
+from .disc_program import DiscImage, DiscRunner
+from .execution import CPUS, DECK, KEPT, NOT_RUN, SLOT, Executed, Image, Runner
 from .execution import images_of, labels_of, ticks_of
 from .faults import Fault, Refused
 from .files import same_file, write_beside
@@ -19,6 +20,7 @@ from .labels import Labels
 from .program import Program, Side, Speed
 from .words import ADDRESS
 
+FLAGS = ("--host", "--time", "--os", "--tube")
 MOST_AT_HAND = DECK - 4 * SLOT
 
 
@@ -44,7 +46,7 @@ def _reader(doc: str) -> Reader:
     reader = Reader(doc)
     for option in ("--at", "--start", "--host-at", "--host-start"):
         reader.add_argument(option, type=_address)
-    for option in ("--host", "--time"):
+    for option in FLAGS:
         reader.add_argument(option, action="store_true")
     for option in ("--both", "--keys", "--font", "--shots", "--labels", "--host-labels", "--save",
                    "--trace", "--listing"):
@@ -65,12 +67,21 @@ def _kept(given: argparse.Namespace) -> List[str]:
 def _parted(words: List[str]) -> Tuple[List[str], List[str]]:
     at = 0
     while at < len(words) and words[at].startswith("-") and words[at] != "--":
-        at += 1 if words[at] in ("--host", "--time") or "=" in words[at] else 2
+        at += 1 if words[at] in FLAGS or "=" in words[at] else 2
     at += 2 if words[at : at + 1] == ["--"] else 1
     return words[:at], words[at:]
 
 
 def _fault_of(given: argparse.Namespace) -> Optional[str]:
+    if given.tube and not given.os:
+        return "--tube goes with --os: without it the second processor runs the program"
+    if given.os:
+        for name in ("host", "both", "time", "save", "trace", "listing", "host_at", "host_start",
+                     "host_labels"):
+            if getattr(given, name) not in (None, False):
+                return f"--{name.replace('_', '-')} does not go with --os"
+        if given.speed == "4" and not given.tube:
+            return "--speed is of the second processor: --os has it with --tube"
     if given.host and given.both:
         return "--host runs one program, and --both two"
     of_host = (given.host_at, given.host_start, given.host_labels)
@@ -78,7 +89,7 @@ def _fault_of(given: argparse.Namespace) -> Optional[str]:
         return "--host-at, --host-start and --host-labels are of the program of --both"
     for name, at, start in (("--start", given.at, given.start),
                             ("--host-start", given.host_at, given.host_start)):
-        if start is not None and at is None:
+        if start is not None and at is None and not given.os:
             return f"{name} needs the address of a raw image, by {name.replace('start', 'at')}"
     if given.host and given.trace:
         return "--trace: without a Tube there is no list of its accesses; --listing is there"
@@ -143,8 +154,13 @@ def _execute(words: List[str]) -> int:
         raise Usage(fault)
     speed: Speed = 4 if given.speed == "4" else 3
     limit = ticks_of(given.limit, speed)
-    images = images_of(given.program, given.both, given.host, given.at, given.start,
-                       given.host_at, given.host_start, given.cpu)
+    images: List[Image]
+    if given.os:
+        side: Side = "para" if given.tube else "host"
+        images = [DiscImage(given.program, side, given.at, given.start, given.cpu)]
+    else:
+        images = images_of(given.program, given.both, given.host, given.at, given.start,
+                           given.host_at, given.host_start, given.cpu)
     names: Dict[Side, Labels] = {"host": labels_of(given.host_labels), "para": Labels({})}
     names[images[0].machine] = labels_of(given.labels)
     read = [name for name in (given.program, given.both, given.keys, given.font, given.labels,
@@ -156,12 +172,14 @@ def _execute(words: List[str]) -> int:
         if any(same_file(name, it) for it in read):
             raise Fault(f"{name} is read too, and is not written over")
     arguments = [os.fsencode(word) for word in rest]
-    runner = Runner(Program(), images, arguments, speed, given.keys, given.font)
+    kind = DiscRunner if given.os else Runner
+    runner = kind(Program(), images, arguments, speed, given.keys, given.font)
     try:
-        at_hand = _at_hand()
+        # (with --os keys of a script come in place of the input)
+        at_hand = b"" if given.os and given.keys else _at_hand()
         runner.give(at_hand)
         left = runner.until(limit)
-        if left.how == 6:
+        if left.how == 6 and at_hand is None:
             runner.give(read_standard_input(DECK))
             left = runner.until(limit)
         elif at_hand:

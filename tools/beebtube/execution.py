@@ -35,7 +35,7 @@ PAGE = 256
 LOWEST = 0x0200
 # Of each machine: where memory for programs ends, where its ROM begins, where the arguments and the words of sim65 lie in it,
 # and the entry that ends a program.
-MACHINES = {"para": (0xF800, 0xF800, 0xFC00, 0xFA00), "host": (0x8000, 0xC000, 0xD200, 0xD000)}
+MACHINES: Dict[Side, Tuple[int, int, int, int]] = {"para": (0xF800, 0xF800, 0xFC00, 0xFA00), "host": (0x8000, 0xC000, 0xD200, 0xD000)}
 WHO = {"para": "the second processor", "host": "the host"}
 MOST_ARGUMENTS = 509
 CPUS: Tuple[Part, Part] = ("6502", "65c02")
@@ -54,6 +54,8 @@ class Image:
     form   "raw", "ld65" or "sim65"
     place  of sim65's form the address of the C stack's pointer
     """
+
+    BOUNDS: Dict[Side, Tuple[int, int]] = {machine: (LOWEST, MACHINES[machine][0]) for machine in MACHINES}
 
     def __init__(self, name: str, data: bytes, machine: Side, at: Optional[int], start: Optional[int], cpu: Optional[Part]):
         self.name, self.machine, self.place = name, machine, 0
@@ -100,12 +102,12 @@ class Image:
             self.data = self.data[: found.start()] + bytes([0xA9, end & 255, 0xA2, end >> 8]) + self.data[found.start() + 4 :]
 
     def _look(self) -> None:
-        end = MACHINES[self.machine][0]
+        lowest, end = self.BOUNDS[self.machine]
         if not self.data:
             raise Fault("%s is empty" % self.name)
-        if self.load < LOWEST or self.load + len(self.data) > end:
+        if self.load < lowest or self.load + len(self.data) > end:
             raise Fault("%s is larger than memory: %s bytes from %04X on; programs have %04X to %04X"
-                        % (self.name, "{:,}".format(len(self.data)), self.load, LOWEST, end - 1))
+                        % (self.name, "{:,}".format(len(self.data)), self.load, lowest, end - 1))
         if not self.load <= self.entry < self.load + len(self.data):
             raise Fault("%s begins at %04X, outside its bytes from %04X to %04X" % (self.name, self.entry, self.load, self.load + len(self.data) - 1))
 
@@ -181,7 +183,11 @@ def deck_of(images: Sequence[Image], given: Optional[bytes]) -> Tuple[bytes, int
 
 
 class Left(NamedTuple):
-    """What a run left: the host's memory and the second processor's, its registers, and what was written."""
+    """What a run left: the host's memory and the second processor's, its registers, and what was written.
+
+    how     how it ended, as host.asm notes it; 0 where it did not
+    status  the program's status, or the call that is not there
+    """
 
     ticks: int
     host: bytes
@@ -189,11 +195,8 @@ class Left(NamedTuple):
     registers: Dict[str, Registers]
     out: bytes
     err: bytes
-
-    @property
-    def how(self) -> int:
-        """How it ended, as host.asm notes it; 0 where it did not."""
-        return self.host[0xF0]
+    how: int
+    status: int
 
     @property
     def ended(self) -> bool:
@@ -217,17 +220,20 @@ class Runner:
         self.second = 12000000 if speed == 4 else 6000000
         self.more: List[str] = []
         self.slots = self.input_at = 0
-        # The program that writes has the arguments; the other has its name alone.
-        own = {image.machine: image for image in images}
-        texts = {image.machine: [os.fsencode(os.path.basename(image.name))] for image in images}
-        texts[images[-1].machine] += arguments
-        self._put("os", rom_of(program, "host", own.get("host"), texts.get("host", [])))
-        if self.has_tube:
-            self._put("tube", rom_of(program, "para", own["para"], texts["para"]))
+        self._make_roms(arguments)
         for name, data, most in (("keys", keys, IMAGE_CAP), ("font", font, IMAGE_CAP)):
             if data is not None:
                 self._put(name, bytes_of(data, most))
                 self.more += ["--" + name, name]
+
+    def _make_roms(self, arguments: List[bytes]) -> None:
+        # The program that writes has the arguments; the other has its name alone.
+        own = {image.machine: image for image in self.images}
+        texts = {image.machine: [os.fsencode(os.path.basename(image.name))] for image in self.images}
+        texts[self.images[-1].machine] += arguments
+        self._put("os", rom_of(self.program, "host", own.get("host"), texts.get("host", [])))
+        if self.has_tube:
+            self._put("tube", rom_of(self.program, "para", own["para"], texts["para"]))
 
     def _put(self, name: str, data: bytes) -> None:
         with open(os.path.join(self.folder, name), "wb") as file:
@@ -264,7 +270,11 @@ class Runner:
         report = parse_report(self.output("report"))
         return Left(ticks, host, self.output("para") if self.has_tube else None,
                     {side: it for side, it in (("host", report.host), ("para", report.para)) if it is not None},
-                    self.output("plug1"), self.output("plug0")[:errors])
+                    self.output("plug1"), self.output("plug0")[:errors], host[0xF0], host[0xF1])
+
+    def seen_by_host(self, left: Left) -> bytes:
+        """The host's memory, where the text of an error is."""
+        return left.host
 
     def saved(self, ticks: int) -> bytes:
         """The session of a run. That of the host alone has a second processor that does nothing; Fault where the host would
@@ -374,16 +384,18 @@ def _ending(runner: Runner, left: Left, limit: int, names: Dict[Side, Labels]) -
         byte = "%02X " % host[at] if at < len(host) else ""
         return Ending(NO_OPCODE, "the host stopped at %s: the opcode %sis none that the 6502 documents" % (names["host"].place(at), byte), at)
     if how == 1:
-        return Ending(host[0xF1])
+        return Ending(left.status)
     if how in (2, 3):
-        memory, labels = (host, names["host"]) if how == 2 else (left.para or b"", names["para"])
+        memory, labels = (runner.seen_by_host(left), names["host"]) if how == 2 else (left.para or b"", names["para"])
         at = broken_at(memory)
         call = "" if at < 0xFF00 else ": no call of the operating system is there"
         return Ending(BROKEN, "%s ended by a BRK at %s%s%s%s" % (
             runner.images[-1 if how == 2 else 0].name, labels.place(at), text_behind(memory, (at + 1) % 65536), call,
             _spare_of(runner, left.ticks, names["para"]) if how == 3 else ""), at)
     if how == 4:
-        return Ending(BROKEN, "%s asked for the call %02X, which the host's ROM does not have" % (name, host[0xF1]))
+        return Ending(BROKEN, "%s asked for the call %02X, which the host's ROM does not have" % (name, left.status))
+    if how == 6:
+        return Ending(TIMED_OUT, "%s reads a key after the end of its input" % name)
     return Ending(TOO_MUCH, "%s wrote more than 65,536 bytes: the first of them are here, and it was stopped" % runner.images[-1].name)
 
 

@@ -640,6 +640,190 @@ class Host(Execute):
         self.assertRegex(text_of(self.at("list")).decode().splitlines()[0], " 0800 .* LDA #&07$")
 
 
+# Prints a text up to a 0, and then what follows.
+PRINT = """
+        LDX #0
+put:    LDA text,X
+        BEQ done
+        JSR &FFE3
+        INX
+        BNE put
+done:
+"""
+
+
+class System(Execute):
+    """`--os`: the same program with the ROMs of system/, on the host and on the second processor."""
+
+    def on_both(self, text, *words, status=0, at="2000", **how):
+        """What is written on standard output and standard error, on each."""
+        self.asm("prog", "org &%s\n" % at + text)
+        told = []
+        for more in ((), ("--tube",)):
+            done = self.tool("execute", "--os", *more, "--at", at, *words, status=status,
+                stdout=subprocess.PIPE, stderr=subprocess.PIPE, **how)
+            told.append((done.out, done.err))
+        return told
+
+    def test_output_and_status(self):
+        """All bytes come out, a new line as one line feed; the user flag is the status."""
+        text = PRINT + "LDA #1\nLDX #42\nJSR &FFF4\nRTS\ntext: byte 72, 105, 13, 0\n"
+        self.assertEqual(self.on_both(text, "prog", status=42), [("Hi\n", "")] * 2)
+        # Of codes that print nothing every byte comes: VDU 27, and VDU 25 with its parameters.
+        text = PRINT + "LDA #0\nJSR &FFEE\nRTS\ntext: byte 27, 25, 4, 10, 1, 1, 1, 0\n"
+        self.assertEqual(self.on_both(text, "prog"),
+            [("\x1b\x19\4\n\1\1\1\0", "")] * 2)
+
+    def test_where_it_runs(self):
+        self.asm("where", text_of(os.path.join(EXAMPLES, "where.asm")).decode())
+        for more, who in (((), "host"), (("--tube",), "second processor"),
+                (("--tube", "--speed", "4"), "second processor")):
+            done = self.tool("execute", "--os", *more, "--at", "2000", "where")
+            self.assertEqual((done.out, done.err), ("The %s runs this.\n" % who, ""))
+
+    def test_its_start_and_arguments(self):
+        """It begins at --start; the text after its name is the command's, by OSARGS 1."""
+        text = """
+        LDA #88
+        JMP &FFEE
+        LDA #1
+        LDX #&70
+        LDY #0
+        JSR &FFDA
+loop:   LDX #&70
+        LDY #0
+        LDA #5
+        JSR &FFF1
+        INC &70
+        BNE same
+        INC &71
+same:   LDA &74
+        JSR &FFE3
+        CMP #13
+        BNE loop
+        RTS
+"""
+        self.assertEqual(self.on_both(text, "--start", "2005", "prog", "one", "two words", "-x"),
+            [("one two words -x\n", "")] * 2)
+
+    def test_input(self):
+        """A line is read by OSWORD 0; from a pipe, a file, and none."""
+        text = """
+        LDX #<block
+        LDY #>block
+        LDA #0
+        JSR &FFF1
+        LDX #0
+put:    LDA &2800,X
+        JSR &FFE3
+        CMP #13
+        BEQ done
+        INX
+        BNE put
+done:   RTS
+block:  word &2800
+        byte 20, 32, 126
+"""
+        self.assertEqual(self.on_both(text, "prog", stdin=b"abc\ndef\n"), [("abc\nabc\n", "")] * 2)
+        told = [("", "execute: prog reads a key after the end of its input\n")] * 2
+        self.assertEqual(self.on_both(text, "prog", stdin=b"", status=124), told)
+        told = [("abc", told[0][1])] * 2
+        self.assertEqual(self.on_both(text, "prog", stdin=b"abc", status=124), told)
+        put(self.at("lines"), b"file\nrest")
+        for more in ((), ("--tube",)):
+            with open(self.at("lines"), "rb") as file:
+                done = subprocess.run([EXECUTE, "--os", *more, "--at", "2000", "prog"], cwd=self.folder,
+                    stdin=file, stdout=subprocess.PIPE, timeout=300)
+                self.assertEqual((done.stdout, file.read()), (b"file\nfile\n", b""))
+
+    def test_files(self):
+        """OSFIND, OSBPUT, OSBGET, and OSCLI with its output."""
+        text = """
+        LDA #&80
+        LDX #<name
+        LDY #>name
+        JSR &FFCE
+        TAY
+        LDA #65
+        JSR &FFD4
+        LDA #0
+        JSR &FFCE
+        LDX #<show
+        LDY #>show
+        JMP &FFF7
+name:   byte 70, 13
+show:   byte 68, 85, 77, 80, 32, 70, 13
+"""
+        self.assertEqual(self.on_both(text, "prog"),
+            [("0000 41 ** ** ** ** ** ** ** A\n", "")] * 2)
+
+    def test_ends(self):
+        for text, told, place in (("BRK\nbyte 7, 72, 105, 0\n", "7: Hi", "2000"),
+                ("LDX #<no\nLDY #>no\nJMP &FFF7\nno: byte 42, 81, 13\n", "254: Bad command", "....")):
+            for _, err in self.on_both(text, "prog", status=134):
+                self.assertRegex(err, r"\Aexecute: prog ended by a BRK at %s, error %s\n\Z" % (
+                    place, told))
+        put(self.at("labels"), b"al 002000 .here\n")
+        self.assertEqual(self.on_both("here: JMP here\n", "--limit", "2", "--labels", "labels",
+            "prog", status=124), [("", "execute: prog did not end within 2 seconds of machine time; "
+                "it is at here (2000)\n")] * 2)
+        self.asm("wild", "org &2000\nLDA #165\nLDX #1\nbyte 2\n")
+        self.assertEqual(self.tool("execute", "--os", "--at", "2000", "wild", status=132).err,
+            "execute: the host stopped at 2004: the opcode 02 is none that the 6502 documents\n")
+
+    def test_the_most_output_and_one_more(self):
+        text = "LDX #0\nLDY #0\nLDA #0\nl: JSR &FFEE\nINX\nBNE l\nINY\nBNE l\n%sRTS\n"
+        self.asm("prog", "org &2000\n" + text % "")
+        done = self.tool("execute", "--os", "--at", "2000", "prog")
+        self.assertEqual((len(done.out), done.err), (65536, ""))
+        self.asm("prog", "org &2000\n" + text % "JSR &FFEE\n")
+        done = self.tool("execute", "--os", "--at", "2000", "prog", status=153)
+        self.assertEqual((len(done.out), done.err), (65536, "execute: prog wrote more than 65,536 "
+            "bytes: the first of them are here, and it was stopped\n"))
+
+    def test_what_does_not_go(self):
+        self.asm("prog", "org &1900\nRTS\n")
+        before = self.names()
+        for words, what in ((["--tube"], "goes with --os"), (["--os", "--host"], "--host does not go"),
+                (["--os", "--both", "prog"], "--both does not go"),
+                (["--os", "--time"], "--time does not go"),
+                (["--os", "--save", "out"], "--save does not go"),
+                (["--os", "--trace", "out"], "--trace does not go"),
+                (["--os", "--listing", "out"], "--listing does not go"),
+                (["--os", "--host-labels", "prog"], "--host-labels does not go"),
+                (["--os", "--speed", "4"], "has it with --tube"),
+                (["--os", "--cpu", "65c02"], "the host has a 6502"),
+                (["--os", "--at", "1800"], "programs have 1900 to 7BFF"),
+                (["--os", "--tube", "--at", "7FFF", "--start", "8000"], "outside its bytes"),
+                (["--os", "--tube", "--at", "8000"], "programs have 0800 to 7FFF")):
+            self.assertIn(what, self.tool("execute", *words, "prog", status=125).err, words)
+        for more in (["x" * 201], ["a\rb"]):
+            self.assertIn("no text of a command", self.tool("execute", "--os", "prog", *more,
+                status=125).err)
+        self.assertIn("is no program of a disc", self.tool("execute", "--os",
+            os.path.join(BUILT, "three"), status=125).err)
+        self.assertEqual(self.names(), before)
+
+    @unittest.skipUnless(shutil.which("cc65"), "cc65 is not there")
+    def test_a_program_in_c(self):
+        put(self.at("main.c"), b"""#include <stdio.h>
+char line[20];
+int main(int argc, char* argv[]) {
+    FILE* file = fopen("OUT", "w");
+    fputs(fgets(line, sizeof line, stdin), file);
+    fclose(file);
+    printf("%d %s %s", argc, argv[argc - 1], fgets(line, sizeof line, fopen("OUT", "r")));
+    return 7;
+}
+""")
+        done = call([os.path.join(EXAMPLES, "c", "build"), "--disc", "prog", "main.c"], self.folder)
+        self.assertEqual(done.status, 0, done.err)
+        for more in ((), ("--tube",)):
+            done = self.tool("execute", "--os", *more, "prog", "a", "b", stdin=b"key\n", status=7,
+                stdout=subprocess.PIPE, stderr=subprocess.PIPE)
+            self.assertEqual((done.out, done.err), ("key\n3 b key\n", ""))
+
+
 @unittest.skipUnless(shutil.which("cc65"), "cc65 is not there")
 class Building(Execute):
     def build(self, *words, status=0, **how):
