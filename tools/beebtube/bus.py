@@ -166,7 +166,7 @@ class Bus:
         watched = ends | sum(side.select for side in self._sides)
         quiet, edge = self._quiet, self._edge
         burst: List[Moment] = []
-        last, before, after = -1 - quiet, 0, 0
+        last, before, after = -(1 << 80), 0, 0
         for moment in self.reader.moments(watched, sum(self.bit.values())):
             if moment[0] - last < quiet:
                 burst = burst or [(last, before, after)]

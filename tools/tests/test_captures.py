@@ -355,6 +355,14 @@ class Kinds(Case):
             b"".join(Capture(self.at("c.csv"), begin=100).trace()), b"0000000070 H R 0 08\n"
         )
 
+    def test_no_select_is_made_up_before_the_first_edge(self):
+        """The first edge ends a cycle in which the Tube is not selected, at a time below 0."""
+        rows = [("-0.000002", "111"), ("-0.000001", "110"), ("0.0", "111")]
+        names = ["HA0", "HA1", "HA2"] + HOST[3:]
+        lines = ["%s,%s" % (time, ",".join("0" * 11 + row)) for time, row in rows]
+        put(self.at("c.csv"), "\n".join(["Time [s]," + ",".join(names)] + lines).encode())
+        self.assertEqual(list(Capture(self.at("c.csv"), begin=100).trace()), [])
+
     def test_a_long_head(self):
         text = (
             "$comment\n"
