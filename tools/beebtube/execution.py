@@ -224,7 +224,7 @@ class Runner:
         for name, data, most in (("keys", keys, IMAGE_CAP), ("font", font, IMAGE_CAP)):
             if data is not None:
                 self._put(name, bytes_of(data, most))
-                self.more += ["--" + name, name]
+                self.more += ["--" + name, name] if "--" + name not in self.more else []
 
     def _make_roms(self, arguments: List[bytes]) -> None:
         # The program that writes has the arguments; the other has its name alone.

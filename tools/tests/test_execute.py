@@ -736,6 +736,18 @@ block:  word &2800
                     stdin=file, stdout=subprocess.PIPE, timeout=300)
                 self.assertEqual((done.stdout, file.read()), (b"file\nfile\n", b""))
 
+    def test_keys_font_and_shots(self):
+        """Keys of a script come in place of standard input, and a font in place of the set's."""
+        put(self.at("keys"), beebtube.typed("k", start=1.3).text().encode() + b"at 9000000 shot\n")
+        put(self.at("font"), bytes(960))
+        text = "JSR &FFE0\nJSR &FFEE\nhere: JMP here\n"
+        given = ("--keys", "keys", "--limit", "1.6", "--shots", "seen")
+        told = self.on_both(text, *given, "prog", stdin=b"no\n", status=124)
+        self.assertEqual([out for out, _ in told], ["K"] * 2)
+        seen = text_of(self.at("seen.000.png"))
+        self.tool("execute", "--os", *given, "--font", "font", "--at", "2000", "prog", status=124)
+        self.assertNotEqual(text_of(self.at("seen.000.png")), seen)
+
     def test_files(self):
         """OSFIND, OSBPUT, OSBGET, and OSCLI with its output."""
         text = """
