@@ -15,13 +15,12 @@ its standard library. docs/PYTHON.md has more.
 """
 from __future__ import annotations
 
+import importlib as _importlib
 import os as _os
 from typing import TYPE_CHECKING as _TYPE_CHECKING
 from typing import Any as _Any
 
-from .calling import Called, call
 from .disc import Catalogue, Disc
-from .execution import Executed, build, execute
 from .explain import explain
 from .faults import Fault, Refused
 from .files import inside, read_file, read_text, sum_of, write_beside
@@ -34,6 +33,8 @@ from .script import Event, Script, Typed, key, pressed, typed
 from .trace import Access, Trace
 
 if _TYPE_CHECKING:
+    from .calling import Called, call
+    from .execution import Executed, build, execute
     from .past import Past
 
 __all__ = [
@@ -48,11 +49,14 @@ __version__ = read_text(_VERSION).strip() if _os.path.exists(_VERSION) else "unk
 _program = Program()
 
 
-# What needs many modules is loaded by its first use.
+# The modules that are loaded by the first use of what they have.
+_LATER = {"Called": "calling", "call": "calling", "Executed": "execution", "build": "execution",
+          "execute": "execution", "Past": "past"}
+
+
 def __getattr__(name: str) -> _Any:
-    if name == "Past":
-        from .past import Past
-        return Past
+    if name in _LATER:
+        return getattr(_importlib.import_module("." + _LATER[name], __name__), name)
     raise AttributeError(f"module {__name__!r} has no attribute {name!r}")
 
 
