@@ -559,6 +559,12 @@ def _about() -> Tuple[int, str, str]:
 _version: Optional[Version] = None
 
 
+def know(told: Version) -> None:
+    """Takes what the launcher printed for another call, so that it is not asked once more."""
+    global _version
+    _version = told
+
+
 def version() -> Version:
     """What the launcher prints about its program; Fault if it does not. It is asked until it has a program."""
     global _version

@@ -11,6 +11,7 @@ import re
 import shlex
 import shutil
 import subprocess
+import sys
 import urllib.parse
 import xml.etree.ElementTree
 import zipfile
@@ -967,6 +968,20 @@ class Elsewhere(Suite):
         done = call(["sh", "-c", job], "/", env=self.counting())
         self.assertEqual((done.status, "differs from the one" in done.err), (1, True))
         self.assertEqual(call(["sh", "-c", job], "/").status, 0)
+
+    def test_a_job_has_its_program_with_it(self):
+        self.discs("a.ssd")
+        job = self.jobs()[0]
+        for form, given, why in (("[0-9a-f]{64}(?=%22%5D)", "0" * 64, "the program was changed"),
+                                 ("(?<=--program=)[^ ]*", "%5B%5D", "is no program")):
+            done = call(["sh", "-c", re.sub(form, given, job)], "/")
+            self.assertEqual((done.status, why in done.err), (1, True))
+            self.assertFalse(os.path.exists(self.at("results/runs")) and self.runs())
+        # The launcher, which needs bash and git, is not asked.
+        os.mkdir(self.at("bin"))
+        os.symlink(sys.executable, self.at("bin/python3"))
+        done = call(["/bin/sh", "-c", job], "/", env={"PATH": self.at("bin")})
+        self.assertEqual(done.out, "done a.ssd\n")
 
     def test_a_line_of_the_list_that_is_wrong_is_no_job(self):
         self.pair()
