@@ -11,10 +11,8 @@ import json
 import os
 import sys
 from array import array
-from typing import Any, Dict, List, NamedTuple, Optional, Tuple
+from typing import TYPE_CHECKING, Any, Dict, List, NamedTuple, Optional, Tuple
 
-from .columns import Columns, columns_of
-from .differs import Outputs, differences, picture_frames
 from .disc import LARGEST, Disc
 from .faults import Fault
 from .files import IMAGE_CAP, TRACE_CAP, Sum, read_file, sum_of
@@ -23,11 +21,13 @@ from .instructions import instructions
 from .manifest import Manifest
 from .markup import asset, element, grouped, shown, small, table
 from .page_discs import side_of
-from .page_tube import tube_of
 from .program import screen_of
 from .report import Registers
 from .report import parse as parse_report
 from .script import KEYS, Script
+
+if TYPE_CHECKING:
+    from .columns import Columns
 
 BEGIN = "<!DOCTYPE html>\n<!-- beebtube page 1 -->\n"
 ROWS = 2000  # the most rows of a table of keys
@@ -103,6 +103,7 @@ class Page:
         if self.asked.trace is None or not os.path.lexists(name):
             return None
         self.reads.append(name)
+        from .columns import columns_of
         columns = columns_of(name)
         self.sums.append((name, sum_of(name, TRACE_CAP)))
         return columns
@@ -211,6 +212,7 @@ class Page:
         elif self.columns is None:
             self.add("tube", "Tube", "<p>The run wrote no trace.</p>")
         else:
+            from .page_tube import tube_of
             parts, data = tube_of(self.columns, self.report, self.second, self.asked.trace)
             self.data.update(data)
             self.add("tube", "Tube", *parts)
@@ -284,6 +286,7 @@ class Page:
     def add_against(self) -> None:
         if self.asked.against is None:
             return
+        from .differs import Outputs, differences
         one, other = Outputs.of(self.asked.out), Outputs.of(self.asked.against)
         self.reads += list(other.names.values())
         parts = ["<p>This run is before the sign |, and %s after it.</p>" % shown(os.path.basename(self.asked.against))]
@@ -320,6 +323,7 @@ _VIEW = """<div class="tools" role="group" aria-label="A memory"><label for="mem
 
 # Two frames and where they differ, as pictures of the page.
 def _beside(one: Frame, other: Frame, name: str, of_other: str) -> str:
+    from .differs import picture_frames
     images = []
     for frame, what in zip(picture_frames(one, other), ("of this run", of_other, "with the pixels that differ in white")):
         source = "data:image/png;base64," + base64.b64encode(frame.png()).decode()
