@@ -11,7 +11,7 @@ from __future__ import annotations
 
 import functools
 import re
-from typing import TYPE_CHECKING, Iterator, NamedTuple, Optional
+from typing import TYPE_CHECKING, Dict, Iterator, NamedTuple, Optional, Tuple
 
 from .effects import LEVELS, level_after, sequences
 from .faults import Fault
@@ -45,6 +45,13 @@ def _form(level: int) -> "re.Pattern[bytes]":
         if lows:
             rows.append(f"{high:X}[{lows}]")
     return re.compile(f" S=(?:{'|'.join(rows)}) P".encode())
+
+
+# A call that `pc` opened is over if S comes to its level first by `word`, which leads to `to`.
+def _came_back(kind: str, pc: bytes, word: bytes, to: bytes) -> bool:
+    if kind != "call":
+        return word == b"RTI"
+    return word == b"RTS" and int(to, 16) - int(pc, 16) - 3 & 0xFFFF < TEXT
 
 
 class Frame(NamedTuple):
@@ -168,12 +175,15 @@ class Calls:
         resets = self.past.resets(machine.side)
         reset = max((it for it in resets if it < here.tick), default=-1)
         seen, below, after = 1 << here.registers.s, here.registers.s, here.tick
+        later = b"%04X" % here.registers.pc
+        ways: Dict[int, Tuple[bytes, bytes]] = {}  # how S comes to a level first, and where
         for listing in machine.parts(here.tick, backwards=True):
             place = listing.place_of(after)
             for tick_, pc, x, s_, word in reversed(listing.brief(listing.first, place)):
                 s, begun = HEX[s_], int(tick_, 16)
                 if begun <= reset:
                     return
+                ways[below] = word, later
                 left = HEX[x] if word == b"TXS" else s + DELTAS.get(word, 0) & 255
                 opened = [("interrupt", below + 3 * (number + 1) & 255)
                           for number in range((left - below) * 171 & 255)] if left != below else []
@@ -182,10 +192,12 @@ class Calls:
                 for kind, level in opened:
                     if not seen & OVER[level] & ~(1 << level):
                         is_at = bool(seen >> level & 1)
+                        if is_at and _came_back(kind, pc, *ways[level]):
+                            continue
                         frame = Frame(kind, listing.start(listing.place_of(begun)), level, is_at)
                         if not is_at or self.over(frame, begun, here.tick) is None:
                             yield frame
-                seen, below = seen | 1 << s, s
+                seen, below, later = seen | 1 << s, s, pc
             after = listing.low
             if here.tick - after >= FAR:
                 yield from self._on_stack(here, after, seen)

@@ -12,6 +12,7 @@ from .faults import Fault
 from .files import write_beside
 from .frame import look_at_place
 from .listings import Change, Start
+from .machine import FAR, OVERLAP
 from .naming import Names
 from .parting import Parting, next_parting, parting
 from .past import Past
@@ -287,6 +288,9 @@ class Debugger(Engine):
 
     @word("[N]", "the calls that are open, the innermost first; at most N, else 32")
     def do_backtrace(self, number: str = "32") -> None:
+        if 0 < self.tick <= self.past.held:
+            # One listing, and not first a short one.
+            self.machine.around((), self.tick - 1, FAR + OVERLAP, backwards=True)
         self._show_here()
         for _, frame in zip(range(self._count(number, 256)), self.frames()):
             self._show(frame.start, "" if frame.kind == "call" else f"{frame.kind} after it")

@@ -11,8 +11,10 @@ from common import TOP, Case, call, put
 
 import beebtube
 from beebtube import past
+from beebtube.calls import Calls
 from beebtube.debugging import Debugger
 from beebtube.faults import Fault
+from beebtube.machine import Machine
 from beebtube.naming import Names
 from beebtube.program import Program
 
@@ -148,6 +150,17 @@ handle: LDA &FEF9
         org &FFFA
         word start, start, handle
 """
+# A loop with a call that comes back.
+PLAIN = """
+        org &C000
+start:  LDX #&FF
+        TXS
+loop:   JSR sub
+        JMP loop
+sub:    RTS
+        org &FFFA
+        word start, start, start
+"""
 # Both look at a status again and again.
 LOOKS = """
         org &C000
@@ -239,6 +252,15 @@ class Answers(Case):
         debugger = self.debugger(RESETS, IS_RESET)
         self.said(debugger, "para; go 100")
         self.assertRaises(Fault, self.said, debugger, "return")
+
+    def test_backtrace_where_no_call_is_open(self):
+        """It lists the instructions once, and does not look for the end of each call before."""
+        debugger = self.debugger(PLAIN, ticks=600000)
+        self.said(debugger, "before C003")
+        follow = mock.patch.object(Machine, "follow", autospec=True, side_effect=Machine.follow)
+        with follow as follows, mock.patch.object(Calls, "over") as over:
+            said = self.said(debugger, "backtrace")
+        self.assertEqual((follows.call_count, over.call_count, said.count("\n")), (1, 0, 1))
 
     def test_paged_rom_that_00F4_does_not_tell(self):
         debugger, labels = self.calls(), self.labels
