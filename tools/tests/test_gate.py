@@ -135,12 +135,13 @@ class Gate(Case):
 
     def test_times(self):
         """The table is made from both files, into which a run's log goes unchanged. A crate without a
-        proof in the log keeps its row and its run."""
+        proof in the log keeps its row and its run. A change of a crate costs what it and the crates
+        above it take."""
         top = self.clone("times")
         page, rows, runs = (os.path.join(top, it) for it in (
             "docs/GATE.md", "bench/gate.csv", "bench/gate_runs.csv"))
         os.mkdir(os.path.dirname(rows))
-        put(rows, b"crate,proof,tests,edits,run\nlower,30,,,old\nbeebtube,10,,,old\n")
+        put(rows, b"crate,proof,tests,edits,run\nlower,130,,,old\nbeebtube,10,,,old\n")
         put(os.path.join(top, "bench/wrong.edits"), b"lower a\nfile: src/lib.rt\n\nlower b\nfile: src/lib.rt\n")
         put(runs, b"run,minutes,processors,processor,note\nold,,,,not recorded\n")
         put(os.path.join(top, "crates.txt"), b"lower:\nbeebtube: lower\n")
@@ -148,7 +149,7 @@ class Gate(Case):
         self.assertIn("docs/GATE.md", self.call(top, "times", "check", status=1).err)
         self.call(top, "times", "make", status=0)
         self.call(top, "times", "check", status=0)
-        self.assertIn("| beebtube | 0 | 0 | 10 | none | none |\n", text_of(page).decode())
+        self.assertIn("| lower | 0 | 0 | 130 | none | none | 2 |\n| beebtube | 0 | 0 | 10 | none | none | 1 |\n", text_of(page).decode())
         self.assertIn("The rows are of the run of old: not recorded.\n", text_of(page).decode())
         before = text_of(rows), text_of(runs), text_of(page)
         put(self.at("log"), b"time: beebtube proof 21.2\n")
@@ -158,10 +159,10 @@ class Gate(Case):
                b"time: lower edits 3\ntime: beebtube proof 1\ntime: ended after 7 minutes\n")
         put(self.at("log"), log)
         self.assertIn("lower", self.call(top, "times", "--write", "log", status=0).err)
-        self.assertEqual(text_of(rows), b"crate,proof,tests,edits,run\nlower,30,,,old\nbeebtube,22.2,,,2026-12-02 10:00\n")
+        self.assertEqual(text_of(rows), b"crate,proof,tests,edits,run\nlower,130,,,old\nbeebtube,22.2,,,2026-12-02 10:00\n")
         self.assertEqual(text_of(runs).decode().splitlines()[1:], ["old,,,,not recorded", '2026-12-02 10:00,7,4,"A, B",'])
-        self.assertIn("| beebtube | 0 | 0 | 22 | none | none |\n", text_of(page).decode())
-        self.assertIn("is lower and beebtube, 52 seconds.", " ".join(text_of(page).decode().split()))
+        self.assertIn("| lower | 0 | 0 | 130 | none | none | 3 |\n| beebtube | 0 | 0 | 22 | none | none | 1 |\n", text_of(page).decode())
+        self.assertIn("is lower and beebtube, 152 seconds.", " ".join(text_of(page).decode().split()))
         self.assertIn("There are 2 crates and 0 test functions; `bench/wrong.edits` has 2 more edits.", " ".join(text_of(page).decode().split()))
         shown = " ".join(text_of(page).decode().split())
         self.assertIn("Those of beebtube are of the run of 2026-12-02 10:00 (UTC) on 4 processors (A, B), which took 7 minutes.", shown)
