@@ -1,4 +1,4 @@
--- What act, see and see_all owe and tell: events that are not published yet.
+-- What act, see and see_all require and ensure: events that are not published yet.
 use Rattle.std.proofs.Common.{◌≡◌, ℕ, ◌+◌, ◌<◌, ◌≤◌, ◌^◌, min, max, Bool, true, false, cond, List, [], ◌∷◌, ◌++◌, refl, sym, ap, ◌∙◌, subst, arith, append_assoc, append-nil}
 use Rattle.atomic_table.specs.Seated.{TableId}
 use Rattle.beeb_bits.specs.declared.Side.{Side}
@@ -64,7 +64,7 @@ trust_after_append s c a (x ∷ xs) ys = trust_after_append s (chip_after_event 
 
 -- ---- act and see
 
--- events that run on from the local chip, behind the unpublished ones
+-- events that run on from the local chip, after the unpublished ones
 abbrev RunsPast : Side → Known → List Event → List Event → State → List Event → State → ℕ → Type 0
 RunsPast s k mine ahead here = Runs s (word_of_other s k) (trust_after s k.chip k.trust ahead) (horizon (own_bound s k) (mine ++ ahead)) here
 
@@ -93,7 +93,7 @@ pass_added {s} {words} {last = last} es end {v = v} is none w_is runs =
       runs = added_runs s v.known v.mine v.ahead _ es _ end is.runs runs;
     })
 
--- the trust that is known, cut
+-- the known speculative horizon, cut
 trust_min : (s : Side) (old new : State) (t a cut : ℕ) → trust_next s old new t (min a cut) ≡ min a (trust_next s old new t cut)
 trust_min Host old new t a cut = go (same_readings old new)
   where

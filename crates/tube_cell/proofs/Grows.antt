@@ -67,7 +67,7 @@ host_fine n {host} e fine is late up low admitted keep =
 para_kept : {k : Known} (n : Known) {para : List Event} → ParaFine k para → k.para ≤ n.para → k.host ≤ n.host → k.trust ≤ n.trust → ParaFine n para
 para_kept n fine up host_up trust_up = grind arith
 
--- cut at the tick to which the trust is taken back
+-- cut at the tick to which the speculative horizon falls
 para_cut : {k : Known} (n : Known) (t : ℕ) {para : List Event} → ParaFine k para → k.para ≤ n.para → k.host ≤ n.host → t < n.host → n.trust ≡ min k.trust t → ParaFine n (below t para)
 para_cut {k} n t {para} fine up host_up lt trust =
     let own = All-below (λ x. is_access x.query ≡ true → x.tick < own_bound Para k) t para fine.below_own in
@@ -84,7 +84,7 @@ para_cut {k} n t {para} fine up host_up lt trust =
 early_of : {k : Known} (t : ℕ) {para : List Event} → ParaFine k para → k.host ≤ t → All (Early t) para
 early_of t fine le i d lt a = let h = (fine.changes i d lt a).1 in omega arith
 
--- these words once the host did an event, at this own word and trust
+-- these words after the host did an event, with this own word and speculative horizon
 abbrev pub host_next : Known → Event → ℕ → ℕ → Known
 host_next k e m trust = record { chip = chip_after_event k.chip e; host = m; para = k.para; trust = trust }
 
@@ -103,7 +103,7 @@ module _ {k : Known} {host para : List Event} (e : Event) (good : Good k host pa
         para_fine = para_kept (host_next k e m k.trust) good.para_fine (omega arith) up (omega arith);
       }
 
-  -- one that may not: what is on trust from its tick on goes
+  -- one that may not: speculative events from its tick on are dropped
   good_cut : (m : ℕ) → e.tick < m → Good (host_next k e m (min k.trust e.tick)) (host ++ e ∷ []) (below e.tick para)
   good_cut m low =
       let n = host_next k e m (min k.trust e.tick) in
@@ -131,7 +131,7 @@ host_before {host} e fine is from i d lt =
 para_before : (para : List Event) (e : Event) → Climbs 0 para → past_last para ≤ e.tick → All (Precedes e) para
 para_before para e climbs late = All-weaker (λ x. x.tick < e.tick) (Precedes e) (precedes_below e) para (low_of e.tick para climbs late)
 
--- these words once the parasite did an event, at this own word and trust
+-- these words after the parasite did an event, with this own word and speculative horizon
 abbrev pub para_next : Known → Event → ℕ → ℕ → Known
 para_next k e m trust = record { chip = chip_after_event k.chip e; host = k.host; para = m; trust = trust }
 
@@ -331,13 +331,13 @@ module _ (last : State) (end : ℕ) where
 pub host_knows : {k : Known} (n : Known) {x : Known} → Knows Host k x → n.host ≡ k.host → k.para ≤ n.para → k.trust ≤ n.trust → (k.host ≤ own_bound Para k → n.chip ≡ k.chip) → Knows Host n x
 host_knows n knows host para trust idle = grind arith
 
--- ---- observations on trust
+-- ---- speculative observations
 
 pub watches_low : (s : Side) (end : ℕ) (c : State) (es : List Event) (from : ℕ) → Watches s from c es end → AllBelow end es
 watches_low s end c [] from h = low_nil
 watches_low s end c (e ∷ es) from h = low_cons e es h.3 (watches_low s end c es _ h.5)
 
--- the words with this trust
+-- the words with this speculative horizon
 abbrev pub trusting : Known → ℕ → Known
 trusting k t = record k { trust = t }
 

@@ -47,7 +47,7 @@ split_words (x ∷ xs) (y ∷ ys) a b c d e f same eq =
     let r = split_words xs ys a b c d e f (omega arith) (ap (drop 1) eq) in
     (λ i. slice_index (eq i) 0 ∷ r.0 i, r.1, r.2, r.3)
 
--- the words tell what they stand for
+-- the words determine what they represent
 pub words-one : PackingIsOneToOne → (k l : Known) → IsChip k.chip → IsChip l.chip → words_of k ≡ words_of l → k ≡ l
 words-one one k l well well' e =
     let r = split_words (packed_words k.chip) (packed_words l.chip) k.host k.para k.trust l.host l.para l.trust (packed_long k.chip ∙ sym (packed_long l.chip)) e in
@@ -268,7 +268,7 @@ pub publishes : PackingIsOneToOne → (s : Side) (pass : ℕ) {v : View} {es : L
 publishes one Host pass {v} {es} {next} may well is = exchanges Host pass v (λ u. published_view u es next) (words_of next) may.role (host_publishes one pass may well is)
 publishes one Para pass {v} {es} {next} may well is = exchanges Para pass v (λ u. published_view u es next) (words_of next) may.role (para_publishes one pass may well is)
 
--- ---- events on trust
+-- ---- speculative events
 
 entrusts_hit : PackingIsOneToOne → (pass : ℕ) {v : View} {es : List Event} {end : ℕ} {next : Known} → MayEntrust es end v → next ≡ trusting v.known end
     → (words : List ℕ) (views : List View) (k : Kept words views) → get_elem? views pass ≡ some v → words ≡ words_of v.known
@@ -301,7 +301,8 @@ pub entrusts : PackingIsOneToOne → (pass : ℕ) {v : View} {es : List Event} {
     → Turns Kept pass v (λ x. if pointwise nat_eq x (words_of v.known) then words_of next else x) (Entrusts es next)
 entrusts one pass {v} {es} {next} may is = exchanges Para pass v (λ u. entrusted_view u es next) (words_of next) may.role (entrusts_hit one pass may is)
 
--- ---- both at once: the rule is kept once some events are published, and then once others are on the list too
+-- ---- both at once: the rule is kept after some events are published, and then after others join
+-- the list too
 
 both_hit : PackingIsOneToOne → (pass : ℕ) {v : View} {es seen : List Event} {last : State} {word end : ℕ} {next : Known} → MayPublishAndEntrust es last word seen end v → IsChip last
     → next ≡ known_with Para last word (word_of_other Para v.known) end

@@ -1,5 +1,6 @@
--- On lists alone: an event after every event of both lists joins the end of their merge, and keeps it legal where its answer is the chip's. One of the host's that
--- leaves what the parasite's observations show may also stand before some of these.
+-- On lists alone: an event after every event of both lists joins the end of their merge, and keeps
+-- it legal if its answer is the chip's. A host's event that does not change what the parasite
+-- observes may also come before observations of the parasite.
 use Rattle.std.proofs.Common.{◌≡◌, ℕ, ◌+◌, ◌<◌, ◌≤◌, nat_lt, Bool, true, false, IsTrue, cond, List, [], ◌∷◌, ◌++◌, All, refl, sym, ap, ◌∙◌, subst, arith}
 use Rattle.std.specs.Prelude.{slice_index_or}
 use Rattle.std.proofs.lemmas.List.Elements.{All-nil, All-cons, All-head, All-tail, All-weaker}
@@ -262,8 +263,9 @@ after-placed c (x ∷ xs) e rises early =
     (λ le. let seen = observations_from e.tick x xs rises le early in
     after_observations (chip_after_event c e) (x ∷ xs) seen ∙ sym (ap (λ d. chip_after_event d e) (after_observations c (x ∷ xs) seen)))
 
--- The host's event joins its list after all of it, and after all of the parasite's that may change the chip. Where it shows the parasite the same as before,
--- observations of the parasite may lie behind it.
+-- The host's event joins its list after all of the list, and after all of the parasite's that may
+-- change the chip. If it does not change what the parasite observes, observations of the parasite
+-- may follow it.
 pub legal_placed : (xs ys : List Event) (e : Event) → e.side ≡ Host → AllBelow e.tick xs → All (λ y. y.side ≡ Para) ys → All (Early e.tick) ys → IsLegal (merge xs ys)
     → Answers (after (merge xs ys)) e → ShowsSame (after (merge xs ys)) (chip_after_event (after (merge xs ys)) e)
     → IsLegal (merge (xs ++ e ∷ []) ys) × (after (merge (xs ++ e ∷ []) ys) ≡ chip_after_event (after (merge xs ys)) e)
@@ -348,7 +350,8 @@ after-below t c (x ∷ xs) rises early =
     (λ lt. after-below t (chip_after_event c x) xs (rises_of x xs rises) (All-tail (Early t) x xs early))
     (λ le. sym (after_observations c (x ∷ xs) (observations_from t x xs rises le early)))
 
--- The host's event joins its list, and the parasite's list is cut at its tick: what goes is observations alone.
+-- The host's event joins its list, and the parasite's list is cut at its tick: only observations
+-- are dropped.
 pub legal_cut : (xs ys : List Event) (e : Event) → AllBelow e.tick xs → All (Early e.tick) ys → IsLegal (merge xs ys) → Answers (after (merge xs ys)) e
     → IsLegal (merge (xs ++ e ∷ []) (below e.tick ys)) × (after (merge (xs ++ e ∷ []) (below e.tick ys)) ≡ chip_after_event (after (merge xs ys)) e)
 legal_cut xs ys e low early legal here =

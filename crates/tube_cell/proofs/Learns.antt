@@ -93,7 +93,7 @@ pub bound_falls : (s : Side) (v k : Known) → GoesOn (one_side s) v k → own_b
 bound_falls Host v k on = let o = on.0 in omega arith
 bound_falls Para v k on = let t = trusts_fall v k on.2 in omega arith
 
--- what stays on trust lies below it
+-- what stays speculative lies below it
 pending_low : (s : Side) (v k : Known) (trusted : List Event) → Trusts s v k → AllBelow v.trust trusted → AllBelow k.trust (pending_events k trusted)
 pending_low s v k [] t low = low_nil
 pending_low s v k (x ∷ xs) t low =
@@ -109,7 +109,7 @@ pending_low s v k (x ∷ xs) t low =
     rises Host v k t lt = t
     rises Para v k t lt = omega arith
 
--- those that stay for good lie below the bound that was known
+-- those that are confirmed lie below the bound that was known
 firm_bound : (s : Side) (v k : Known) (trusted : List Event) → GoesOn (one_side s) v k → AllBelow v.trust trusted → AllBelow (own_bound s v) (firm k trusted)
 firm_bound Host v k trusted on low = lower (firm k trusted) (firm_low k trusted) (omega arith)
 firm_bound Para v k trusted on low = lower (firm k trusted) (go trusted low) (omega arith)
@@ -180,7 +180,7 @@ pass_found {s} new {v} {w} is f local =
           (found_runs s _ k v.mine v.trusted _ _ new on local is.not_both is.runs);
     }
 
--- what becomes of events on trust
+-- what happens to speculative events
 firm_past : (k : Known) (xs : List Event) → k.trust ≤ k.host → (firm k xs ≡ below k.trust xs) × (pending_events k xs ≡ [])
 firm_past k [] le = (refl, refl)
 firm_past k (x ∷ xs) le = let e = le-true k.trust k.host le in (ap (λ b. cond b (below k.trust (x ∷ xs)) []) e, ap (λ b. cond b [] (x ∷ xs)) e)
@@ -248,7 +248,7 @@ learned {id} {id'} {s} {v} {w} view is cell f =
     subst (λ q. Learns q (carried_of id' s w)) view (learns_of rest is.trusted on (omega arith)
     (λ some. sym (on.3 (runs_admit s (own_bound s v.known) _ _ v.mine _ v.ahead _ _ is.runs some))))
 
--- ---- the tick at which the trust is cut
+-- ---- the tick at which the speculative horizon is cut
 
 pub cut_kept : (s : Side) (cut : ℕ) (v w : View) → CutIs s cut v → v.ahead ≡ [] → w.ahead ≡ [] → CutIs s cut w
 cut_kept s cut v w is h none' a lt = grind (arith, nat_tests)

@@ -1,4 +1,5 @@
--- An observation leaves the chip, and chips that show the parasite the same answer its observations alike.
+-- An observation leaves the chip, and chips that show the parasite the same answer its observations
+-- alike.
 use Rattle.std.proofs.Common.{◌≡◌, ℕ, ◌≤◌, nat_eq, Bool, true, false, true≢false, ◌&&◌, cond, min, refl, sym, ap, ◌∙◌, arith}
 use mathlib.Core.Bool.{beq}
 use Rattle.std.proofs.lemmas.Bool.Decides.{nat_tests}
@@ -77,12 +78,12 @@ readings_same c =
     let s : (k : ℕ) → nat_eq (status Para k c) (status Para k c) ≡ true = λ k. nat_same (status Para k c) in
     λ i. lines_same (lines_of c) i && s 1 i && s 2 i && s 3 i && s 4 i
 
--- where the chip stays, so does the trust
+-- if the chip stays, so does the speculative horizon
 pub trust_stays : (s : Side) {c d : State} (t a : ℕ) → d ≡ c → trust_next s c d t a ≡ a
 trust_stays Host {c} t a same = ap (λ x. trust_next Host c x t a) same ∙ ap (λ b. cond b a (min a t)) (readings_same c)
 trust_stays Para t a same = refl
 
--- where the trust lies no later than the tick, it stays too
+-- if the speculative horizon is at or below the tick, it stays too
 pub early_stays : (c d : State) (t a : ℕ) → a ≤ t → trust_next Host c d t a ≡ a
 early_stays c d t a le = go (same_readings c d)
   where

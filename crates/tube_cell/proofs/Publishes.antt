@@ -1,4 +1,4 @@
--- What publish, and publish_and_entrust, owe and tell.
+-- What publish, and publish_and_speculate, require and ensure.
 use Rattle.std.proofs.Common.{◌≡◌, ℕ, ◌<◌, ◌≤◌, ◌^◌, min, if◌then◌else◌, List, [], ◌++◌, refl, sym, ap, ◌∙◌, subst, arith, nat_eq, append-nil}
 use lib.Pointwise.{pointwise}
 use Rattle.std.proofs.lemmas.List.Elements.{All-append}
@@ -71,7 +71,7 @@ pub publish_trust : (s : Side) (v : View) {known : ℕ} (cut : ℕ) {trust : ℕ
     → trust ≡ trust_after s v.known.chip v.known.trust v.ahead
 publish_trust s v cut cuts known_is small is = is ∙ ap (λ n. min n cut) known_is ∙ sym (cuts v.known.trust (omega arith))
 
--- ---- publish_and_entrust
+-- ---- publish_and_speculate
 
 pub both_as : PackingIsOneToOne → (pass : ℕ) {v : View} {es seen : List Event} {last : State} {word trust : ℕ} {next : Known} {old new : List ℕ}
     → MayPublishAndEntrust es last word seen trust v → IsChip last → next ≡ known_with Para last word (word_of_other Para v.known) trust → old ≡ words_of v.known → new ≡ words_of next

@@ -1,4 +1,4 @@
--- What raise, commit, entrust and look owe and tell, over plain variables.
+-- What raise, commit, speculate and look require and ensure, over plain variables.
 use Rattle.std.proofs.Common.{◌≡◌, ℕ, ◌+◌, ◌<◌, ◌≤◌, Bool, true, MatchBool, if◌then◌else◌, List, [], ◌∷◌, ◌++◌, refl, sym, ap, ◌∙◌, subst, arith, nat_eq, append-nil}
 use lib.Pointwise.{pointwise}
 use Rattle.std.proofs.lemmas.List.Elements.{All-append}
@@ -72,12 +72,12 @@ module _ {id : TableId} {s : Side} {words : List ℕ} {here : State} {p : Carrie
       → MayPublish s (access_at t s op v.known.chip ∷ []) next (t + 1) v
   may_commit t op trusted later admitted next_is = grind arith
 
-  -- the trust of a commit, as the code has it of its local chip
+  -- the speculative horizon of a commit, as the code has it of its local chip
   pub commit_trust : {next : State} (t : ℕ) {trust known : ℕ} (op : Op) → next ≡ chip_after here s op → known ≡ v.known.trust → trust ≡ trust_next s here next t known
       → trust ≡ trust_next s v.known.chip (chip_after v.known.chip s op) t v.known.trust
   commit_trust t op next_is known_is trust_is = grind arith
 
-  -- and where it had none unpublished
+  -- and if it had none unpublished
   pub pass_raised : {next : List ℕ} {new : State} {w : View} (cut end trust : ℕ) (es : List Event) → CutIs s cut v → p.trusted ≡ [] → IsChip new
       → w ≡ published_view v es (known_with s new end (word_of_other s v.known) trust) → next ≡ words_of (known_with s new end (word_of_other s v.known) trust) → IsPassOf s next new w × CutIs s cut w
   pass_raised {w = w} cut end trust es cuts trusted well w_is next_is = (
@@ -134,7 +134,7 @@ module _ {id : TableId} {s : Side} {words : List ℕ} {here : State} {p : Carrie
       }) in
       subst (λ q. Learns (after_look q t lines) (carried_of id' s w)) view (learns_of rest is.trusted on (omega arith) (λ some. absurd (some bare)))
 
--- ---- entrust
+-- ---- speculate
 
 pub pass_entrusted : {s : Side} {words next : List ℕ} {here : State} {t : ℕ} {es : List Event} {v w : View} → IsPassOf s words here v → v.ahead ≡ [] → MayEntrust es t v
     → w ≡ entrusted_view v es (trusting v.known t) → next ≡ words_of (trusting v.known t) → IsPassOf s next here w

@@ -11,8 +11,9 @@ use Rattle.tube_chip.specs.Events.{Event, after_from}
 use Rattle.tube_cell.specs.Views.{Known, new_known, View, one_side, word_of, word_of_other, own_bound, known_with, bound_at, has_access, horizon, below, trust_next, trust_after}
 use Rattle.tube_cell.specs.Rules.{rise, firm, pending_events, Trusts}
 
--- A pass of one side: its cell and its side; its events that are on the list, those that are there on trust, and those that are not published yet; the
--- words that it knows; how often it published an access, and how often the known bound of the other rose.
+-- A side's pass: its cell and side; its confirmed events, its speculative events and its
+-- unpublished events; the words that it knows; the number of its exchanges that published an
+-- access; and the number of rises of the other's known bound.
 pub record Carried : Type 0 where
   pub cell : TableId
   pub side : Side
@@ -26,16 +27,17 @@ pub record Carried : Type 0 where
 abbrev pub carried_of : TableId → Side → View → Carried
 carried_of id s v = record { cell = id; side = s; events = v.mine; trusted = v.trusted; ahead = v.ahead; known = v.known; commits = v.commits; higher = v.higher }
 
--- the pass of a side once the whole is split
+-- a side's pass after the split
 abbrev pub starts : TableId → Side → Carried
 starts id s = record { cell = id; side = s; events = []; trusted = []; ahead = []; known = new_known; commits = 0; higher = 0 }
 
--- its own horizon: no earlier than its bound, and after its last event
+-- its own horizon: at or above its bound, and after its last event
 abbrev pub own_horizon : Carried → ℕ
 own_horizon p = horizon (own_bound p.side p.known) (p.events ++ p.ahead)
 
--- The words that were found are known. Of events on trust, those that stay for good join the list. Nothing else changed. The own word is as it was, and the other's
--- has not fallen; where there is nothing on trust, and the trust is no later than the host's word, it stands.
+-- The words found are known, and speculative events that they confirm join the list. Nothing more
+-- changed. The own word is unchanged, and the other's has not fallen. In the parasite's pass, a
+-- speculative horizon at or below the host's word is unchanged.
 pub record Learns (p q : Carried) : Type 0 where
   pub rest : q ≡ record p {
     events = p.events ++ firm q.known p.trusted;
@@ -43,22 +45,22 @@ pub record Learns (p q : Carried) : Type 0 where
     known = q.known;
     higher = p.higher + rise (one_side p.side) p.known q.known;
   }
-  -- taken back, and so what lies below the trust stays for good
+  -- the speculative horizon fell: what lies below it is confirmed, and the rest is dropped
   pub taken : q.known.trust < p.known.trust → (q.events ≡ p.events ++ below q.known.trust p.trusted) × (q.trusted ≡ [])
-  -- it stands, and the host has passed it: all stay for good
+  -- it is unchanged and the host has reached it: all is confirmed
   pub settled : q.known.trust ≡ p.known.trust → q.known.trust ≤ q.known.host → (q.events ≡ p.events ++ p.trusted) × (q.trusted ≡ [])
-  -- the host has not passed it
+  -- the host has not reached it: all stay speculative
   pub stays : q.known.host < q.known.trust → (q.events ≡ p.events) × (q.trusted ≡ p.trusted)
-  -- where nothing is on trust, no event joined the list
+  -- if nothing is speculative, no event joined the list
   pub plain : p.trusted ≡ [] → q ≡ record p { known = q.known; higher = p.higher + rise (one_side p.side) p.known q.known }
   pub own_word : word_of p.side q.known ≡ word_of p.side p.known
   pub other_word : word_of_other p.side p.known ≤ word_of_other p.side q.known
   pub trust : Trusts p.side p.known q.known
   pub horizon : own_horizon q ≤ own_horizon p
-  -- where there are unpublished events, the word of the other and the trust alone differ
+  -- if there are unpublished events, only the other's word and the speculative horizon may differ
   pub same_chip : p.ahead ≢ [] → q.known.chip ≡ p.known.chip
 
--- the own word is t, and nothing else changed
+-- the own word is t, and nothing more changed
 abbrev pub after_raise : Carried → ℕ → Carried
 after_raise p t = record p { known = known_with p.side p.known.chip t (word_of_other p.side p.known) p.known.trust }
 
@@ -68,8 +70,8 @@ access_at t s op c = record { tick = t; side = s; query = access op; answer = By
 abbrev pub lines_at : ℕ → Side → Lines → Event
 lines_at t s lines = record { tick = t; side = s; query = look; answer = Seen lines }
 
--- The access joined the list, the chip is the one after it, and the own word is one more than its tick. Where the host's access changed the parasite's readings, it
--- took the trust back to its tick.
+-- The access joined the list, the chip is the one after it, and the own word is its tick plus 1. If
+-- the host's access changed what the parasite observes, the speculative horizon fell to its tick.
 abbrev pub after_commit : Carried → ℕ → Op → Carried
 after_commit p t op = record p {
   events = p.events ++ access_at t p.side op p.known.chip ∷ [];
@@ -82,7 +84,8 @@ after_commit p t op = record p {
 abbrev pub after_look : Carried → ℕ → Lines → Carried
 after_look p t lines = record p { events = p.events ++ lines_at t p.side lines ∷ [] }
 
--- the local chip, and the trust and the other's bound there: the known ones with the unpublished events done
+-- the local chip, the speculative horizon and the other's bound: the known ones after the
+-- unpublished events
 abbrev pub here : Carried → State
 here p = after_from p.known.chip p.ahead
 
@@ -92,11 +95,12 @@ trust_here p = trust_after p.side p.known.chip p.known.trust p.ahead
 abbrev pub bound_here : Carried → ℕ
 bound_here p = bound_at p.side (word_of_other p.side p.known) (trust_here p)
 
--- the events are done, and not published yet
+-- the events are done but not published
 abbrev pub after_add : Carried → List Event → Carried
 after_add p events = record p { ahead = p.ahead ++ events }
 
--- the unpublished events joined the list, and the cell has the chip after them, this own word, and the trust as they leave it
+-- the unpublished events joined the list; the cell has the chip after them, own word `h` and the
+-- speculative horizon after them
 abbrev pub after_publish : Carried → ℕ → Carried
 after_publish p h = record p {
   events = p.events ++ p.ahead;
@@ -105,6 +109,6 @@ after_publish p h = record p {
   commits = p.commits + (if has_access p.ahead then 1 else 0);
 }
 
--- the events are on the list on trust, and the trust is t
+-- the events are on the list speculatively, and the speculative horizon is t
 abbrev pub after_entrust : Carried → List Event → ℕ → Carried
 after_entrust p events t = record p { trusted = p.trusted ++ events; known = record p.known { trust = t } }

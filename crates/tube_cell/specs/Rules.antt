@@ -1,4 +1,4 @@
--- The rule of the cell, and what each step tells.
+-- The rule of the cell, and what each step does to a view.
 use Rattle.std.specs.Prelude.{◌≡◌, ◌≢◌, ◌⊎◌, ℕ, ◌+◌, ◌<◌, ◌≤◌, max, nat_lt, nat_le, List, [], ◌∷◌, ◌++◌, true, false, if◌then◌else◌, MatchBool}
 use Rattle.std.specs.List.{All}
 use mathlib.Core.Option.{some}
@@ -13,20 +13,22 @@ use Rattle.tube_chip.specs.Packing.{IsChip}
 use Rattle.tube_cell.specs.Views.{Known, words_of, new_known, Role, undivided, one_side, rejoined, used, View, word_of, word_of_other, own_bound}
 use Rattle.tube_cell.specs.Views.{other_bound, Admits, admits, below, is_access, is_observation, has_access}
 
--- each event is at this tick or later, and at a later tick than the one before it
+-- each event is at tick `from` or later, and after the event before it
 abbrev pub Climbs : ℕ → List Event → Type 0
 Climbs from [] = Unit {0}
 Climbs from (e ∷ events) = (from ≤ e.tick) × Climbs (e.tick + 1) events
 
--- The host's list: its accesses lie below the host's word, and each event at most at the parasite's bound.
+-- The host's list: its accesses lie below the host's word, and no event lies above the parasite's
+-- bound.
 pub record HostFine (k : Known) (events : List Event) : Type 0 where
   pub sided : All (λ e. e.side ≡ Host) events
   pub below_own : All (λ e. is_access e.query ≡ true → e.tick < k.host) events
   pub admitted : All (λ e. e.tick ≤ own_bound Para k) events
   pub climbs : Climbs 0 events
 
--- The parasite's list: its accesses lie below its bound, and below the host's word or the trust. Those that are no observations lie below both words. Its looks may
--- lie anywhere.
+-- The parasite's list: its accesses lie below its bound, and below the host's word or the
+-- speculative horizon. Accesses that change the chip lie below both words. Looks may lie at any
+-- tick.
 pub record ParaFine (k : Known) (events : List Event) : Type 0 where
   pub sided : All (λ e. e.side ≡ Para) events
   pub below_own : All (λ e. is_access e.query ≡ true → e.tick < own_bound Para k) events
@@ -34,21 +36,23 @@ pub record ParaFine (k : Known) (events : List Event) : Type 0 where
   pub changes : All (λ e. is_observation e.query ≡ false → (e.tick < k.para) × (e.tick < k.host)) events
   pub climbs : Climbs 0 events
 
--- The chip is the one after the merge of both lists, the merge is legal, and each list is in its bounds.
+-- The chip is the one after the merge of both lists, the merge is legal, and both lists keep their
+-- bounds.
 pub record Good (k : Known) (host para : List Event) : Type 0 where
   pub chip_is : k.chip ≡ after (merge host para)
   pub legal : IsLegal (merge host para)
   pub host_fine : HostFine k host
   pub para_fine : ParaFine k para
 
--- What a side knew of the trust, and what it is. For the host it has not fallen. For the parasite it stands, or the host took it back: to a tick that the host
--- had not passed as far as the parasite knew, and has passed now.
+-- How the speculative horizon may differ from what a side knows. For the host it may have risen.
+-- For the parasite it is unchanged, or the host lowered it: to a tick at or above the host's word
+-- that the parasite knows, and below the host's word now.
 abbrev pub Trusts : Side → Known → Known → Type 0
 Trusts Host known k = known.trust ≤ k.trust
 Trusts Para known k = (k.trust ≡ known.trust) ⊎ ((known.host ≤ k.trust) × (k.trust < known.trust) × (k.trust < k.host))
 
--- A pass of this side knows its own word as it is, and the other's as at most what it is. Where the bound of the other that it knows admits its own,
--- it knows the chip as it is.
+-- A pass of side `s` knows its own word exactly, and a lower bound of the other's. If the other's
+-- bound that it knows admits its own, it knows the chip exactly.
 pub record Knows (s : Side) (k known : Known) : Type 0 where
   pub well : IsChip known.chip
   pub own_word : word_of s known ≡ word_of s k
@@ -57,8 +61,10 @@ pub record Knows (s : Side) (k known : Known) : Type 0 where
   pub same_chip : Admits s (other_bound s known) (own_bound s known) → known.chip ≡ k.chip
 
 module _ (k : Known) (host para : List Event) (host_seat para_seat : ℕ) where
-  -- What holds of a pass with this number and this view, by its role. Of the parasite's list what is there on trust lies below the trust, and all else
-  -- below the host's word. The host lowers the trust only to ticks from its word on, so it takes back no other.
+  -- What a pass with number `j` and view `v` fulfils, by its role. The parasite's list is the
+  -- pass's confirmed events, all below the host's word, and then its speculative events below the
+  -- speculative horizon. The host lowers that horizon only to ticks from its own word on, so it
+  -- drops no confirmed event.
   abbrev pub FitsAs : Role → ℕ → View → Type 0
   FitsAs undivided j v = (j ≡ host_seat) × (j ≡ para_seat) × (v.mine ≡ host) × (v.theirs ≡ para) × (v.trusted ≡ []) × All (λ e. e.tick < k.host) para × (v.known ≡ k)
   FitsAs (one_side Host) j v = (j ≡ host_seat) × (v.mine ≡ host) × (v.trusted ≡ []) × Knows Host k v.known
@@ -66,7 +72,7 @@ module _ (k : Known) (host para : List Event) (host_seat para_seat : ℕ) where
   FitsAs rejoined j v = (j ≡ host_seat) × (j ≡ para_seat) × (v.mine ≡ host) × (v.theirs ≡ para)
   FitsAs used j v = Unit {0}
 
--- The rule: there are a host's list and a parasite's list for which the words stand, and each pass fits them.
+-- The rule: the words represent a host's list and a parasite's list, and each pass fits both lists.
 pub record Kept (words : List ℕ) (views : List View) : Type 0 where
   pub known : Known
   pub host : List Event
@@ -95,25 +101,29 @@ para_part v = record v { role = one_side Para; mine = v.theirs }
 abbrev pub joined_view : View → View → View
 joined_view v w = record v { role = rejoined; theirs = w.mine }
 
--- ---- What a step tells
+-- ---- What a step does
 
--- Of one side's pass, the own word stays, the other's does not fall, and the trust is as it may be. Where the known bound admits the own, the chip stays too.
+-- From the words `k` that one side's pass knows to words `k'` found later: the own word stays, the
+-- other's does not fall, and the speculative horizon obeys `SpecHorizons`. If the known bound
+-- admits the own, the chip stays too.
 abbrev pub GoesOn : Role → Known → Known → Type 0
 GoesOn (one_side s) k k' =
     (word_of s k' ≡ word_of s k) × (word_of_other s k ≤ word_of_other s k') × Trusts s k k' × (Admits s (other_bound s k) (own_bound s k) → k.chip ≡ k'.chip)
 GoesOn r k k' = Unit {0}
 
--- 1 where the known bound of the other rises
+-- 1 if the known bound of the other rises
 abbrev pub rise : Role → Known → Known → ℕ
 rise (one_side s) k k' = if nat_lt (other_bound s k) (other_bound s k') then 1 else 0
 rise r k k' = 0
 
--- Of events on trust, those that stay for good by these words: the ones below the trust, where the host has passed it.
+-- The speculative events that these words confirm: if the host has reached the speculative horizon,
+-- those below it.
 abbrev pub firm : Known → List Event → List Event
 firm k [] = []
 firm k (e ∷ events) = if nat_le k.trust k.host then below k.trust (e ∷ events) else []
 
--- those that stay on trust: all, where the host has not passed it
+-- the speculative events that stay unconfirmed: all, if the host has not reached the speculative
+-- horizon
 abbrev pub pending_events : Known → List Event → List Event
 pending_events k [] = []
 pending_events k (e ∷ events) = if nat_le k.trust k.host then [] else e ∷ events
@@ -138,36 +148,40 @@ pub record Found (words : List ℕ) (v w : View) : Type 0 where
 abbrev pub Finds : View → List ℕ → List ℕ → View → Type 0
 Finds v x y w = Found x v w
 
--- an exchange: where the words were those known, the view is the next one; else it failed
+-- an exchange: if the words were those known, the view is `next v`; otherwise it failed
 pub record Exchanged (next : View → View) (v : View) (x y : List ℕ) (w : View) : Type 0 where
   pub hit : x ≡ words_of v.known → w ≡ next v
   pub missed : x ≢ words_of v.known → Finds v x y w
 
--- the view once these events and words are published
+-- the view after these events and words are published
 abbrev pub published_view : View → List Event → Known → View
 published_view v events next = record v { mine = v.mine ++ events; ahead = []; known = next; commits = v.commits + (if has_access events then 1 else 0) }
 
--- raise, and commit: where the words were those known, the events join the list and the words are the next; else it is a failed exchange
+-- raise, commit and publish: if the words were those known, the events join the list and the words
+-- become `next`; otherwise a failed exchange
 abbrev pub Publishes : List Event → Known → View → List ℕ → List ℕ → View → Type 0
 Publishes events next = Exchanged (λ v. published_view v events next)
 
--- the view once these events are on the list on trust, and these words in the cell
+-- the view after these events join the list speculatively, with these words in the cell
 abbrev pub entrusted_view : View → List Event → Known → View
 entrusted_view v events next = record v { trusted = v.trusted ++ events; known = next }
 
--- entrust: where the words were those known, the events join the list on trust; else it is a failed exchange
+-- speculate: if the words were those known, the events join the list speculatively; otherwise a
+-- failed exchange
 abbrev pub Entrusts : List Event → Known → View → List ℕ → List ℕ → View → Type 0
 Entrusts events next = Exchanged (λ v. entrusted_view v events next)
 
--- the view once some events are published, others on the list on trust, and these words in the cell
+-- the view after some events are published and others join the list speculatively, with these words
+-- in the cell
 abbrev pub told_view : View → List Event → List Event → Known → View
 told_view v events trusted next = entrusted_view (published_view v events next) trusted next
 
--- publish_and_entrust: where the words were those known, some events join the list, and others do on trust; else it is a failed exchange
+-- publish_and_speculate: if the words were those known, some events join the list and others join
+-- it speculatively; otherwise a failed exchange
 abbrev pub PublishesAndEntrusts : List Event → List Event → Known → View → List ℕ → List ℕ → View → Type 0
 PublishesAndEntrusts events trusted next = Exchanged (λ v. told_view v events trusted next)
 
--- the view once these events are done, and not published yet
+-- the view after these events are done but not published
 abbrev pub added_view : View → List Event → View
 added_view v events = record v { ahead = v.ahead ++ events }
 
@@ -178,7 +192,7 @@ look_at t s c = record { tick = t; side = s; query = look; answer = Seen (lines_
 abbrev pub looked_view : View → ℕ → Side → Known → View
 looked_view v t s k = record (found_view v k) { mine = v.mine ++ look_at t s k.chip ∷ [] }
 
--- look: where the words found admit the tick, a look at it joins the list; else it is a learn
+-- look: if the words found admit the tick, a look at it joins the list; otherwise a learn
 abbrev pub LooksAs : ℕ → Role → View → List ℕ → View → Type 0
 LooksAs t (one_side s) v x w =
     IsChip w.known.chip × (x ≡ words_of w.known) × GoesOn (one_side s) v.known w.known
@@ -188,7 +202,7 @@ LooksAs t r v x w = Unit {0}
 abbrev pub Looks : ℕ → View → List ℕ → List ℕ → View → Type 0
 Looks t v x y w = LooksAs t v.role v x w
 
--- the words at the end of a join: the chip is the one after the two lists, whose merge is legal
+-- the words at the end of a join: the chip is the one after the legal merge of both lists
 pub record Ended (v : View) (words : List ℕ) : Type 0 where
   pub known : Known
   pub well : IsChip known.chip
@@ -196,6 +210,6 @@ pub record Ended (v : View) (words : List ℕ) : Type 0 where
   pub chip_is : known.chip ≡ after (merge v.mine v.theirs)
   pub legal : IsLegal (merge v.mine v.theirs)
 
--- the learn that ends a join
+-- the load that ends a join
 abbrev pub Ends : View → List ℕ → List ℕ → View → Type 0
 Ends v x y w = Ended v x

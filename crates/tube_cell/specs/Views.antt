@@ -1,4 +1,4 @@
--- The words of the cell, and what a pass knows of them and of the events so far.
+-- What the cell's words represent, and what each pass knows of them and of past events.
 use Rattle.std.specs.Prelude.{ℕ, ◌≡◌, ◌+◌, ◌<◌, ◌≤◌, min, max, nat_le, nat_lt, List, [], ◌∷◌, ◌++◌, Bool, true, false, ◌||◌, ◌&&◌, ◌==◌, if◌then◌else◌}
 use Rattle.std.specs.List.{All}
 use mathlib.Core.Bool.{beq}
@@ -12,12 +12,13 @@ use Rattle.tube_chip.specs.Events.{Event}
 use Rattle.tube_chip.specs.Packing.{packed_words}
 use Rattle.tube_cell.specs.declared.local.Readings.{Readings}
 
--- What the nine words stand for: the chip, each side's horizon, and the parasite's trust.
+-- What the nine words represent: the chip, each side's horizon and the parasite's speculative
+-- horizon.
 pub record Known : Type 0 where
   pub chip : State
   pub host : ℕ
   pub para : ℕ
-  -- what the parasite has put onto its list on trust lies below it
+  -- the parasite's speculative events lie below it
   pub trust : ℕ
 
 -- the six words of the chip, the horizons, and the trust
@@ -28,7 +29,8 @@ words_of k = packed_words k.chip ++ k.host ∷ k.para ∷ k.trust ∷ []
 abbrev pub new_known : Known
 new_known = record { chip = power_on; host = 0; para = 0; trust = 0 }
 
--- A pass is the whole before it is split, then one side's; at the end the host's takes both lists, and the parasite's is used up.
+-- A pass is the whole before the split, and one side's after it. After the join the host's has both
+-- lists, and the parasite's is used up.
 pub data Role : Type 0 where
   undivided : Role
   one_side : Side → Role
@@ -38,18 +40,19 @@ pub data Role : Type 0 where
 -- What the rule of the cell sees of a pass.
 pub record View : Type 0 where
   pub role : Role
-  -- its list of events, and of the whole the parasite's
+  -- its list of events; `theirs` is the parasite's list, of the whole only
   pub mine : List Event
   pub theirs : List Event
-  -- observations of the parasite that are on its list on trust: those of them at the trust that stands or later were taken back
+  -- the parasite's speculative observations: the host keeps those below the speculative horizon
+  -- found later
   pub trusted : List Event
-  -- events that are not published yet
+  -- events not yet published
   pub ahead : List Event
   -- the words as it last found or left them
   pub known : Known
-  -- how often an access of its was published
+  -- the number of its exchanges that published an access
   pub commits : ℕ
-  -- how often the bound of the other, as it knows it, rose
+  -- the number of rises of the other's bound, as it knows it
   pub higher : ℕ
 
 abbrev pub flip : Side → Side
@@ -65,12 +68,13 @@ abbrev pub word_of_other : Side → Known → ℕ
 word_of_other Host k = k.para
 word_of_other Para k = k.host
 
--- A side's bound: none of its events that is not on its list yet lies below it. It is the side's word, and the parasite's trust bounds it too.
+-- A side's bound is its word; for the parasite, the larger of its word and the speculative horizon.
+-- Each event that joins the side's list later is at the bound or after it.
 abbrev pub own_bound : Side → Known → ℕ
 own_bound Host k = k.host
 own_bound Para k = max k.para k.trust
 
--- the bound of the other side, at this word of it and this trust
+-- the other side's bound, with `theirs` as its word and this speculative horizon
 abbrev pub bound_at : Side → ℕ → ℕ → ℕ
 bound_at Host theirs trust = max theirs trust
 bound_at Para theirs trust = theirs
@@ -78,17 +82,17 @@ bound_at Para theirs trust = theirs
 abbrev pub other_bound : Side → Known → ℕ
 other_bound s k = bound_at s (word_of_other s k) k.trust
 
--- of the host's and the parasite's, a side's own comes first
+-- of the host's and the parasite's value, the side's own
 abbrev pub pick : {X : Type 0} → Side → X → X → X
 pick Host x y = x
 pick Para x y = y
 
--- the words with this chip, this own word, this one of the other and this trust
+-- the words with this chip, own word, other's word and speculative horizon
 abbrev pub known_with : Side → State → ℕ → ℕ → ℕ → Known
 known_with Host c mine theirs trust = record { chip = c; host = mine; para = theirs; trust = trust }
 known_with Para c mine theirs trust = record { chip = c; host = theirs; para = mine; trust = trust }
 
--- A bound of the other admits the host at its tick and below, and the parasite below it.
+-- The other's bound admits the host at ticks up to and including it, and the parasite below it.
 abbrev pub slack : Side → ℕ
 slack Host = 0
 slack Para = 1
@@ -109,12 +113,12 @@ past_last (e ∷ f ∷ events) = past_last (f ∷ events)
 abbrev pub horizon : ℕ → List Event → ℕ
 horizon bound events = max bound (past_last events)
 
--- the events before the first one at this tick or later
+-- the events before the first one at tick `t` or later
 abbrev pub below : ℕ → List Event → List Event
 below t [] = []
 below t (e ∷ events) = if nat_lt e.tick t then e ∷ below t events else []
 
--- all at ticks below this one
+-- all events at ticks below `t`
 abbrev pub AllBelow : ℕ → List Event → Type 0
 AllBelow t events = All (λ e. e.tick < t) events
 
@@ -122,7 +126,7 @@ abbrev pub is_access : Query → Bool
 is_access (access op) = true
 is_access look = false
 
--- An observation leaves the chip: it is a look, or a read of a status register.
+-- An observation does not change the chip: it is a look or a read of a status register.
 abbrev pub is_observation : Query → Bool
 is_observation (access (Read number)) = is_status number
 is_observation (access (Write number byte)) = false
@@ -141,7 +145,7 @@ chip_after_event c e = (act c e.side e.query).0
 abbrev pub Answers : State → Event → Type 0
 Answers c e = (act c e.side e.query).1 ≡ e.answer
 
--- What a side's observations show of a chip: the lines, and its status registers.
+-- What a side can observe of a chip: the lines and its status registers.
 abbrev pub shown_to : Side → State → Readings
 shown_to s c = record {
   lines = lines_of c;
@@ -155,23 +159,23 @@ readings_of c = shown_to Para c
 abbrev pub same_lines : Lines → Lines → Bool
 same_lines a b = beq a.prst b.prst && (a.resets == b.resets) && (a.nmis == b.nmis) && beq a.pirq b.pirq && beq a.hirq b.hirq
 
--- both chips show the parasite the same
+-- both chips show the parasite the same readings
 abbrev pub same_readings : State → State → Bool
 same_readings c d =
     same_lines (lines_of c) (lines_of d)
     && (status Para 1 c == status Para 1 d) && (status Para 2 c == status Para 2 d) && (status Para 3 c == status Para 3 d) && (status Para 4 c == status Para 4 d)
 
--- The trust after an event of this side at this tick, by which one chip becomes another: where the host changes what the parasite's observations show, it takes
--- the trust back to its tick.
+-- The speculative horizon after an event of a side at tick `t` that turns chip `old` into `new`. If
+-- the host changes what the parasite observes, the horizon falls to `t`.
 abbrev pub trust_next : Side → State → State → ℕ → ℕ → ℕ
 trust_next Host old new t trust = if same_readings old new then trust else min trust t
 trust_next Para old new t trust = trust
 
--- the trust after an event, from chip c on
+-- the speculative horizon after event `e` at chip c
 abbrev pub trust_past : Side → State → Event → ℕ → ℕ
 trust_past s c e trust = trust_next s c (chip_after_event c e) e.tick trust
 
--- the trust after these events of a side, from chip c on
+-- the speculative horizon after a side's events, from chip c on
 abbrev pub trust_after : Side → State → ℕ → List Event → ℕ
 trust_after s c trust [] = trust
 trust_after s c trust (e ∷ events) = trust_after s (chip_after_event c e) (trust_past s c e trust) events

@@ -1,23 +1,24 @@
-//! What a side waits by until the other lets it on.
+//! Lets a side sleep until the other side's exchange may admit its step.
 use beeb_bits::Tick;
 use crossbeam_utils::CachePadded;
 use std::sync::Wait;
 use std::sync::atomic::AtomicU64;
 use std::sync::atomic::Ordering::SeqCst;
 
-/// The bell of one side. A side that waits hangs it, tries its step once more, and then looks at the bell alone, which lies in no cache line of the cell.
-/// Each exchange of the other side that may let it go on rings it. Nothing is claimed of it: a side that is let on too early tries its step, and waits
-/// again.
+/// The waker of one side. A side that must wait arms it, tries its step once more, and then polls
+/// only the waker, which shares no cache line with the cell. Each exchange of the other side that
+/// may admit the step signals it. Nothing is proved of it: a side that is woken too early tries its
+/// step and waits again.
 #[derive(Drop)]
 pub struct Bell {
-    // While the bell hangs, two more than twice the tick of the step that waits, and one more where the side sleeps; `RUNG` from when it is rung until the side
-    // takes it down; and else 0.
+    // 0: idle. `2t + 2`: awake, waiting for tick t. `2t + 3`: parked. `RUNG`: signalled, until
+    // disarmed.
     state: CachePadded<AtomicU64>,
 }
 
 const RUNG: u64 = u64::MAX;
 
-// The state of a bell that hangs for a step at this tick, of a side that is awake; with `ASLEEP` of one that sleeps.
+// The state of a waker armed for a step at tick `t`, with the side awake; plus `ASLEEP` if parked.
 fn hung(t: u64) -> u64 {
     t.saturating_mul(2).saturating_add(2)
 }
@@ -31,22 +32,22 @@ impl Bell {
         }
     }
 
-    /// The side is to be told where its step at tick `t` may be done.
+    /// Arms the waker for the side's step at tick `t`.
     pub fn hang(&self, t: Tick) {
         self.state.store(hung(t.0), SeqCst);
     }
 
-    /// The side no longer waits.
+    /// Disarms the waker: the side no longer waits.
     pub fn take_down(&self) {
         self.state.store(0, SeqCst);
     }
 
-    /// Whether the bell was rung, and is not taken down yet.
+    /// Returns `true` if the waker was signalled and not disarmed since.
     pub fn is_rung(&self) -> bool {
         self.state.load(SeqCst) == RUNG
     }
 
-    /// Sleeps until the bell is rung, which hung when the step was tried last.
+    /// Parks until the waker is signalled. It must have been armed before the step was last tried.
     pub fn sleep<R: Wait>(&self, rt: &R) {
         for _ in rt.forever() {
             let state = self.state.load(SeqCst);
@@ -54,7 +55,7 @@ impl Bell {
                 return;
             }
             if state & ASLEEP == 0 {
-                // Where this comes to nothing the bell was rung.
+                // If the exchange fails, the waker was signalled.
                 let _ = self
                     .state
                     .compare_exchange(state, state | ASLEEP, SeqCst, SeqCst);
@@ -64,7 +65,7 @@ impl Bell {
         }
     }
 
-    /// The tick of the step that waits, where the bell hangs.
+    /// Returns the tick of the step that waits, if the waker is armed.
     pub(crate) fn tick(&self) -> Option<u64> {
         let state = self.state.load(SeqCst);
         if state == 0 || state == RUNG {
@@ -73,7 +74,7 @@ impl Bell {
         Some((state / 2).saturating_sub(1))
     }
 
-    /// Lets the side on, where its bell hangs for a step at tick `t`, and wakes it where it sleeps.
+    /// Signals the waker if it is armed for a step at tick `t`, and wakes the side if it is parked.
     pub(crate) fn ring(&self, t: u64) {
         let awake = hung(t);
         if self
@@ -83,7 +84,7 @@ impl Bell {
         {
             return;
         }
-        // It may have fallen asleep meanwhile.
+        // The side may have parked since.
         if self
             .state
             .compare_exchange(awake | ASLEEP, RUNG, SeqCst, SeqCst)

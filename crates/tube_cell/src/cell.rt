@@ -34,12 +34,17 @@ use tube_chip::{Chip, Lines, Op, packing_is_one_to_one};
 
 type Cell = RuledSeqCell<[u64; 9], PassView, CellRule, 9>;
 
-/// The Tube chip and the horizon of each side, in one cell that two threads share. Contracts see its name.
+/// The Tube chip and both sides' horizons, in one cell that two threads share. Contracts see its
+/// identity.
 ///
-/// A side's horizon h says that its later accesses and looks are at tick h or after. The host may act at a tick up to
-/// the parasite's horizon, and the parasite at a tick below the host's. The parasite may also put observations onto its
-/// list on trust: looks, and reads of its status registers. Its later events are at its trust or after, and the host
-/// may act up to there. Where the host changes what observations show, it takes back those from its tick on.
+/// A side's horizon h guarantees that its later accesses and looks are at tick h or after. The host
+/// may act at any tick up to and including the parasite's horizon, the parasite at any tick below
+/// the host's.
+///
+/// The parasite may also speculate: it puts observations (looks, and reads of its status registers)
+/// onto its list, up to its speculative horizon. Its later events are at that tick or after, so the
+/// host may act up to there. If the host changes what the parasite observes, the observations from
+/// the host's tick on are dropped.
 #[derive(Drop)]
 pub struct TubeCell {
     cell: Cell,
@@ -55,7 +60,7 @@ impl Model for TubeCell {
     ghost view = { λ s. s.cell.table.shared.table_id };
 }
 
-/// Both sides of a new cell, before they part. Contracts see the name of its cell.
+/// Both sides of a new cell, before it is split. Contracts see the cell's identity.
 #[derive(Drop)]
 pub struct Whole {
     seat: Seat<[u64; 9], PassView>,
@@ -74,16 +79,18 @@ impl Model for Whole {
     ghost invariant = { λ s. cell_view s.seat ≡ whole };
 }
 
-/// One side's pass to the cell. Contracts see its cell, its side, its list of events and the words that it knows.
+/// One side's pass to the cell. Contracts see its cell, its side, its events and the words that it
+/// knows.
 #[derive(Drop)]
 pub struct Pass {
     seat: Seat<[u64; 9], PassView>,
     side: Side,
-    // The words as they were last found or left.
+    // The words as last found or written.
     words: [u64; 9],
-    // The chip of these words, with the events that are not published yet done.
+    // The chip of these words after the unpublished events.
     local: Chip,
-    // The tick of the first of these that changed the parasite's readings, or `u64::MAX`: the trust is cut there.
+    // The tick of the first unpublished event that changes what the parasite observes, or
+    // `u64::MAX`: publishing lowers the speculative horizon to it.
     cut: u64,
 }
 
@@ -101,7 +108,7 @@ impl Model for Pass {
 }
 
 impl TubeCell {
-    /// A cell with the chip at power-on and both horizons 0, and both sides of it.
+    /// Makes a cell with the chip at power-on and both horizons 0, and both sides of it.
     pub fn make(alloc: Global) -> Result<(TubeCell, Whole), NoMemory>
         ensures { IfOk result (λ made. made.1 ≡ made.0) }
     {
@@ -114,7 +121,8 @@ impl TubeCell {
         Ok((both, Whole { seat }))
     }
 
-    /// The host's pass and the parasite's. Each has an empty list, and knows the chip at power-on and both horizons 0.
+    /// Returns the host's pass and the parasite's. Each has no events, and knows the chip at
+    /// power-on and both horizons 0.
     pub fn split<R: Wait>(&self, _rt: &R, whole: Whole) -> (Pass, Pass)
         requires { whole ≡ self.now }
         ensures host { result.0 ≡ starts self.entry.now Host }
@@ -141,7 +149,7 @@ impl TubeCell {
         )
     }
 
-    /// The bell by which a side waits.
+    /// Returns a side's waker.
     #[inline(always)]
     pub fn bell(&self, side: Side) -> &Bell {
         match side {
@@ -150,8 +158,8 @@ impl TubeCell {
         }
     }
 
-    // Rings the other side's bell, where that hangs and the side may go on behind an exchange of these words for the next: they admit its step, or cut the
-    // trust, which it may wait for.
+    // Wakes the other side if it waits and `next` admits its step or changes the speculative
+    // horizon.
     #[inline(always)]
     fn ring(&self, side: Side, words: &[u64; 9], next: &[u64; 9]) {
         let other = match side {
@@ -167,7 +175,7 @@ impl TubeCell {
         }
     }
 
-    /// One load. The pass knows the words that were found.
+    /// Loads the words once; the pass then knows the words found.
     pub fn learn<R: Wait>(&self, rt: &R, pass: &mut Pass)
         requires { pass.old.cell ≡ self.now }
         ensures { Learns pass.old pass.new }
@@ -176,7 +184,7 @@ impl TubeCell {
         settle(&mut pass.words, &mut pass.local, found);
     }
 
-    /// The other side's horizon, as far as the pass knows it.
+    /// Returns the other side's horizon, as the pass knows it.
     pub fn other(&self, pass: &Pass) -> Tick
         requires { pass.now.cell ≡ self.now }
         ensures { result.0 ≡ word_of_other pass.now.side pass.now.known }
@@ -184,7 +192,8 @@ impl TubeCell {
         Tick(word_of(pass.side, &pass.words))
     }
 
-    /// The other side's bound, as far as the pass knows it and its unpublished events leave it: its horizon, and of the parasite its trust too.
+    /// Returns the other side's bound, as known, after the pass's unpublished events: its horizon;
+    /// for the parasite, the later of its two horizons.
     pub fn bound(&self, pass: &Pass) -> Tick
         requires { pass.now.cell ≡ self.now }
         ensures here { result.0 ≡ bound_here pass.now }
@@ -194,7 +203,7 @@ impl TubeCell {
         Tick(bound_of(pass.side, &pass.words, trust))
     }
 
-    /// The other side's bound, as far as the pass knows it and its unpublished events leave it, admits its side at t.
+    /// Returns `true` if the bound of `bound` admits the pass's side at `t`.
     pub fn admits(&self, pass: &Pass, t: Tick) -> bool
         requires { pass.now.cell ≡ self.now }
         ensures { result ≡ admits pass.now.side (bound_here pass.now) t.0 }
@@ -202,7 +211,7 @@ impl TubeCell {
         is_admitted(pass.side, self.bound(pass).0, t.0)
     }
 
-    /// The lines of the local chip: the known one with the unpublished events done.
+    /// Returns the lines of the local chip: the known chip after the unpublished events.
     pub fn lines(&self, pass: &Pass) -> Lines
         requires { pass.now.cell ≡ self.now }
         ensures { result ≡ lines_of (here pass.now) }
@@ -210,7 +219,7 @@ impl TubeCell {
         pass.local.lines()
     }
 
-    /// What the observations of the pass's side show of the local chip.
+    /// Returns what the pass's side can observe of the local chip.
     pub fn readings(&self, pass: &Pass) -> Readings
         requires { pass.now.cell ≡ self.now }
         ensures { result ≡ shown_to pass.now.side (here pass.now) }
@@ -218,7 +227,7 @@ impl TubeCell {
         readings_of(&pass.local, pass.side)
     }
 
-    /// The parasite's trust, as far as the pass knows it.
+    /// Returns the parasite's speculative horizon, as the pass knows it.
     pub fn trust(&self, pass: &Pass) -> Tick
         requires { pass.now.cell ≡ self.now }
         ensures { result.0 ≡ pass.now.known.trust }
@@ -226,7 +235,8 @@ impl TubeCell {
         Tick(trust_of(&pass.words))
     }
 
-    /// One exchange: the own horizon becomes t. False only where the words were not those that the pass last knew; it knows them then.
+    /// Sets the own horizon to `t`, by one exchange. Returns `false` only if the words differed
+    /// from those that the pass knew; it then knows the words found.
     pub fn raise<R: Wait>(&self, rt: &R, pass: &mut Pass, t: Tick) -> bool
         requires cell { pass.old.cell ≡ self.now }
         requires published { pass.old.ahead ≡ [] }
@@ -261,8 +271,9 @@ impl TubeCell {
         }
     }
 
-    /// One exchange: the access joins the pass's list with its answer, and the own horizon becomes t + 1. None only where the
-    /// words were not those that the pass last knew; it knows them then.
+    /// Does and publishes an access, by one exchange: it joins the pass's list with its answer, and
+    /// the own horizon becomes `t + 1`. Returns `None` only if the words differed from those that
+    /// the pass knew; it then knows the words found.
     pub fn commit<R: Wait>(&self, rt: &R, pass: &mut Pass, t: Tick, op: Op) -> Option<u8>
         requires cell { pass.old.cell ≡ self.now }
         requires published { pass.old.ahead ≡ [] }
@@ -301,8 +312,9 @@ impl TubeCell {
         }
     }
 
-    /// One load: the look joins the pass's list with the lines of the chip that was found. None exactly where the other side's
-    /// horizon that was found does not admit t. The pass knows the words that were found.
+    /// Adds a look to the pass's list, by one load, with the lines of the chip found. Returns
+    /// `None` exactly if the other side's bound that was found does not admit `t`. The pass then
+    /// knows the words found.
     pub fn look<R: Wait>(&self, rt: &R, pass: &mut Pass, t: Tick) -> Option<Lines>
         requires cell { pass.old.cell ≡ self.now }
         requires published { pass.old.ahead ≡ [] }
@@ -324,8 +336,10 @@ impl TubeCell {
         None
     }
 
-    /// One exchange of the parasite's pass: the machine's observations of the chip that it knows join its list on trust, and the trust
-    /// becomes t. They are named by the call's proof. False only where the words were not those that the pass last knew; it knows them then.
+    /// Speculates up to `t`, by one exchange of the parasite's pass: the machine's observations of
+    /// the known chip (`D`, supplied by the proof) join its list, and the speculative horizon
+    /// becomes `t`. Returns `false` only if the words differed from those that the pass knew; it
+    /// then knows the words found.
     pub fn entrust<D: Deeds, R: Wait>(&self, rt: &R, pass: &mut Pass, t: Tick) -> bool
         requires cell { pass.old.cell ≡ self.now }
         requires side { pass.old.side ≡ Para }
@@ -350,7 +364,7 @@ impl TubeCell {
         }
     }
 
-    /// Answers an access by the local chip. It is published later.
+    /// Answers an access by the local chip. The access stays unpublished.
     pub fn act<R: Wait>(&self, _rt: &R, pass: &mut Pass, t: Tick, op: Op) -> u8
         requires cell { pass.old.cell ≡ self.now }
         requires none_trusted { pass.old.trusted ≡ [] }
@@ -368,7 +382,7 @@ impl TubeCell {
         byte
     }
 
-    /// Answers a look by the local chip. It is published later.
+    /// Answers a look by the local chip. The look stays unpublished.
     pub fn see<R: Wait>(&self, _rt: &R, pass: &mut Pass, t: Tick) -> Lines
         requires cell { pass.old.cell ≡ self.now }
         requires none_trusted { pass.old.trusted ≡ [] }
@@ -382,7 +396,8 @@ impl TubeCell {
         pass.local.lines()
     }
 
-    /// Observations of the local chip that a machine made, all below `end`, join the unpublished events. They are named by the call's proof.
+    /// Adds a machine's observations of the local chip, all below `end`, to the unpublished events.
+    /// The proof supplies them, as `D`.
     pub fn see_all<D: Deeds, R: Wait>(&self, _rt: &R, pass: &mut Pass, _end: Tick)
         requires cell { pass.old.cell ≡ self.now }
         requires none_trusted { pass.old.trusted ≡ [] }
@@ -396,8 +411,10 @@ impl TubeCell {
         add::<Brand>(&self.cell, &mut pass.seat, pass.side, 0, None);
     }
 
-    /// One exchange: the unpublished events join the pass's list, the cell has the local chip, and the own horizon becomes h. False only
-    /// where the words were not those that the pass last knew; it knows them then, and the events stay unpublished.
+    /// Publishes the unpublished events, by one exchange: they join the pass's list, the cell gets
+    /// the local chip, and the own horizon becomes `h`. Returns `false` only if the words differed
+    /// from those that the pass knew; it then knows the words found, and the events stay
+    /// unpublished.
     pub fn publish<R: Wait>(&self, rt: &R, pass: &mut Pass, h: Tick) -> bool
         requires cell { pass.old.cell ≡ self.now }
         requires none_trusted { pass.old.trusted ≡ [] }
@@ -431,9 +448,11 @@ impl TubeCell {
         }
     }
 
-    /// One exchange of the parasite's pass, which publishes and entrusts. The unpublished events join its list, and its horizon becomes h. The
-    /// machine's observations of the local chip, from h on, join the list on trust, which becomes t. They are named by the call's proof. False only
-    /// where the words were not those that the pass last knew; it knows them then, and the events stay unpublished.
+    /// Publishes and speculates, by one exchange of the parasite's pass. The unpublished events
+    /// join its list, and its horizon becomes `h`. The machine's observations of the local chip
+    /// from `h` on (`D`, supplied by the proof) join the list speculatively, and the speculative
+    /// horizon becomes `t`. Returns `false` only if the words differed from those that the pass
+    /// knew; it then knows the words found, and the events stay unpublished.
     pub fn publish_and_entrust<D: Deeds, R: Wait>(
         &self,
         rt: &R,
@@ -475,7 +494,8 @@ impl TubeCell {
         }
     }
 
-    /// The chip at the end: the one that the events of both passes leave, merged in their order. The merged list is legal.
+    /// Returns the chip at the end: the one after the merge of both passes' events. The merged list
+    /// is legal.
     pub fn join<R: Wait>(&self, rt: &R, host: Pass, para: Pass) -> Chip
         requires cell { (host.cell ≡ self.now) × (para.cell ≡ self.now) }
         requires sides { (host.side ≡ Host) × (para.side ≡ Para) }
@@ -505,7 +525,7 @@ impl TubeCell {
 }
 
 impl Pass {
-    /// The side whose pass it is.
+    /// Returns the side whose pass it is.
     pub fn side(&self) -> Side
         ensures { result ≡ self.now.side }
     {
@@ -513,8 +533,8 @@ impl Pass {
     }
 }
 
-// The events join the unpublished ones of the view: that of an access or a look at this tick, or many. The last three are read by the proof alone,
-// which names the event by them.
+// Adds events to the view's unpublished ones. Only the proof reads `_side`, `_tick` and `_op`: they
+// name the event if it is one access or look.
 fn add<D: Deeds>(
     cell: &Cell,
     seat: &mut Seat<[u64; 9], PassView>,
@@ -530,8 +550,9 @@ fn add<D: Deeds>(
     part::<Adding<D>>(cell, seat);
 }
 
-// One exchange: the access, if there is one, is published with the chip after it and this own word. `_access` is read by the proof alone, which names
-// the event by it. At `Ok` the next words are answered, at `Err` those that were found in place of the known ones.
+// Publishes one access, or none, by one exchange that writes `chip` and the own horizon `word`.
+// Only the proof reads `_access`, which names the event. Returns the words written, or as `Err`
+// those found in place of the known ones.
 fn exchange<W: Wish, R: Wait>(
     cell: &Cell,
     rt: &R,
@@ -563,8 +584,9 @@ fn exchange<W: Wish, R: Wait>(
     }
 }
 
-// One exchange: the events join the parasite's list on trust, and the trust is this word. The chip is the known one. At `Ok` these words
-// are answered, at `Err` those that were found in place of the known ones.
+// Puts events onto the parasite's list speculatively, by one exchange that sets the speculative
+// horizon and keeps the known chip. Returns the words written, or as `Err` those found in place of
+// the known ones.
 fn entrust_at<W: Wish, R: Wait>(
     cell: &Cell,
     rt: &R,
@@ -590,8 +612,9 @@ fn entrust_at<W: Wish, R: Wait>(
     }
 }
 
-// One exchange: some events are published with the chip after them and this own word, and others join the parasite's list on trust,
-// which is this one. At `Ok` these words are answered, at `Err` those that were found in place of the known ones.
+// Publishes events and puts later ones onto the parasite's list speculatively, by one exchange that
+// writes `chip`, the own horizon `word` and the speculative horizon. Returns the words written, or
+// as `Err` those found in place of the known ones.
 fn publish_and_entrust_at<W: Wish, D: Deeds, R: Wait>(
     cell: &Cell,
     rt: &R,
@@ -620,7 +643,7 @@ fn publish_and_entrust_at<W: Wish, D: Deeds, R: Wait>(
     }
 }
 
-// One load, for a look at this tick.
+// Loads the words once, for a look at tick `t`.
 fn load_at<M: Moment, R: Wait>(
     cell: &Cell,
     rt: &R,
@@ -637,7 +660,7 @@ fn load_at<M: Moment, R: Wait>(
     load::<Looking<M>, R>(cell, rt, seat)
 }
 
-// The host's pass takes in the list of the parasite's.
+// Moves the parasite's list into the host's pass.
 fn take_in(cell: &Cell, host: &mut Seat<[u64; 9], PassView>, para: &mut Seat<[u64; 9], PassView>)
     requires host_cell { host.old.table_id ≡ cell.now.table.shared.table_id }
     requires para_cell { para.old.table_id ≡ cell.now.table.shared.table_id }
@@ -647,12 +670,12 @@ fn take_in(cell: &Cell, host: &mut Seat<[u64; 9], PassView>, para: &mut Seat<[u6
     ensures cell { IsSamePass host.old host.new }
     ensures joined { cell_view host.new ≡ joined_view (cell_view host.old) (cell_view para.old) }
 {
-    // A pass that stepped can't be taken in, so its view goes to a new one.
+    // A pass that has done steps cannot be joined, so its view moves to a new pass.
     let fresh = part::<Parting>(cell, para);
     unite::<Halves>(cell, host, fresh);
 }
 
-// One load, once both lists are in one pass.
+// Loads the words once, after one pass has taken both lists.
 fn end_at<R: Wait>(cell: &Cell, rt: &R, seat: &mut Seat<[u64; 9], PassView>) -> [u64; 9]
     requires cell { seat.old.table_id ≡ cell.now.table.shared.table_id }
     requires role { (cell_view seat.old).role ≡ rejoined }
@@ -661,10 +684,11 @@ fn end_at<R: Wait>(cell: &Cell, rt: &R, seat: &mut Seat<[u64; 9], PassView>) -> 
     load::<Ending, R>(cell, rt, seat)
 }
 
-// The steps on the cell that keep its rule, each stated once for all that it may tell. A caller's proof has only its own clause to show:
-// what the cell's many type parameters ask of a call is shown here.
+// The steps on the cell that keep its rule, each stated once, generic in its outcome `M`. A
+// caller's proof shows only its own clause: the obligations of the cell's many type parameters are
+// shown here.
 
-// One load.
+// Loads the words once.
 fn load<M: Outcome<[u64; 9], PassView>, R: Wait>(
     cell: &Cell,
     rt: &R,
@@ -678,7 +702,7 @@ fn load<M: Outcome<[u64; 9], PassView>, R: Wait>(
     cell.load_as::<M, R>(rt, seat)
 }
 
-// One exchange. At `Ok` the next words are in the cell, at `Err` those that were found stay.
+// Does one exchange. At `Ok` the cell holds `next`; at `Err` it holds the words found, as before.
 fn swap<M: Outcome<[u64; 9], PassView>, R: Wait>(
     cell: &Cell,
     rt: &R,
@@ -695,7 +719,7 @@ fn swap<M: Outcome<[u64; 9], PassView>, R: Wait>(
     cell.compare_exchange_as::<M, R>(rt, seat, *words, next)
 }
 
-// Cuts the view of a pass in two.
+// Splits the view of a pass in two.
 fn part<M: Split<PassView>>(
     cell: &Cell,
     seat: &mut Seat<[u64; 9], PassView>,
@@ -708,7 +732,7 @@ fn part<M: Split<PassView>>(
     cell.split_pass::<M>(seat)
 }
 
-// Takes in a view that was cut off.
+// Joins a view that was split off.
 fn unite<M: Join<PassView>>(
     cell: &Cell,
     seat: &mut Seat<[u64; 9], PassView>,

@@ -1,4 +1,5 @@
-//! The Tube chip between two threads: a cell of nine words, which each side reads and exchanges whole.
+//! The Tube chip shared by two threads: a cell of nine words that each side loads and exchanges as
+//! a whole.
 #![tactic(auto)]
 
 mod bell;

@@ -1,4 +1,4 @@
-//! What is done at a pass's local chip.
+//! Operations at a pass's local chip, and what they change of the parasite's observations.
 ghost use Rattle.std.specs.Prelude.{◌≡◌};
 ghost use Rattle.beeb_bits.specs.declared.Side.TheVariants.{Host, Para};
 ghost use Rattle.tube_chip.specs.State.{State};
@@ -8,17 +8,17 @@ ghost use Rattle.tube_cell.specs.Views.{is_observation, shown_to, readings_of, s
 use beeb_bits::Side;
 use tube_chip::{Chip, Lines, Op};
 
-/// What a side's observations show of a chip: the lines, and what it reads at its status registers, which have the numbers 0, 2, 4
-/// and 6.
+/// What a side can observe of a chip without changing it: the lines, and its status registers,
+/// numbers 0, 2, 4 and 6.
 #[derive(Clone, Copy, Debug, PartialEq, Eq)]
 pub struct Readings {
     /// The lines.
     pub lines: Lines,
-    /// The status registers, the first one's first.
+    /// The status registers, in order of their numbers.
     pub status: [u8; 4],
 }
 
-/// What a side's observations show of the chip.
+/// Returns what `side` can observe of the chip.
 pub(crate) fn readings_of(chip: &Chip, side: Side) -> Readings
     ensures { result ≡ shown_to side chip.now }
 {
@@ -57,7 +57,8 @@ fn is_observation(op: Op) -> bool
     }
 }
 
-// The trust after an operation of the host at this tick, by what the parasite's observations showed before it and show after it.
+// Returns the speculative horizon after an operation of the host at `tick`, given what the parasite
+// could observe before and after it.
 fn trust_left(before: Readings, after: Readings, tick: u64, trust: u64) -> u64
     ensures { (c d : State) → before ≡ readings_of c → after ≡ readings_of d → result ≡ trust_next Host c d tick trust }
 {
@@ -68,7 +69,7 @@ fn trust_left(before: Readings, after: Readings, tick: u64, trust: u64) -> u64
     }
 }
 
-// Does an operation of the host at this tick. Its answer, and the trust after it.
+// Does an operation of the host at `tick`. Returns its answer and the speculative horizon after it.
 fn host_operates(chip: &mut Chip, op: Op, tick: u64, trust: u64) -> (u8, u64)
     requires { MayDo Host op }
     ensures chip { chip.new ≡ chip_after chip.old Host op }
@@ -85,7 +86,7 @@ fn host_operates(chip: &mut Chip, op: Op, tick: u64, trust: u64) -> (u8, u64)
     (answer, trust_left(before, after, tick, trust))
 }
 
-/// Does an operation of a side at this tick. Its answer, and the trust after it.
+/// Does an operation of `side` at `tick`. Returns its answer and the speculative horizon after it.
 pub(crate) fn operate(chip: &mut Chip, side: Side, op: Op, tick: u64, trust: u64) -> (u8, u64)
     requires { MayDo side op }
     ensures chip { chip.new ≡ chip_after chip.old side op }

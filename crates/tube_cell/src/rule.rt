@@ -1,9 +1,9 @@
-//! The rule of the cell, and its steps.
+//! The rule that the cell's words and passes keep, and the steps on the cell.
 use atomic_table::{Join, Split};
 use crossbeam_utils::rule::{Outcome, Protocol};
 use std::marker::{Brand, Model, PhantomData};
 
-/// What the rule sees of a pass. No value of it is made.
+/// What the rule sees of a pass. No value of it is ever made.
 pub struct PassView {}
 
 impl Model for PassView {
@@ -15,7 +15,8 @@ impl Model for PassView {
     ghost view = { λ _. whole };
 }
 
-/// The words stand for two lists of events, whose merge is legal, and each pass knows no more than there is.
+/// The rule: the words represent two event lists whose merge is legal, and no pass knows more than
+/// is true.
 pub struct CellRule;
 
 impl Protocol<[u64; 9], PassView> for CellRule {
@@ -26,8 +27,8 @@ impl Protocol<[u64; 9], PassView> for CellRule {
     ghost first = { whole };
 }
 
-/// What an exchange wants: which events join the list, and the next words. No value of it exists: the proof of a call says what it is. `Brand` is what
-/// the call's code writes for it.
+/// What an exchange does: `events` join the list and `next` are the new words. No value of it
+/// exists: the proof of a call supplies it. The code of the call names `Brand` in its place.
 pub trait Wish {
     ghost use Rattle.std.specs.Prelude.{List};
     ghost use Rattle.tube_chip.specs.Events.{Event};
@@ -47,7 +48,8 @@ impl Wish for Brand {
     ghost next = { new_known };
 }
 
-/// What a machine did without the cell: events that join the unpublished ones, or the list on trust. The proof of a call says which, as with `Wish`.
+/// Events that a machine did without the cell, which join the unpublished events or, speculatively,
+/// the list. The proof of a call supplies them, as for `GhostUpdate`.
 pub trait Deeds {
     ghost use Rattle.std.specs.Prelude.{List};
     ghost use Rattle.tube_chip.specs.Events.{Event};
@@ -61,7 +63,7 @@ impl Deeds for Brand {
     ghost events = { [] };
 }
 
-/// The tick of a look. The proof of a call says which, as with `Wish`.
+/// The tick of a look. The proof of a call supplies it, as for `GhostUpdate`.
 pub trait Moment {
     ghost use Rattle.std.specs.Prelude.{ℕ};
 
@@ -72,7 +74,7 @@ impl Moment for Brand {
     ghost tick = { 0 };
 }
 
-/// A load after which the words are known.
+/// A load, after which the pass knows the words.
 pub struct Learning;
 
 impl Outcome<[u64; 9], PassView> for Learning {
@@ -81,7 +83,7 @@ impl Outcome<[u64; 9], PassView> for Learning {
     ghost then = { Finds };
 }
 
-/// An exchange: with no event a raise, with an access a commit.
+/// An exchange: a raise without an event, or a commit of an access.
 pub struct Publishing<W> {
     wish: PhantomData<W>,
 }
@@ -92,7 +94,7 @@ impl<W: Wish> Outcome<[u64; 9], PassView> for Publishing<W> {
     ghost then = { Publishes W.events W.next };
 }
 
-/// An exchange with which events join the parasite's list on trust.
+/// An exchange that puts events onto the parasite's list speculatively.
 pub struct Entrusting<W> {
     wish: PhantomData<W>,
 }
@@ -103,7 +105,8 @@ impl<W: Wish> Outcome<[u64; 9], PassView> for Entrusting<W> {
     ghost then = { Entrusts W.events W.next };
 }
 
-/// An exchange with which events join the parasite's list, and later ones on trust.
+/// An exchange that publishes events of the parasite and puts later ones onto its list
+/// speculatively.
 pub struct PublishingAndEntrusting<W, D> {
     wish: PhantomData<W>,
     deeds: PhantomData<D>,
@@ -115,7 +118,7 @@ impl<W: Wish, D: Deeds> Outcome<[u64; 9], PassView> for PublishingAndEntrusting<
     ghost then = { PublishesAndEntrusts W.events D.events W.next };
 }
 
-/// A load with which a look joins the list where it is admitted.
+/// A load that adds a look to the list if the words admit it.
 pub struct Looking<M> {
     moment: PhantomData<M>,
 }
@@ -135,7 +138,7 @@ impl Outcome<[u64; 9], PassView> for Ending {
     ghost then = { Ends };
 }
 
-/// The whole in two, and the two passes in one.
+/// Splits the whole into two passes, and joins them again.
 pub struct Halves;
 
 impl Split<PassView> for Halves {
@@ -154,7 +157,7 @@ impl Join<PassView> for Halves {
     ghost spent = { spent_view };
 }
 
-/// A view to whose unpublished events some join. (The part that is cut off holds nothing.)
+/// Adds events to a view's unpublished ones. (The part that is split off holds nothing.)
 pub struct Adding<D> {
     deeds: PhantomData<D>,
 }
@@ -167,7 +170,7 @@ impl<D: Deeds> Split<PassView> for Adding<D> {
     ghost right = { λ v. spent_view };
 }
 
-/// A view that goes to a new pass.
+/// Moves a view to a new pass.
 pub struct Parting;
 
 impl Split<PassView> for Parting {

@@ -1,4 +1,5 @@
-//! The nine words of the cell: the six of the chip, then the host's horizon, the parasite's, and its trust.
+//! The nine words of the cell: six for the chip, the host's horizon, the parasite's horizon and the
+//! parasite's speculative horizon.
 ghost use Rattle.std.specs.Prelude.{◌≡◌, ◌<◌, ◌^◌};
 ghost use Rattle.tube_chip.specs.State.{State};
 ghost use Rattle.tube_chip.specs.Packing.{IsChip, packed_words};
@@ -8,7 +9,8 @@ ghost use Rattle.tube_cell.specs.Steps.{LocalAfter};
 use beeb_bits::Side;
 use tube_chip::{Chip, packing_is_one_to_one};
 
-/// The words with this chip, a side's own horizon and the other's, and this trust.
+/// Returns the words for this chip, a side's own horizon, the other side's, and the speculative
+/// horizon.
 pub(crate) fn next_words(side: Side, chip: &Chip, mine: u64, theirs: u64, trust: u64) -> [u64; 9]
     ensures words { result ≡ words_of (known_with side chip.now mine theirs trust) }
     ensures bounds { IsChip chip.now }
@@ -23,14 +25,14 @@ pub(crate) fn next_words(side: Side, chip: &Chip, mine: u64, theirs: u64, trust:
     ]
 }
 
-/// The words at power-on.
+/// Returns the words at power-on.
 pub(crate) fn power_on() -> [u64; 9]
     ensures { result ≡ words_of new_known }
 {
     next_words(Side::Host, &Chip::new(), 0, 0, 0)
 }
 
-/// The other side's horizon.
+/// Returns the horizon of the side other than `side`.
 pub(crate) fn word_of(side: Side, words: &[u64; 9]) -> u64
     ensures { (k : Known) → words.now ≡ words_of k → result ≡ word_of_other side k }
 {
@@ -40,7 +42,7 @@ pub(crate) fn word_of(side: Side, words: &[u64; 9]) -> u64
     }
 }
 
-/// The parasite's trust.
+/// Returns the parasite's speculative horizon.
 pub(crate) fn trust_of(words: &[u64; 9]) -> u64
     ensures is { (k : Known) → words.now ≡ words_of k → result ≡ k.trust }
     ensures bounded { result < 2 ^ 64 }
@@ -48,7 +50,7 @@ pub(crate) fn trust_of(words: &[u64; 9]) -> u64
     words[8]
 }
 
-/// The words with this trust.
+/// Returns the words with another speculative horizon.
 pub(crate) fn with_trust(words: &[u64; 9], trust: u64) -> [u64; 9]
     ensures { (k : Known) → words.now ≡ words_of k → result ≡ words_of (record k { trust = trust }) }
 {
@@ -57,7 +59,7 @@ pub(crate) fn with_trust(words: &[u64; 9], trust: u64) -> [u64; 9]
     ]
 }
 
-/// The other side's bound, at this trust: its horizon, and of the parasite the trust too.
+/// Returns the other side's bound: its horizon; for the parasite, the later of its two horizons.
 pub(crate) fn bound_of(side: Side, words: &[u64; 9], trust: u64) -> u64
     ensures { (k : Known) → words.now ≡ words_of k → result ≡ bound_at side (word_of_other side k) trust }
 {
@@ -67,7 +69,8 @@ pub(crate) fn bound_of(side: Side, words: &[u64; 9], trust: u64) -> u64
     }
 }
 
-/// The other side's bound admits a side at this tick: the host up to it, and the parasite below it.
+/// Returns `true` if the bound `word` of the other side admits `side` at `tick`: the host up to and
+/// including the bound, the parasite below it.
 pub(crate) fn is_admitted(side: Side, word: u64, tick: u64) -> bool
     ensures { result ≡ admits side word tick }
 {
@@ -77,7 +80,7 @@ pub(crate) fn is_admitted(side: Side, word: u64, tick: u64) -> bool
     }
 }
 
-// The six words of the chip.
+// Returns the six words of the chip.
 fn chip_words(words: &[u64; 9]) -> [u64; 6]
     ensures { (k : Known) → words.now ≡ words_of k → result ≡ packed_words k.chip }
 {
@@ -94,7 +97,7 @@ fn unpacked(words: [u64; 6]) -> Chip
     }
 }
 
-/// The chip of these words.
+/// Returns the chip in these words.
 pub(crate) fn chip_of(words: &[u64; 9]) -> Chip
     requires { (k : Known) × IsChip k.chip × (words.now ≡ words_of k) }
     ensures { (k : Known) → IsChip k.chip → words.now ≡ words_of k → result ≡ k.chip }
@@ -102,7 +105,7 @@ pub(crate) fn chip_of(words: &[u64; 9]) -> Chip
     unpacked(chip_words(words))
 }
 
-/// The words found are known, and the local chip is theirs.
+/// Replaces the known words by those found, and the local chip by their chip.
 pub(crate) fn renew(words: &mut [u64; 9], local: &mut Chip, found: [u64; 9])
     requires { (k : Known) × IsChip k.chip × (found ≡ words_of k) }
     ensures words { words.new ≡ found }
@@ -112,7 +115,7 @@ pub(crate) fn renew(words: &mut [u64; 9], local: &mut Chip, found: [u64; 9])
     *words = found;
 }
 
-/// The words found are known. The local chip stays where the chip is the one that was known, and else it is theirs.
+/// Replaces the known words by those found. The local chip changes only if the chip's words differ.
 pub(crate) fn settle(words: &mut [u64; 9], local: &mut Chip, found: [u64; 9])
     requires { (k : Known) × IsChip k.chip × (found ≡ words_of k) }
     ensures words { words.new ≡ found }
