@@ -1,4 +1,4 @@
--- The parasite goes further ahead, and learns what becomes of it.
+-- The parasite speculates further, and learns what the host left of it.
 use Rattle.std.proofs.Common.{Bool, IsTrue, IsFalse, ℕ, ◌≡◌, ◌⊎◌, ◌+◌, ◌<◌, ◌≤◌, max, nat_lt, cond, true, false, refl, sym, ◌∙◌, ap, subst, inl, inr, arith, List, [], ◌∷◌, ◌++◌}
 use Rattle.std.proofs.Common.{length, drop, append_assoc}
 use Rattle.std.proofs.lemmas.List.{append-nil}
@@ -79,7 +79,7 @@ module _ {w : Way} (law : IsWay w) (base : List Event) where
   part : (t limit : ℕ) → t ≤ limit → below t (made limit) ≡ made t
   part t limit le = law.part t limit le
 
-  -- what may be put onto the list on trust next
+  -- what may join the list speculatively next
   pub may_trust : (p : Carried) (t : ℕ) → own_horizon p ≤ max p.known.trust w.tick → w.readings ≡ readings_of p.known.chip
       → Watches Para (own_horizon p) p.known.chip (from_on p.known.trust (made t)) t
   may_trust p t low same =
@@ -97,7 +97,8 @@ module _ {w : Way} (law : IsWay w) (base : List Event) where
         order = omega arith;
       })
 
-  -- what a learn leaves: nothing is known anew; or the host has passed the trust that stands now, and what lies below it is on the list for good
+  -- what a learn leaves: nothing new is known; or the host has reached the present speculative
+  -- horizon, and what lies below it is confirmed
   abbrev Learnt : Carried → Carried → Type 0
   Learnt p q = ((q.known.host < q.known.trust) × (q.known.trust ≡ p.known.trust)) ⊎ ((q.known.trust ≤ q.known.host) × (q.trusted ≡ []) × (q.events ≡ base ++ made q.known.trust))
 
@@ -149,13 +150,13 @@ module _ {w : Way} (law : IsWay w) (base : List Event) where
           settled t refl (omega arith) k.1
           (k.0 ∙ (λ i. is.events i ++ below t (is.trusted i)) ∙ append_assoc base (made is.firm) (below t (from_on is.firm (made p.known.trust))) ∙ ap (λ l. base ++ l) all)
 
--- ---- how the parasite stands
+-- ---- the state of the parasite
 
 own_of : (p : Carried) → p.side ≡ Para → own_horizon p ≡ max (max p.known.para p.known.trust) (past_last (p.events ++ p.ahead))
 own_of p side = ap (λ x. horizon (own_bound x p.known) (p.events ++ p.ahead)) side
 
 module _ {w : Way} (law : IsWay w) (t : ℕ) (p : Carried) where
-  -- the first stride was told
+  -- the first stride was published
   pub told_first : {q : Carried} {h : ℕ} → p.side ≡ Para → p.trusted ≡ [] → h ≡ w.tick → own_horizon p ≤ h → h ≤ t
       → q ≡ after_entrust (after_publish p h) (w.until t) t → HasTrusted w t p q
   told_first {q} {h} side none h_is low far is =
@@ -192,7 +193,7 @@ module _ {w : Way} (law : IsWay w) (t : ℕ) (p : Carried) where
       let most = past_append is.firm (all_events p) (w.until is.firm) (law.low is.firm) in
       omega arith
 
-  -- the strides since were told too
+  -- the strides since then were published too
   pub told_more : {q r : Carried} → HasTrusted w t p q → r ≡ after_entrust q (from_on q.known.trust (w.until t)) t → HasTrusted w t p r
   told_more {q} {r} told is =
       let trust : r.known.trust ≡ t = ap (λ x. x.known.trust) is in
@@ -224,7 +225,7 @@ module _ {w : Way} (law : IsWay w) (t : ℕ) (p : Carried) where
         trusting = (trusting_learned law _ side told.trusting learns).0;
       }
 
-  -- the host has passed
+  -- the host has reached the speculative horizon
   pub passed_learned : {q r : Carried} → q.side ≡ Para → HasTrusted w t p q → Learns q r → r.known.trust ≤ r.known.host → HasPassed w t p r
   passed_learned {q} {r} side told learns le =
       let more = told_learned side told learns in
@@ -241,7 +242,7 @@ passed_of {r} {b} side learns a_is b_is le =
     let host : b ≡ r.known.host = b_is ∙ ap (λ x. word_of_other x r.known) at in
     omega arith
 
--- either way it stands so
+-- it holds in both cases
 pub tried_told : {w : Way} (law : IsWay w) {t : ℕ} {p q : Carried} (r : Carried) (done : Bool) → q.side ≡ Para → HasTrusted w t p q
     → (IsTrue done → r ≡ after_entrust q (from_on q.known.trust (w.until t)) t) → (IsFalse done → Learns q r) → HasTrusted w t p r
 tried_told law {t} {p} r true side told f g = told_more law t p told (f refl)

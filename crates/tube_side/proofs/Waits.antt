@@ -29,7 +29,7 @@ told p h none e = record {
   events = ap all_events e ∙ append-nil (p.events ++ p.ahead);
 }
 
--- ---- what is paid
+-- ---- publications and rises of the bound
 
 pub learned_paid : {p q : Carried} → Learns p q → (q.commits ≡ p.commits) × (p.higher ≤ q.higher)
 learned_paid {p} {q} l =
@@ -39,7 +39,7 @@ learned_paid {p} {q} l =
 rise_one : (s : Side) (k j : Known) (t : ℕ) → ¬ Admits s (other_bound s k) t → Admits s (other_bound s j) t → rise (one_side s) k j ≡ 1
 rise_one s k j t not_yet now_is = grind (arith, nat_tests)
 
--- a step that was not admitted is so by a risen bound
+-- a step that was not admitted, and now is, is admitted by a risen bound
 pub rose : {p q : Carried} (t : ℕ) → p.ahead ≡ [] → p.trusted ≡ [] → Learns p q → ¬ Admits p.side (bound_here p) t → Admits q.side (bound_here q) t → q.higher ≡ p.higher + 1
 rose {p} {q} t bare none l not_yet now_is =
     let e = l.plain none in
@@ -62,7 +62,7 @@ told_low p h low e = let x = told_at p h low e in omega arith
 pub here_bare : (p : Carried) {r : Readings} → p.ahead ≡ [] → r ≡ readings_of (here p) → r ≡ readings_of p.known.chip
 here_bare p bare is = is ∙ ap (λ events. readings_of (after_from p.known.chip events)) bare
 
--- ---- what is paid on trust
+-- ---- publications and rises, with speculation
 
 pub learned_on_trust : (p : Carried) {q r : Carried} → q.side ≡ Para → Learns q r → IsPaidOnTrust p q → IsPaidOnTrust p r
 learned_on_trust p {q} {r} side l paid = go paid (cases_lt q.known.host r.known.host) (rw side at l.trust)
@@ -70,7 +70,7 @@ learned_on_trust p {q} {r} side l paid = go paid (cases_lt q.known.host r.known.
     go : IsPaidOnTrust p q → (q.known.host < r.known.host) ⊎ (r.known.host ≤ q.known.host) → Trusts Para q.known r.known → IsPaidOnTrust p r
     go h side_of t = grind (arith, nat_tests)
 
--- an exchange that entrusts, or the words that it found
+-- an exchange that speculates, or the words that it found
 pub tried_on_trust : (p : Carried) {q r : Carried} (t : ℕ) (looks : List Event) (done : Bool) → q.side ≡ Para → q.known.trust ≤ t → (IsTrue done → r ≡ after_entrust q looks t)
     → (IsFalse done → Learns q r) → IsPaidOnTrust p q → IsPaidOnTrust p r
 tried_on_trust p {q} t looks true side le f g paid = subst (IsPaidOnTrust p) (sym (f refl)) (go paid)
@@ -80,7 +80,7 @@ tried_on_trust p {q} t looks true side le f g paid = subst (IsPaidOnTrust p) (sy
     go (inr x) = inr (x.0, omega arith)
 tried_on_trust p t looks false side le f g paid = learned_on_trust p side (g refl) paid
 
--- the host has passed
+-- the host has reached the speculative horizon
 pub passed_paid : (p q : Carried) → q.known.trust ≤ q.known.host → IsPaidOnTrust p q → IsPaid p q
 passed_paid p q le (inl x) = x
 passed_paid p q le (inr x) = absurd (omega arith)

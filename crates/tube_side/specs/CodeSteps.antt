@@ -9,46 +9,50 @@ use Rattle.tube_cell.specs.Passes.{Carried, own_horizon}
 abbrev pub event_at : ℕ → Side → Query → Answer → Event
 event_at t side q a = record { tick = t; side = side; query = q; answer = a }
 
--- all events of a pass: its list, and those that are not published yet
+-- all events of a pass: its list, and those not yet published
 abbrev pub all_events : Carried → List Event
 all_events p = p.events ++ p.ahead
 
--- the pass is of the same cell and side, with nothing on trust
+-- the pass is of the same cell and side, with nothing speculative
 pub record SameSeat (p q : Carried) : Type 0 where
   pub cell : q.cell ≡ p.cell
   pub side : q.side ≡ p.side
   pub trusted : q.trusted ≡ []
 
--- the pass is of the same cell and side, with nothing unpublished and nothing on trust
+-- the pass is of the same cell and side, with nothing unpublished and nothing speculative
 pub record SamePass (p q : Carried) : Type 0 where
   pub cell : q.cell ≡ p.cell
   pub side : q.side ≡ p.side
   pub ahead : q.ahead ≡ []
   pub trusted : q.trusted ≡ []
 
--- no event was added: only what the pass knows may have changed, which of its events are published, and its horizon
+-- no event was added: only the pass's horizon, what it knows, and which of its events are published
+-- may have changed
 pub record HasWaited (p q : Carried) : Type 0 where
   pub same : SameSeat p q
   pub events : all_events q ≡ all_events p
 
--- this step of the pass's side, with this answer, was added, and the own horizon is past it
+-- this step of the pass's side, with this answer, was added, and the own horizon is one tick after
+-- it
 pub record HasDone (t : ℕ) (query : Query) (answer : Answer) (p q : Carried) : Type 0 where
   pub same : SameSeat p q
   pub events : all_events q ≡ all_events p ++ event_at t p.side query answer ∷ []
   pub horizon : own_horizon q ≡ t + 1
 
--- the other side's bound rose as often as accesses were published
+-- no more publications of accesses than rises of the other's known bound
 abbrev pub IsPaid : Carried → Carried → Type 0
 IsPaid p q = q.commits + p.higher ≤ p.commits + q.higher
 
--- or once less
+-- at most one publication more than rises
 abbrev pub IsNearlyPaid : Carried → Carried → Type 0
 IsNearlyPaid p q = q.commits + p.higher ≤ p.commits + q.higher + 1
 
--- as often; or once less, while the host has not passed the trust
+-- no more publications than rises; or one more, while the host has not reached the speculative
+-- horizon
 abbrev pub IsPaidOnTrust : Carried → Carried → Type 0
 IsPaidOnTrust p q = IsPaid p q ⊎ (IsNearlyPaid p q × (q.known.host < q.known.trust))
 
--- No access was published since p; and the host's horizon rose, or it has not come to tick t.
+-- No access was published since p. Either the other's known bound rose, or the host's word is below
+-- tick t.
 abbrev pub HasOnlyLearnt : ℕ → Carried → Carried → Type 0
 HasOnlyLearnt t p q = (q.commits ≡ p.commits) × ((p.higher < q.higher) ⊎ ((p.higher ≤ q.higher) × (q.known.host < t)))

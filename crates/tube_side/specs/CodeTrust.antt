@@ -1,4 +1,4 @@
--- What the parasite told of a way ahead.
+-- What the parasite has published of a speculation.
 use Rattle.std.specs.Prelude.{ℕ, ◌≡◌, ◌≤◌, max, List, [], ◌++◌, drop, length}
 use Rattle.tube_chip.specs.Events.{Event}
 use Rattle.tube_cell.specs.Views.{past_last, below}
@@ -10,7 +10,8 @@ use Rattle.tube_side.specs.CodeWays.{Way}
 abbrev pub from_on : ℕ → List Event → List Event
 from_on t events = drop (length (below t events)) events
 
--- Where the way began the pass's list was `base`. What is observed on it below a tick is on the list for good, and what lies from there to the trust is on it on trust.
+-- The pass's list was `base` at the start. What the speculation observes below `firm` is confirmed,
+-- and what it observes from there to the speculative horizon is speculative.
 pub record IsTrusting (w : Way) (base : List Event) (p : Carried) : Type 0 where
   pub firm : ℕ
   pub events : p.events ≡ base ++ w.until firm
@@ -18,8 +19,8 @@ pub record IsTrusting (w : Way) (base : List Event) (p : Carried) : Type 0 where
   pub passed : firm ≤ p.known.host
   pub order : firm ≤ p.known.trust
 
--- The pass was p where the way began. All its events are published, and what is observed on the way, up to the trust, was told on trust; the party went as far as
--- tick t.
+-- The pass was p at the start of the speculation, and the party has reached tick t. The pass has
+-- nothing unpublished, and its list has all observations below the speculative horizon.
 pub record HasTrusted (w : Way) (t : ℕ) (p q : Carried) : Type 0 where
   pub cell : q.cell ≡ p.cell
   pub side : q.side ≡ p.side
@@ -30,8 +31,9 @@ pub record HasTrusted (w : Way) (t : ℕ) (p q : Carried) : Type 0 where
   pub base : past_last (all_events p) ≤ w.tick
   pub trusting : IsTrusting w (all_events p) q
 
--- And the host has passed the trust that stands. What lies below it is on the list for good, nothing is on trust, and the pass's horizon is no later than
--- the trust, or the tick where the way began.
+-- In addition, the host has reached the speculative horizon: what lies below it is confirmed, and
+-- nothing is speculative. The pass's horizon is at most the later of it and the speculation's
+-- start.
 pub record HasPassed (w : Way) (t : ℕ) (p q : Carried) : Type 0 where
   pub told : HasTrusted w t p q
   pub trusted : q.trusted ≡ []

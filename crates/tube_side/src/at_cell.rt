@@ -1,4 +1,4 @@
-//! How a side comes to its steps at the shared cell: it lets the other side get on until it is far enough.
+//! Waits of a side at the shared cell, until the other side admits its step.
 ghost use Rattle.std.specs.Prelude.{◌≡◌, ◌≤◌, ◌+◌, [], IsTrue, IsFalse};
 ghost use Rattle.tube_cell.specs.Views.{Admits};
 ghost use Rattle.tube_cell.specs.Passes.{own_horizon, bound_here};
@@ -9,8 +9,9 @@ use beeb_bits::Tick;
 use std::sync::Wait;
 use tube_cell::{Pass, TubeCell};
 
-/// Lets the other side get on until it admits a step at this tick. Where it does not yet, all events are published first, with that tick as
-/// horizon, unless they are published already, and the trust says as much.
+/// Waits until the other side admits a step at tick `t`. If it does not yet, first publishes all
+/// events with `t` as horizon, unless they are published and the speculative horizon is at `t` or
+/// later.
 pub fn come<R: Wait>(
     rt: &R,
     cell: &TubeCell,
@@ -42,7 +43,7 @@ pub fn come<R: Wait>(
     wait(rt, cell, pass, t, pause);
 }
 
-/// Publishes all events and the end of the run as horizon: no step below it is left.
+/// Publishes all events, with the end `n` of the run as horizon: no step below it is left.
 pub fn finish<R: Wait>(rt: &R, cell: &TubeCell, pass: &mut Pass, n: Tick)
     requires cell { pass.old.cell ≡ cell.now }
     requires none_trusted { pass.old.trusted ≡ [] }
@@ -60,7 +61,8 @@ pub fn finish<R: Wait>(rt: &R, cell: &TubeCell, pass: &mut Pass, n: Tick)
     unreachable!()
 }
 
-// Publishes all events, and the tick of the step that waits as horizon, unless the other side admits the step by then: true.
+// Publishes all events, with the tick `t` of the step that waits as horizon. Returns `true`, with
+// nothing published, if the other side admits the step by then.
 fn tell<R: Wait>(rt: &R, cell: &TubeCell, pass: &mut Pass, t: Tick) -> bool
     requires cell { pass.old.cell ≡ cell.now }
     requires none_trusted { pass.old.trusted ≡ [] }
@@ -84,7 +86,7 @@ fn tell<R: Wait>(rt: &R, cell: &TubeCell, pass: &mut Pass, t: Tick) -> bool
     unreachable!()
 }
 
-// Rests until the other side admits the step.
+// Waits until the other side admits the step.
 fn wait<R: Wait>(rt: &R, cell: &TubeCell, pass: &mut Pass, t: Tick, pause: &mut Pause)
     requires cell { pass.old.cell ≡ cell.now }
     requires published { pass.old.ahead ≡ [] }

@@ -1,4 +1,5 @@
-//! One side at the shared cell: how it waits for the other, and what the parasite tells of a way ahead, on trust.
+//! One side at the shared cell: how it waits for the other, and how the parasite publishes a
+//! speculation.
 #![tactic(auto)]
 
 mod at_cell;

@@ -1,18 +1,19 @@
-//! Where the parasite sets out on its way ahead of the host.
+//! The start of a speculation of the parasite, ahead of the host.
 use beeb_bits::Tick;
 use std::marker::Brand;
 use tube_cell::Readings;
 
-/// Where a way ahead begins.
+/// The start of a speculation.
 #[derive(Drop)]
 pub struct Mark {
     /// The tick of the machine's next step there.
     pub tick: Tick,
-    /// What the chip shows the parasite.
+    /// What the parasite can observe of the chip there.
     pub readings: Readings,
 }
 
-/// The way ahead of a run. No value of it exists: the proof of a call says which way it is. `Brand` is what the call's code writes for it.
+/// The speculation of a run. No value of it exists: the proof of a call supplies it. The code of
+/// the call names `Brand` in its place.
 pub trait Ahead {
     ghost use Rattle.tube_side.specs.CodeWays.{Way};
 

@@ -1,38 +1,42 @@
-//! How a side waits for the other.
+//! Waits of one side for the other: it spins, then parks.
 use beeb_bits::{Side, Tick};
 use std::hint;
 use std::sync::Wait;
 use tube_cell::{Bell, TubeCell};
 
-// How often a side looks at its bell before it sleeps: some tenths of a millisecond, and longer where the other side may go on and did not yet, since it
-// may be about to wake. Between its looks it does not yield its processor to another thread: beside other work that would cost milliseconds.
+// The number of polls of the waker before a side parks: some tenths of a millisecond. It is larger
+// if the other side was signalled and has not disarmed its waker yet, since that side may be about
+// to wake. Between polls the side does not yield its CPU to another thread: under load from other
+// programs that would cost milliseconds.
 const LOOKS: u32 = 8_000;
 
 const PATIENT_LOOKS: u32 = 30_000;
 
-// After so many waits in turn that were too long for all looks, both sides may share one processor. Then so many waits sleep without a look, and twice as
-// many as the last time where the wait after them is too long again.
+// After `TOO_LONG` waits in succession that outlast the spin, both threads may share a CPU. The
+// next `FEWEST_BLIND` waits then park at once. If the first wait that spins again is too long too,
+// twice as many park at once, up to `MOST_BLIND`.
 const TOO_LONG: u32 = 3;
 
 const FEWEST_BLIND: u32 = 8;
 
 const MOST_BLIND: u32 = 1_024;
 
-/// The rests of one side between the tries of its steps.
+/// The waits of one side between the tries of its steps.
 #[derive(Drop)]
 pub struct Pause {
-    // Whether the side's bell hangs.
+    // The waker is armed.
     is_hung: bool,
-    // Whether the wait was too long for its looks, and how many in turn were.
+    // The present wait outlasted its spin, and the number of waits in succession that did.
     is_long: bool,
     long: u32,
-    // How many waits will not look, and how many it will be the next time.
+    // The number of waits to come that skip the spin, and the number set after the next wait that
+    // is too long.
     blind: u32,
     next_blind: u32,
 }
 
 impl Pause {
-    /// For a side that has not waited yet.
+    /// Makes the state of a side that has not waited yet.
     pub fn new() -> Pause {
         Pause {
             is_hung: false,
@@ -43,8 +47,8 @@ impl Pause {
         }
     }
 
-    /// Rests before the next try of a step at tick `t`. The first time it hangs the side's bell, since the step may be let on before that; where the try behind
-    /// that comes to nothing it waits until the bell is rung.
+    /// Arms the waker for a step at tick `t`; on the next call spins, then parks, until the waker
+    /// is signalled. The caller tries the step again after each call.
     pub fn rest<R: Wait>(&mut self, rt: &R, cell: &TubeCell, side: Side, t: Tick) {
         let bell = cell.bell(side);
         if self.is_hung {
@@ -59,7 +63,7 @@ impl Pause {
         self.is_hung = !self.is_hung;
     }
 
-    /// The step is done: how long it had to wait tells how the next ones rest.
+    /// Ends the wait after the step is done. The length of the wait decides how the next ones wait.
     pub fn end(&mut self, cell: &TubeCell, side: Side) {
         if self.is_hung {
             cell.bell(side).take_down();
@@ -81,7 +85,7 @@ impl Pause {
     }
 }
 
-// How often a side looks at its bell in one wait.
+// Returns the number of polls of the waker in one wait.
 fn looks_of(cell: &TubeCell, side: Side) -> u32 {
     let other = match side {
         Side::Host => Side::Para,
@@ -94,7 +98,7 @@ fn looks_of(cell: &TubeCell, side: Side) -> u32 {
     }
 }
 
-// Looks at the bell so many times, or until it is rung: true.
+// Polls the waker up to `looks` times. Returns `true` if it was signalled.
 fn is_rung_within(bell: &Bell, looks: u32) -> bool {
     for _ in 0..looks {
         if bell.is_rung() {

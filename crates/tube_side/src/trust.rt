@@ -1,4 +1,4 @@
-//! What the parasite tells the host of its way ahead, and how it waits until the host has passed.
+//! Publishes the parasite's speculation, and waits until the host has reached its end.
 ghost use Rattle.std.specs.Prelude.{◌≡◌, ◌≢◌, ◌≤◌, ◌⊎◌, [], IsTrue, IsFalse};
 ghost use Rattle.beeb_bits.specs.declared.Side.TheVariants.{Para};
 ghost use Rattle.tube_cell.specs.Views.{readings_of};
@@ -14,7 +14,8 @@ use std::marker::Brand;
 use std::sync::Wait;
 use tube_cell::{Deeds, Pass, TubeCell};
 
-// The pass's events are published with the mark as horizon, and what is observed past the mark goes onto its list on trust, up to tick t.
+// Publishes the pass's events with the tick `mark` as horizon, and speculatively the observations
+// from the mark on, below tick `t`.
 fn publish_observed<D: Deeds, W: Ahead, R: Wait>(
     rt: &R,
     cell: &TubeCell,
@@ -36,7 +37,8 @@ fn publish_observed<D: Deeds, W: Ahead, R: Wait>(
     cell.publish_and_entrust::<D, R>(rt, pass, mark, t)
 }
 
-// One exchange: all events are published, and the first stride past the mark is told. False where the words were not those that the pass last knew.
+// Publishes all events and the first stride past the mark, by one exchange. Returns `false` only if
+// the words differed from those that the pass knew.
 fn publish_on<W: Ahead, R: Wait>(
     rt: &R,
     cell: &TubeCell,
@@ -58,8 +60,9 @@ fn publish_on<W: Ahead, R: Wait>(
     publish_observed::<Brand, W, R>(rt, cell, pass, mark, t)
 }
 
-/// Tells the first stride past the mark, for as long as the chip shows what was observed in it. False where it shows something else, or
-/// where the machine left off at the mark, so that the host has to come nearer; nothing is told then.
+/// Publishes the first stride past the mark, up to tick `t`, while the chip shows what was observed
+/// in the stride. Returns `false`, with nothing published, if the chip no longer shows it, or if
+/// the machine got no further than the mark and so must wait for the host.
 pub fn tell_first<W: Ahead, R: Wait>(
     rt: &R,
     cell: &TubeCell,
@@ -96,7 +99,8 @@ pub fn tell_first<W: Ahead, R: Wait>(
     unreachable!()
 }
 
-// What is observed on the way at the trust or later goes onto the list on trust, up to tick t.
+// Puts the observations from the speculative horizon on, below tick `t`, onto the list
+// speculatively.
 fn entrust_observed<D: Deeds, W: Ahead, R: Wait>(
     rt: &R,
     cell: &TubeCell,
@@ -115,7 +119,8 @@ fn entrust_observed<D: Deeds, W: Ahead, R: Wait>(
     cell.entrust::<D, R>(rt, pass, t)
 }
 
-// One exchange: the strides since the last that was told are told too. False where the words were not those that the pass last knew.
+// Publishes the strides that are not published yet, up to tick `t`, by one exchange. Returns
+// `false` only if the words differed from those that the pass knew.
 fn entrust_on<W: Ahead, R: Wait>(rt: &R, cell: &TubeCell, pass: &mut Pass, t: Tick) -> bool
     requires cell { pass.old.cell ≡ cell.now }
     requires side { pass.old.side ≡ Para }
@@ -130,7 +135,8 @@ fn entrust_on<W: Ahead, R: Wait>(rt: &R, cell: &TubeCell, pass: &mut Pass, t: Ti
     entrust_observed::<Brand, W, R>(rt, cell, pass, t)
 }
 
-/// Tells the strides since the last that was told, for as long as the chip shows what was observed in them. False where it shows something else.
+/// Publishes the strides that are not published yet, up to tick `t`, while the chip shows what was
+/// observed in the strides. Returns `false` if the chip no longer shows it.
 pub fn tell_more<W: Ahead, R: Wait>(
     rt: &R,
     cell: &TubeCell,
@@ -160,7 +166,8 @@ pub fn tell_more<W: Ahead, R: Wait>(
     unreachable!()
 }
 
-/// Waits until the host has passed the trust that stands: then what lies below it is on the list for good.
+/// Waits until the host has reached the speculative horizon. What lies below that horizon is then
+/// confirmed.
 pub fn wait_passed<W: Ahead, R: Wait>(
     rt: &R,
     cell: &TubeCell,
@@ -181,7 +188,8 @@ pub fn wait_passed<W: Ahead, R: Wait>(
             pause.end(cell, pass.side());
             return;
         }
-        // The step before the trust may be done where the host has passed that.
+        // A step at the tick before the speculative horizon is admitted exactly if the host has
+        // reached that horizon.
         pause.rest(rt, cell, pass.side(), Tick(trust.0.saturating_sub(1)));
     }
     unreachable!()
