@@ -12,7 +12,7 @@ use Rattle.session.specs.CodeStation.{place, Station}
 use Rattle.session.specs.Work.{HasWorked}
 use Rattle.session.proofs.Merged.{sided, split}
 
--- that of two stations
+-- that of two sides with their logs
 abbrev left_as : {S T : Type 0} → Station S → Station T → State → Played S T
 left_as x y chip = record {
   host = x.at.state;

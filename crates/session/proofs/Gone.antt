@@ -1,4 +1,4 @@
--- A side goes on past what it may answer itself.
+-- A side continues past what it may answer itself.
 use Rattle.std.proofs.Common.{ℕ, ◌≡◌, ◌+◌, ◌≤◌, inl, inr, ◌∙◌, ap, arith, List, [], length, length-append, None, Some}
 use Rattle.beeb_bits.specs.declared.Side.{Side}
 use Rattle.tube_chip.specs.Act.{access}
@@ -44,14 +44,14 @@ module _ {S : Type 0} {m : Moves S} (lawful : IsLawful m) (side : Side) (n : ℕ
       omega arith) k s events h
 
   module _ (r : Readings) (t : ℕ) (within : t ≤ n) where
-    -- nothing more is observed where a party leaves off
+    -- nothing more is observed at the ask where a party stops
     pub stops : (last new : S) (ask : Ask) → IsAsk m n last ask new → IsOver r t ask → (k : ℕ) → observed_events m side (readings_seen r) t k last ≡ []
     stops last new Nothing h over k = let a = h.0 in none_late lawful side (readings_seen r) t k last (omega arith)
     stops last new (Access u op) h (inl late) k = let a = h.0 in none_late lawful side (readings_seen r) t k last (omega arith)
     stops last new (Access u op) h (inr none) k = stops_at lawful side (readings_seen r) t k last (access op) h.2 (ap byte_answer none)
     stops last new (Look u) h over k = none_late lawful side (readings_seen r) t k last (omega arith)
 
-    -- what it observed up to there is what is observed below the tick
+    -- what it observed up to there are the observations below the tick
     pub observed_is : {s new : S} {before after : Log} {ask : Ask} (h : HasObserved m side n r t s before ask new after) → IsOver r t ask → (fuel : ℕ) → t ≤ m.due s + fuel
         → h.events ≡ observed_events m side (readings_seen r) t fuel s
     observed_is {s} h over fuel enough =
@@ -63,7 +63,7 @@ module _ {S : Type 0} {m : Moves S} (lawful : IsLawful m) (side : Side) (n : ℕ
       let a = events_few _ s h.events h.last h.runs in
       omega arith
 
--- A pass has what its party will observe, and then the party goes on as far as it observes anything.
+-- A pass gets what its party will observe; then the party runs as long as it only observes.
 pub gone_on : {S : Type 0} {m : Moves S} (lawful : IsLawful m) {n : ℕ} {r : Readings} {t : ℕ} (x y : Station S) {ask : Ask} {q : Carried} {side : Side}
     → y.at.pass ≡ q → side ≡ x.at.pass.side → own_horizon x.at.pass ≤ m.due x.at.state → own_horizon x.at.pass ≤ n → t ≤ n
     → q ≡ after_add x.at.pass (observed_events m x.at.pass.side (readings_seen r) t t x.at.state)

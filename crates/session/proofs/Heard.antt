@@ -1,4 +1,4 @@
--- What a party heard at the desk of its status registers is what it observed.
+-- What a party read at the port of its status registers is what it observed.
 use Rattle.std.proofs.Common.{ℕ, zero, suc, ◌≡◌, ◌<◌, ◌≤◌, ◌⊎◌, inl, inr, refl, sym, ◌∙◌, ap, subst, arith, List, [], ◌∷◌, ◌++◌, None, Some}
 use Rattle.std.proofs.lemmas.List.Elements.{All-append}
 use Rattle.beeb_bits.specs.declared.Side.{Side}
@@ -26,13 +26,14 @@ use Rattle.session.proofs.Kept.{noted_both}
 use Rattle.session.proofs.Observing.{looked, seen_on}
 use Rattle.tube_cell.proofs.Law.{low_cons, low_nil}
 
--- The desk is of this side, and shows the status registers of these readings below that tick.
+-- The port is of this side, and has the status registers of these readings below that tick.
 pub record IsAt (side : Side) (r : Readings) (t : ℕ) (d : Shown) : Type 0 where
   pub side_is : d.side ≡ side
   pub status_is : d.status ≡ r.status
   pub below_is : d.below ≡ t
 
--- A party of a side went from one state to another: each query below the tick saw these readings, and accesses were noted.
+-- A party of a side went from one state to another: each query below the tick saw these readings,
+-- and accesses were noted.
 pub record HasGone {S : Type 0} (m : Moves S) (side : Side) (n : ℕ) (r : Readings) (t : ℕ) (old : S) (before : Log) (new : S) (after : Log) : Type 0 where
   pub events : List Event
   pub runs : SomeRuns m side n old events new
@@ -40,12 +41,12 @@ pub record HasGone {S : Type 0} (m : Moves S) (side : Side) (n : ℕ) (r : Readi
   pub low : AllBelow t events
   pub noted : HasNoted (accesses events) before after
 
--- a read leaves the desk such a one
+-- a read leaves such a port
 pub read_leaves : {side : Side} {r : Readings} {t tick : ℕ} {op : Op} {byte : ℕ} {d e : Shown} → IsAt side r t d → IsRead d tick op byte e → IsAt side r t e
 read_leaves at h = record { side_is = h.side_is ∙ at.side_is; status_is = h.status_is ∙ at.status_is; below_is = h.below_is ∙ at.below_is }
 
 module _ {S : Type 0} {m : Moves S} (lawful : IsLawful m) {side : Side} {n : ℕ} {r : Readings} {t : ℕ} where
-  -- it is where it was
+  -- it stayed
   pub is_here : (s : S) (log : Log) → HasGone m side n r t s log s log
   is_here s log = record { events = []; runs = (zero, (refl, refl)); seen = tt; low = low_nil; noted = none_noted log }
 
@@ -84,7 +85,7 @@ module _ {S : Type 0} {m : Moves S} (lawful : IsLawful m) {side : Side} {n : ℕ
         noted = rw at.side_is at h.noted;
       }
 
-  -- among looks and reads, which leave the desk such a one
+  -- among looks and reads, which leave such a port
   by_talks : (j : ℕ) (s last : S) {d : Shown} (e : Shown) → IsAt side r t d → Talks m IsRead n (shown_lines r.lines t) j s d last e
       → HasGone m side n r t s d.log last e.log × IsAt side r t e
   by_talks zero s last {d} e at h = subst (λ x. HasGone m side n r t s d.log last x.log × IsAt side r t x) h.0 (by_looks _ s _ d.log h.1.1, at)
@@ -101,7 +102,7 @@ module _ {S : Type 0} {m : Moves S} (lawful : IsLawful m) {side : Side} {n : ℕ
       let all = goes_on gone talked.0 in
       (record { events = all.events; steps = all.runs.0; last = went.last; runs = all.runs.1; seen = all.seen; low = all.low; asked = went.asked; noted = all.noted }, talked.1)
 
-  -- the same, where the desk is asked, which stays such a one
+  -- as above, if the port is asked, which stays such a port
   pub observes_on : {s u new : S} {a : Log} {d e : Shown} {ask asked : Ask} → ask ≡ asked → IsAt side r t d → HasGone m side n r t s a u d.log
       → Hears m IsRead n (shown_lines r.lines d.below) u d ask new e → HasObserved m side n r t s a asked new e.log × IsUnsure t asked × IsAt side r t e
   observes_on {u} {new} {d} {e} {asked = asked} is at gone hears =
@@ -109,7 +110,7 @@ module _ {S : Type 0} {m : Moves S} (lawful : IsLawful m) {side : Side} {n : ℕ
       let went = hears_on at gone (record { accesses = h.accesses; last = h.last; talks = h.talks; asked = h.asked }) in
       (went.0, h.unsure, went.1)
 
-  -- the desk was left as it was
+  -- the port was left as it was
   pub still_observed : {s new : S} {a : Log} {d e : StatusDesk} {ask : Ask} → e ≡ d → HasObserved m side n r t s a ask new d.log → HasObserved m side n r t s a ask new e.log
   still_observed {s} {new} {a} {ask} is h = rw is h
 
@@ -123,19 +124,19 @@ module _ {S : Type 0} {m : Moves S} (lawful : IsLawful m) {side : Side} {n : ℕ
       subst (λ z. HasGone m side n r t s a z e.log) (ap (λ z. m.next z (Some (Byte byte))) (sym h.asked.3) ∙ sym is)
       (goes_on so_far one)
 
--- what a party heard at the desk is what it observed
+-- what a party read at the port is what it observed
 pub heard : {S : Type 0} {m : Moves S} (lawful : IsLawful m) {side : Side} {n : ℕ} (r : Readings) {t : ℕ} {s : S} {d : Shown} {ask : Ask} {new : S} {e : Shown}
     → d.side ≡ side → d.status ≡ r.status → d.below ≡ t → GoesHearing m IsRead n (shown_lines r.lines t) s d ask new e → HasObserved m side n r t s d.log ask new e.log
 heard lawful {side} {n} r {t} {s} {d} own shows at went =
     (hears_on lawful (record { side_is = own; status_is = shows; below_is = at }) (is_here lawful s d.log) went).0
 
--- what left off at no access is over
+-- a run that did not stop at an access is over
 pub over_unasked : (r : Readings) (t : ℕ) (ask : Ask) → ((u : Tick) (op : Op) → ask ≡ Access u op → ⊥) → IsUnsure t ask → IsOver r t ask
 over_unasked r t Nothing not h = tt
 over_unasked r t (Access u op) not h = absurd (not u op refl)
 over_unasked r t (Look u) not h = h
 
--- and so is what left off at an access that the desk does not answer
+-- and so is one that stopped at an access that the port does not answer
 pub over_unanswered : {side : Side} {r : Readings} {t : ℕ} {d : Shown} (u : Tick) (op : Op) → IsAt side r t d → (d.below ≤ u.0) ⊎ (byte_seen d.status op ≡ None) → IsOver r t (Access u op)
 over_unanswered u op at (inl late) = inl (omega arith)
 over_unanswered u op at (inr none) = inr (ap (λ z. byte_seen z op) (sym at.status_is) ∙ none)

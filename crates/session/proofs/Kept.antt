@@ -1,4 +1,4 @@
--- What is kept as the list of events grows.
+-- What is stored as the list of events grows.
 use Rattle.std.proofs.Common.{ℕ, ◌≡◌, ◌+◌, refl, sym, ◌∙◌, ap, arith, List, [], ◌∷◌, ◌++◌, length, length-append}
 use Rattle.tube_chip.specs.Events.{Event}
 use Rattle.tube_trace.specs.declared.Entry.{Entry}
@@ -7,7 +7,7 @@ use Rattle.tube_party.specs.declared.log.Log.{Log}
 use Rattle.tube_party.specs.Logs.{HasNoted, accesses-append}
 use Rattle.tube_party.specs.Turn.{note_leaves, note_all_leaves}
 
--- ---- what was noted behind what was kept before
+-- ---- what was noted after what was stored before
 
 note_leaves-append : (keep : ℕ) (xs ys list : List Entry) → note_all_leaves keep list (xs ++ ys) ≡ note_all_leaves keep (note_all_leaves keep list xs) ys
 note_leaves-append keep [] ys list = refl

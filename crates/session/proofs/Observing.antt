@@ -1,4 +1,4 @@
--- What a side observes that goes ahead: what is cut off it, and what runs make it.
+-- What a side observes that goes ahead on its own: parts of it, and the runs that make it.
 use Rattle.std.proofs.Common.{ℕ, zero, suc, ◌≡◌, ◌+◌, ◌<◌, ◌≤◌, ◌==◌, nat_lt, true, false, cond, refl, sym, ◌∙◌, ap, subst, arith, List, [], ◌∷◌, ◌++◌, Option, None, Some}
 use Rattle.std.proofs.Common.{slice_index}
 use Rattle.std.proofs.lemmas.Bool.Decides.{nat_tests}
@@ -26,7 +26,7 @@ use Rattle.session.proofs.Runs.{along}
 abbrev pub Shows : State → Side → Sight → Type 0
 Shows c side v = (q : Query) (a : Answer) → v q ≡ Some a → (is_observation q ≡ true) × ((act c side q).1 ≡ a)
 
--- what holds of two lists of events holds of one behind the other
+-- what holds of two lists of events holds of one after the other
 pub seen_on : (v : Sight) (xs ys : List Event) → IsSeen v xs → IsSeen v ys → IsSeen v (xs ++ ys)
 seen_on v [] ys a b = b
 seen_on v (x ∷ xs) ys a b = (a.0, seen_on v xs ys a.1 b)
@@ -41,7 +41,7 @@ module _ {S : Type 0} {m : Moves S} (lawful : IsLawful m) (side : Side) (v : Sig
   abbrev observed : ℕ → ℕ → S → List Event
   observed limit k s = observed_events m side v limit k s
 
-  -- behind a step that has this answer
+  -- after a step that has this answer
   abbrev later : ℕ → ℕ → S → Answer → List Event
   later limit k s a = observed limit k (after s a)
 
@@ -49,7 +49,8 @@ module _ {S : Type 0} {m : Moves S} (lawful : IsLawful m) (side : Side) (v : Sig
   abbrev observed_as : ℕ → ℕ → S → Option Query → List Event
   observed_as limit k s o = observed_by v side (m.due s) (observed limit k (silent s)) (later limit k s) o
 
-  -- what holds of no events, behind a step that asks nothing, and with the event of one that is answered in front, holds of what is observed
+  -- what holds of no events, after a step that asks nothing, and with the event of an answered step
+  -- in front, holds of what is observed
   by_step : (P : List Event → Type 0) (limit k : ℕ) (s : S) → P []
       → (m.due s < limit → m.asks s ≡ None → P (observed limit k (silent s)))
       → ((q : Query) (a : Answer) → m.due s < limit → m.asks s ≡ Some q → v q ≡ Some a → P (event_at (m.due s) side q a ∷ later limit k s a))
@@ -86,7 +87,7 @@ module _ {S : Type 0} {m : Moves S} (lawful : IsLawful m) (side : Side) (v : Sig
   below_limit limit (suc k) s =
       by_step (AllBelow limit) limit k s low_nil (λ _ _. below_limit limit k (silent s)) (λ q a lt _ _. low_cons _ _ lt (below_limit limit k (after s a)))
 
-  -- a cut before all of them leaves none
+  -- a cut before all of them yields none
   cut_early : (t limit k : ℕ) (s : S) → t ≤ m.due s → below t (observed limit k s) ≡ []
   cut_early t limit zero s le = refl
   cut_early t limit (suc k) s le =
@@ -126,7 +127,7 @@ module _ {S : Type 0} {m : Moves S} (lawful : IsLawful m) (side : Side) (v : Sig
   -- ---- a run whose queries see what they see is what is observed
 
   module _ (n limit : ℕ) (last : S) (stops : (k : ℕ) → observed limit k last ≡ []) where
-    -- a step that asks nothing, whether it is below the limit or not
+    -- a step that asks nothing, below the limit or not
     silent_same : (fuel : ℕ) (s : S) → m.asks s ≡ None → limit ≤ m.due s + fuel → observed limit fuel (silent s) ≡ observed limit fuel s
     silent_same zero s is far = refl
     silent_same (suc j) s is far =
@@ -142,7 +143,8 @@ module _ {S : Type 0} {m : Moves S} (lawful : IsLawful m) (side : Side) (v : Sig
         let y : m.due s < m.due (after s e.answer) = lawful.rises s (Some e.answer) in
         rw (nat_lt-true (m.due s) limit (omega arith), is, sees) (λ i. event_at (at i) (own i) e.query e.answer ∷ on j (omega arith) i)
 
-    -- Where its events are below the limit, and nothing is observed below it at its end, they are what is observed.
+    -- If its events are below the limit, and nothing is observed below it at its end, they are what
+    -- is observed.
     pub made : (k fuel : ℕ) (s : S) (events : List Event) → Runs m side n k s (course events last) → IsSeen v events → AllBelow limit events → limit ≤ m.due s + fuel
         → events ≡ observed limit fuel s
     made k fuel s events runs seen low far =
@@ -197,7 +199,7 @@ module _ (c : State) (side : Side) (number : ℕ) (a : Answer) where
   abbrev byte : ℕ → ℕ
   byte i = slice_index (shown_to side c).status i
 
-  -- a status register, by its number, and those behind it
+  -- a status register, by its number, and those after it
   one_shows : (k byte : ℕ) (rest : Option ℕ) → is_observation (access (Read k)) ≡ true → (act c side (access (Read k))).1 ≡ Byte byte
       → (byte_answer rest ≡ Some a → IsShown number) → byte_answer (cond (number == k) (Some byte) rest) ≡ Some a → IsShown number
   one_shows k byte rest status answers later =

@@ -1,4 +1,4 @@
--- Where a machine stands that went ahead, and once what it did there is settled.
+-- The state of a machine that speculates, and its state after the speculation is settled.
 use Rattle.std.proofs.Common.{ℕ, ◌≡◌, ◌+◌, ◌≤◌, min, inl, inr, refl, sym, ◌∙◌, ap, subst, arith, List, [], ◌++◌, append-nil, length, take}
 use Rattle.std.proofs.Common.{Option, None, Some, MatchOption, IfSome, IfNone}
 use Rattle.std.proofs.lemmas.List.{take_all}
@@ -32,7 +32,7 @@ use Rattle.session.proofs.Gone.{events_low, events_under}
 use Rattle.session.proofs.Observing.{none_late, below_limit, cut, watches, made, readings_show, seen_on}
 use Rattle.session.proofs.UnderWay.{asks_there}
 
--- what is observed makes a way
+-- what is observed makes a speculation
 pub is_way : {S : Type 0} {m : Moves S} (lawful : IsLawful m) (n : ℕ) (from : Outset S) → IsWay (way_of m n from)
 is_way {m} lawful n from =
     let v = readings_seen from.at.mark.readings in record {
@@ -51,7 +51,7 @@ module _ {S : Type 0} {m : Moves S} (lawful : IsLawful m) (n : ℕ) (from : Outs
   abbrev sight : Sight
   sight = readings_seen from.at.mark.readings
 
-  -- it goes on: what it observes more is noted too
+  -- it continues: what it observes further is noted too
   goes_both : {ask ask2 : Ask} {far : ℕ} {x : Station S} (y : Station S) (w : IsOnWay m n from ask x) → x.at.state ≡ w.last
       → HasObserved m Para n from.at.mark.readings far x.at.state x.log ask2 y.at.state y.log → IsOnWay m n from ask2 y
   goes_both {x = x} y w stood h =
@@ -84,14 +84,14 @@ module _ {S : Type 0} {m : Moves S} (lawful : IsLawful m) (n : ℕ) (from : Outs
         few = w.few;
       }
 
-  -- what was noted before the mark is still there
+  -- what was stored before the mark is unchanged
   pub still_there : {x y : Log} {entries : List Entry} → from.at.log.len ≤ length x.list.items → HasNoted entries x y → IsStillThere from.at.log x y
   still_there {x} {entries} kept noted = record {
     kept = ap (take from.at.log.len) noted.list_is ∙ (still_kept x.keep x.list.items entries).1 from.at.log.len kept;
     keep_is = noted.keep_is;
   }
 
-  -- what it observed from where it set out, with a log that was written so far as the mark tells
+  -- what it observed from the start, with a log as long as the mark says
   pub sets_out : {ask : Ask} {far : ℕ} {log : Log} (y : Station S) → HasObserved m Para n from.at.mark.readings far from.state log ask y.at.state y.log
       → length log.list.items ≡ from.at.log.len → log.count ≡ from.at.log.count → from.at.log.count ≤ m.due from.state
       → (w : IsOnWay m n from ask y) × AllBelow far w.events
@@ -126,7 +126,7 @@ module _ {S : Type 0} {m : Moves S} (lawful : IsLawful m) (n : ℕ) (from : Outs
   reached_at (Access v op) last s t a r = omega arith
   reached_at (Look v) last s t a r = omega arith
 
-  -- from what is asked it goes on: what it observes more joins its way
+  -- from an ask it continues: what it observes further joins its speculation
   pub goes_on : {ask ask2 : Ask} {far : ℕ} {x : Station S} (y : Station S) {mark : S} → (ask ≡ Nothing → ⊥) → IsOnWay m n from ask x
       → HasObserved m Para n from.at.mark.readings far x.at.state x.log ask2 y.at.state y.log → mark ≡ from.state
       → HasGoneFurther m n ask (record { from = from; here = x }) ask2 (record { from = outset mark from.at; here = y })
@@ -142,7 +142,7 @@ module _ {S : Type 0} {m : Moves S} (lawful : IsLawful m) (n : ℕ) (from : Outs
         log = still_there w.noted.kept h.noted;
       }
 
-  -- it did not go on
+  -- it did not continue
   pub stays_here : (ask : Ask) (x : Trip S) → IsOnTrip m n ask x → HasGoneFurther m n ask x ask x
   stays_here ask x way = record { way = way; further = λ t u a b. let same = one_reached n ask t u a b in omega arith; from_is = refl; log = record { kept = refl; keep_is = refl } }
 
@@ -170,7 +170,7 @@ module _ {S : Type 0} {m : Moves S} (lawful : IsLawful m) (n : ℕ) (from : Outs
       rw is (settled_by t w (omega arith) (λ i d lt. let a = under i d lt in let b = low i d lt in omega arith) le)
 
   module _ (two : S) (q : Query) (asks : m.asks two ≡ Some q) (none : sight q ≡ None) where
-    -- a run that ends at a query that is not answered ends no earlier than another from the same place
+    -- a run that ends at a query without an answer ends no earlier than another from the same state
     same_way : {one s : S} {es fs : List Event} → Steps m Para n one s es → IsSeen sight es → Steps m Para n two s fs → IsSeen sight fs → m.due one ≤ m.due two
     same_way Over sa b sb = let runs = runs_of m Para n b in rises lawful Para n runs.0 _ _ two runs.1
     same_way (Silent low is on) sa Over sb = cc
@@ -180,7 +180,7 @@ module _ {S : Type 0} {m : Moves S} (lawful : IsLawful m) (n : ℕ) (from : Outs
     same_way (Asking x a low is on) sa (Silent low2 is2 on2) sb = cc
     same_way (Asking x a low is on) sa (Asking y b low2 is2 on2) sb = let same : b ≡ a = cc in same_way on sa.1 (rw same at on2) sb.1
 
-  -- it went anew, as far as it observes anything below a tick that it reached before
+  -- it ran again, as long as it only observes, below a tick that it reached before
   pub went_anew : (t : ℕ) {a : ℕ} {ask ask2 : Ask} {x : Station S} (y : Station S) {log : Log} → a ≤ t → t ≤ n → IsReached n ask t → IsOnWay m n from ask x
       → length log.list.items ≡ from.at.log.len → log.count ≡ from.at.log.count
       → HasObserved m Para n from.at.mark.readings a from.state log ask2 y.at.state y.log → IsOver from.at.mark.readings a ask2 → IsSettled m n from a ask2 y
@@ -199,7 +199,7 @@ module _ {S : Type 0} {m : Moves S} (lawful : IsLawful m) (n : ℕ) (from : Outs
           omega arith
       late w (Look u) h over = omega arith
 
--- it set out from the mark, and stands where the host let it
+-- it started at the mark, and is where the host's changes allow
 pub went : {S : Type 0} (m : Moves S) (lawful : IsLawful m) {n t : ℕ} {from : Outset S} (x : Station S) {y : Station S} {ask2 : Ask} {q : Carried}
     → x.at.pass.side ≡ Para → from.state ≡ x.at.state → take from.at.log.len y.log.list.items ≡ x.log.list.items → y.log.keep ≡ x.log.keep → from.at.log.count ≡ x.log.count
     → HasPassed (way_of m n from) t x.at.pass q → t ≤ n → y.at.pass ≡ q → IsSettled m n from q.known.trust ask2 y → MovedOn m n x ask2 y × (y.at.pass.ahead ≡ [])
@@ -273,7 +273,7 @@ further_on {n} {first} {mid} {last} {y} {z} p is f g =
       log = record { kept = log.kept ∙ f.log.kept; keep_is = log.keep_is ∙ f.log.keep_is };
     }
 
--- what was told of it stands where it went further
+-- what was published of it stays true as it continues
 pub told_on : {S : Type 0} {m : Moves S} {n : ℕ} {first second : Ask} {x y : Trip S} {w : Way} {t u : ℕ} {p q r : Carried} → HasGoneFurther m n first x second y → r ≡ q
     → IsReached n first t → IsReached n second u → HasTrusted w t p q → HasTrusted w u p r
 told_on {t = t} {u} gone same at_t at_u told =

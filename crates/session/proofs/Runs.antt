@@ -18,7 +18,8 @@ module _ {S : Type 0} (r : Moves S) (side : Side) (n : ℕ) (last : S) (P : S �
   by_steps (Silent {s = s} {events = a} low is on) = silent_step s a low is (by_steps on)
   by_steps (Asking {s = s} {others = a} q answer low is on) = asking_step s (event (r.due s) side q answer) a low refl refl is (by_steps on)
 
-  -- what holds at the end of a run, and before each step where it holds behind it, holds where it begins
+  -- what holds at the end of a run, and before each step if it holds after the step, holds at the
+  -- start
   pub along : (k : ℕ) (s : S) (a : List Event) → Runs r side n k s (course a last) → P s a
   along k s a h = by_steps (steps_of r side n k h)
 

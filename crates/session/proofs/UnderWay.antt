@@ -22,8 +22,8 @@ use Rattle.tube_party.proofs.Runs.{Over, Asking, SomeRuns, runs_of}
 use Rattle.session.proofs.Runs.{append, rises}
 use Rattle.session.proofs.Gone.{events_few}
 
--- From one place on the machine followed the events that were added to the pass's, up to this station, and these accesses were kept and counted. The pass's horizon
--- is neither above the next step nor above n.
+-- From one place on, the machine followed the events that were added to the pass's, and their
+-- accesses were stored and counted. The pass's horizon is neither above the next step nor above n.
 pub record IsThere {S : Type 0} (m : Moves S) (n keep : ℕ) (x0 : Place S) (x : Station S) : Type 0 where
   pub added : List Event
   pub runs : SomeRuns m x0.pass.side n x0.state added x.at.state
@@ -36,11 +36,11 @@ pub record IsThere {S : Type 0} (m : Moves S) (n keep : ℕ) (x0 : Place S) (x :
   pub next : own_horizon x.at.pass ≤ m.due x.at.state
   pub open_ : own_horizon x.at.pass ≤ n
 
--- a station of another state
+-- a side with another state
 abbrev pub in_state : {S : Type 0} → S → Station S → Station S
 in_state s x = record x { at = place s x.at.pass }
 
--- It is so up to the step that is asked next.
+-- It holds up to the step that asks next.
 pub record IsUnderWay {S : Type 0} (m : Moves S) (n keep : ℕ) (x0 : Place S) (ask : Ask) (x : Station S) : Type 0 where
   pub last : S
   pub there : IsThere m n keep x0 (in_state last x)

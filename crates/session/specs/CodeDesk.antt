@@ -1,4 +1,4 @@
--- The reads of status registers that are answered in passing.
+-- Reads of status registers that a port answers.
 use Rattle.std.specs.Prelude.{ℕ, ◌≡◌, ◌<◌, Some, List, [], ◌∷◌}
 use Rattle.beeb_bits.specs.declared.Side.{Side}
 use Rattle.tube_chip.specs.declared.Op.{Op}
@@ -8,7 +8,7 @@ use Rattle.tube_party.specs.Logs.{HasNoted}
 use Rattle.session.specs.declared.desk.StatusDesk.{StatusDesk}
 use Rattle.session.specs.CodeSight.{byte_seen}
 
--- The status registers of a side as they stay below a tick, and the log of its accesses.
+-- A side's status registers, which keep their bytes below a tick, and the log of its accesses.
 pub record Shown : Type 0 where
   pub side : Side
   pub status : List ℕ
@@ -18,7 +18,7 @@ pub record Shown : Type 0 where
 abbrev pub shown : StatusDesk → Shown
 shown d = record { side = d.side; status = d.status; below = (d.below).0; log = d.log }
 
--- A status register was read below that tick, and noted.
+-- A status register was read below tick `below`, and the read was noted.
 pub record IsRead (old : Shown) (tick : ℕ) (op : Op) (byte : ℕ) (new : Shown) : Type 0 where
   pub early : tick < old.below
   pub byte_is : byte_seen old.status op ≡ Some byte

@@ -1,4 +1,4 @@
--- How a side goes on past what it may answer itself.
+-- A side that continues past the queries that it may answer itself.
 use Rattle.std.specs.Prelude.{ℕ, ◌≡◌, ◌≤◌, List, [], ◌++◌}
 use Rattle.tube_chip.specs.Events.{Event}
 use Rattle.tube_trace.specs.Entries.{accesses}
@@ -9,8 +9,9 @@ use Rattle.tube_party.specs.Logs.{HasNoted}
 use Rattle.tube_side.specs.CodeSteps.{all_events, SameSeat, HasWaited}
 use Rattle.session.specs.CodeStation.{Station}
 
--- The steps that ask nothing were done, and with them observations that the pass's chip answers: they joined its unpublished events, and accesses among them were
--- noted. This is asked next, and neither that step nor n is below the pass's horizon.
+-- The party did steps that ask nothing, and observations that the pass's chip answers. These joined
+-- its unpublished events, and the accesses among them were noted. `ask` comes next. Its step and n
+-- are not below the pass's horizon.
 pub record GoneOn {S : Type 0} (m : Moves S) (n : ℕ) (x : Station S) (ask : Ask) (y : Station S) : Type 0 where
   pub events : List Event
   pub steps : ℕ
@@ -22,8 +23,9 @@ pub record GoneOn {S : Type 0} (m : Moves S) (n : ℕ) (x : Station S) (ask : As
   pub next : own_horizon y.at.pass ≤ m.due last
   pub open_ : own_horizon y.at.pass ≤ n
 
--- The steps that ask nothing were done, and with them some that the side answered itself, which were added to the pass's events; accesses among them were noted. This
--- is asked next, and neither that step nor n is below the pass's horizon.
+-- The party did steps that ask nothing, and steps that the side answered itself. These were added
+-- to the pass's events, and the accesses among them were noted. `ask` comes next. Its step and n
+-- are not below the pass's horizon.
 pub record MovedOn {S : Type 0} (m : Moves S) (n : ℕ) (x : Station S) (ask : Ask) (y : Station S) : Type 0 where
   pub added : List Event
   pub steps : ℕ

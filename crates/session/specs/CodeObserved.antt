@@ -1,4 +1,4 @@
--- What a party did that went on as far as it observes anything below a tick.
+-- A party that ran as long as it only observed, below a tick.
 use Rattle.std.specs.Prelude.{ℕ, ◌≡◌, ◌≤◌, ◌⊎◌, None, List}
 use Rattle.beeb_bits.specs.declared.Side.{Side}
 use Rattle.tube_chip.specs.Events.{Event}
@@ -12,7 +12,8 @@ use Rattle.tube_party.specs.Moves.{Moves, Runs, IsAsk, course}
 use Rattle.tube_party.specs.Logs.{HasNoted}
 use Rattle.session.specs.CodeSight.{byte_seen, readings_seen, IsSeen}
 
--- A party of a side went from one state to another, where this is asked: each query below the tick saw these readings, and accesses were noted.
+-- A party of a side went from state `old` to `new`, where `ask` comes next. All that it asked was
+-- below tick `t` and answered by readings `r`, and accesses were noted.
 pub record HasObserved {S : Type 0} (m : Moves S) (side : Side) (n : ℕ) (r : Readings) (t : ℕ) (old : S) (before : Log) (ask : Ask) (new : S) (after : Log) : Type 0 where
   pub events : List Event
   pub steps : ℕ
@@ -23,7 +24,7 @@ pub record HasObserved {S : Type 0} (m : Moves S) (side : Side) (n : ℕ) (r : R
   pub asked : IsAsk m n last ask new
   pub noted : HasNoted (accesses events) before after
 
--- what is asked is no query below the tick that the readings show
+-- `ask` is no query below tick t that the readings answer
 abbrev pub IsOver : Readings → ℕ → Ask → Type 0
 IsOver r t Nothing = Unit {0}
 IsOver r t (Access u op) = (t ≤ u.0) ⊎ (byte_seen r.status op ≡ None)

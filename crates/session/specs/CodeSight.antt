@@ -1,4 +1,4 @@
--- What a side observes that goes ahead.
+-- What a side observes that goes ahead on its own.
 use Rattle.std.specs.Prelude.{ℕ, zero, suc, ◌≡◌, ◌==◌, nat_lt, Option, None, Some, List, [], ◌∷◌, slice_index, if◌then◌else◌}
 use Rattle.beeb_bits.specs.declared.Side.{Side}
 use Rattle.tube_chip.specs.declared.Answer.{Answer}
@@ -11,11 +11,11 @@ use Rattle.tube_cell.specs.declared.local.Readings.{Readings}
 use Rattle.tube_party.specs.Moves.{Moves}
 use Rattle.tube_side.specs.CodeSteps.{event_at}
 
--- What each query sees that a side answers by itself.
+-- The answer to each query that a side answers itself.
 abbrev pub Sight : Type 0
 Sight = Query → Option Answer
 
--- the byte of a status register, which have the numbers 0, 2, 4 and 6
+-- the byte of a status register; they have the numbers 0, 2, 4 and 6
 abbrev pub byte_seen : List ℕ → Op → Option ℕ
 byte_seen status (Read number) =
     if number == 0 then Some (slice_index status 0)
@@ -30,22 +30,23 @@ abbrev pub byte_answer : Option ℕ → Option Answer
 byte_answer None = None
 byte_answer (Some b) = Some (Byte b)
 
--- What a side sees of a chip with these readings: the lines, and its status registers.
+-- The answers of a chip with these readings: the lines, and the status registers.
 abbrev pub readings_seen : Readings → Sight
 readings_seen r look = Some (Seen r.lines)
 readings_seen r (access op) = byte_answer (byte_seen r.status op)
 
--- a query that is answered joins what is observed later; after one that is not, there is nothing
+-- a query that is answered, and the observations after it; none if it is not answered
 abbrev pub joins : Side → ℕ → Query → (Answer → List Event) → Option Answer → List Event
 joins side t q later None = []
 joins side t q later (Some a) = event_at t side q a ∷ later a
 
--- by what a step at tick t asks
+-- the observations from a step at tick t on, which asks nothing or a query
 abbrev pub observed_by : Sight → Side → ℕ → List Event → (Answer → List Event) → Option Query → List Event
 observed_by v side t silent later None = silent
 observed_by v side t silent later (Some q) = joins side t q later (v q)
 
--- What is observed in at most so many steps below a limit, before the first query that is not answered by the side itself.
+-- The observations of at most `k` steps below a limit, before the first query that the side does
+-- not answer itself.
 abbrev pub observed_events : {S : Type 0} → Moves S → Side → Sight → ℕ → ℕ → S → List Event
 observed_events m side v limit zero s = []
 observed_events m side v limit (suc k) s =
@@ -53,7 +54,7 @@ observed_events m side v limit (suc k) s =
     observed_by v side (m.due s) (observed_events m side v limit k (m.next s None)) (λ a. observed_events m side v limit k (m.next s (Some a))) (m.asks s)
     else []
 
--- each event has the answer that its query sees
+-- each event has the answer to its query
 abbrev pub IsSeen : Sight → List Event → Type 0
 IsSeen v [] = Unit {0}
 IsSeen v (e ∷ events) = (v e.query ≡ Some e.answer) × IsSeen v events

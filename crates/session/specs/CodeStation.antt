@@ -11,11 +11,11 @@ pub record Place (S : Type 0) : Type 0 where
 abbrev pub place : {S : Type 0} → S → Carried → Place S
 place s p = record { state = s; pass = p }
 
--- Where a side stands, and the log of its accesses.
+-- A side's state at the cell, and the log of its accesses.
 pub record Station (S : Type 0) : Type 0 where
   pub at : Place S
   pub log : Log
 
--- that of a side whose machine's state this function tells
+-- that of a half, whose machine's state `state` gives
 abbrev pub station : {M S : Type 0} → (M → S) → Half M → Station S
 station state half = record { at = place (state half.machine) half.pass; log = half.log }

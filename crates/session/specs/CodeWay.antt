@@ -1,4 +1,4 @@
--- A way of the parasite ahead of the host.
+-- A speculation of the parasite ahead of the host.
 use Rattle.std.specs.Prelude.{ℕ, ◌≡◌, ◌+◌, ◌≤◌, List, length, take}
 use Rattle.beeb_bits.specs.declared.Side.TheVariants.{Para}
 use Rattle.tube_chip.specs.Events.{Event}
@@ -15,7 +15,7 @@ use Rattle.session.specs.CodeStation.{Station, station}
 use Rattle.session.specs.declared.half.Half.{Half}
 use Rattle.session.specs.declared.way.Checkpoint.{Checkpoint}
 
--- A party's state where it set out, and what was marked there.
+-- The party's state at the start of a speculation, and the checkpoint taken there.
 pub record Outset (S : Type 0) : Type 0 where
   pub state : S
   pub at : Checkpoint
@@ -23,26 +23,27 @@ pub record Outset (S : Type 0) : Type 0 where
 abbrev pub outset : {S : Type 0} → S → Checkpoint → Outset S
 outset s at = record { state = s; at = at }
 
--- what the party observes from there on, below a tick
+-- what the party observes from the start on, below tick t
 abbrev pub observed_past : {S : Type 0} → Moves S → ℕ → Outset S → ℕ → List Event
 observed_past m n from t = observed_events m Para (readings_seen from.at.mark.readings) t n from.state
 
 abbrev pub way_of : {S : Type 0} → Moves S → ℕ → Outset S → Way
 way_of m n from = record { tick = m.due from.state; readings = from.at.mark.readings; until = λ t. observed_past m n from t }
 
--- The tick of what is asked next, or n where nothing is.
+-- The tick of the next ask, or n if there is none.
 abbrev pub IsReached : ℕ → Ask → ℕ → Type 0
 IsReached n Nothing at = at ≡ n
 IsReached n (Access t op) at = at ≡ t.0
 IsReached n (Look t) at = at ≡ t.0
 
--- The accesses among these events were noted behind what was kept at the mark, and counted.
+-- The accesses among these events were noted after those stored at the mark, and counted.
 pub record IsNoted (mark : LogMark) (events : List Event) (log : Log) : Type 0 where
   pub kept : mark.len ≤ length log.list.items
   pub list_is : log.list.items ≡ note_all_leaves log.keep (take mark.len log.list.items) (accesses events)
   pub count_is : log.count ≡ mark.count + length (accesses events)
 
--- The party went from there, some way: each query saw what the mark shows, accesses were noted, and this is asked next.
+-- The party has run from the start: each query saw what the mark shows, accesses were noted, and
+-- `ask` comes next.
 pub record IsOnWay {S : Type 0} (m : Moves S) (n : ℕ) (from : Outset S) (ask : Ask) (y : Station S) : Type 0 where
   pub events : List Event
   pub steps : ℕ
@@ -53,7 +54,8 @@ pub record IsOnWay {S : Type 0} (m : Moves S) (n : ℕ) (from : Outset S) (ask :
   pub noted : IsNoted from.at.log events y.log
   pub few : from.at.log.count ≤ m.due from.state
 
--- It went to a tick, or further past what asks nothing: its observations are those below the tick, and this is asked next, no earlier.
+-- The party observed from the start exactly what lies below `t`, and noted it; its next step is at
+-- `t` or later, and `ask` is the next ask.
 pub record IsSettled {S : Type 0} (m : Moves S) (n : ℕ) (from : Outset S) (t : ℕ) (ask : Ask) (y : Station S) : Type 0 where
   pub steps : ℕ
   pub last : S
@@ -66,24 +68,25 @@ pub record IsSettled {S : Type 0} (m : Moves S) (n : ℕ) (from : Outset S) (t :
 abbrev pub IsNoEarlier : ℕ → Ask → Ask → Type 0
 IsNoEarlier n first second = (t u : ℕ) → IsReached n first t → IsReached n second u → t ≤ u
 
--- A side on its way: where it set out, and where it stands.
+-- A speculation in progress: its start, and the side's present state.
 pub record Trip (S : Type 0) : Type 0 where
   pub from : Outset S
   pub here : Station S
 
--- that of a side whose machine's state and what it goes back to these functions tell
+-- that of a half: `state` gives its machine's state, and `before` the machine after a rollback
 abbrev pub trip : {M P S : Type 0} → (M → S) → (P → M → M) → P → Half M → Checkpoint → Trip S
 trip state before past half at = record { from = outset (state (before past half.machine)) at; here = station state half }
 
 abbrev pub IsOnTrip : {S : Type 0} → Moves S → ℕ → Ask → Trip S → Type 0
 IsOnTrip m n ask x = IsOnWay m n x.from ask x.here
 
--- what was noted before the mark is still there
+-- what was stored before the mark is unchanged
 pub record IsStillThere (mark : LogMark) (x y : Log) : Type 0 where
   pub kept : take mark.len y.list.items ≡ take mark.len x.list.items
   pub keep_is : y.keep ≡ x.keep
 
--- It asked this and went on, or stayed: then it asks this, and would go back to where it would have gone back before.
+-- The side went on from `first`, or stayed. It now asks `second`, and would be rolled back to the
+-- state of its start, as before.
 pub record HasGoneFurther {S : Type 0} (m : Moves S) (n : ℕ) (first : Ask) (x : Trip S) (second : Ask) (y : Trip S) : Type 0 where
   pub way : IsOnTrip m n second y
   pub further : IsNoEarlier n first second

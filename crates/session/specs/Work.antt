@@ -9,8 +9,9 @@ use Rattle.tube_party.specs.Moves.{Moves, Follows}
 use Rattle.tube_side.specs.CodeSteps.{SamePass}
 use Rattle.session.specs.CodeStation.{Place, Station}
 
--- A side may be run up to n, which is at most 2^30, at this cell: its machine may play the pass's side; its next step and n are not below the pass's own horizon,
--- and nothing is unpublished or on trust; nothing was kept or counted yet.
+-- A side may be run up to n, at most 2^30, at this cell: its machine may play the pass's side. Its
+-- next step and n are not below the pass's own horizon. Nothing is unpublished or speculative, and
+-- nothing was stored or counted yet.
 pub record MayWork {S : Type 0} (m : Moves S) (plays : Side → Bool) (cell : TableId) (n : ℕ) (x : Station S) : Type 0 where
   pub ticks : n ≤ 2 ^ 30
   pub cell_is : x.at.pass.cell ≡ cell
@@ -22,8 +23,9 @@ pub record MayWork {S : Type 0} (m : Moves S) (plays : Side → Bool) (cell : Ta
   pub none_kept : x.log.list.items ≡ []
   pub none_counted : x.log.count ≡ 0
 
--- The machine followed the events that joined the pass's list, up to n, which is the pass's horizon: the other side waits for nothing more. The first `keep` accesses of
--- these are kept, and all are counted.
+-- The machine followed the events that joined the pass's list, up to n. The pass's horizon is n, so
+-- the other side need not wait for it any more. The first `keep` accesses among the events are
+-- stored, and all are counted.
 pub record HasWorked {S : Type 0} (m : Moves S) (n keep : ℕ) (x : Place S) (y : Station S) : Type 0 where
   pub added : List Event
   pub events : y.at.pass.events ≡ x.pass.events ++ added

@@ -1,4 +1,4 @@
-//! The work of the parasite's thread: it goes ahead of the host on trust.
+//! The work of the parasite's thread, which speculates ahead of the host.
 ghost use Rattle.std.specs.Prelude.{◌≡◌, ◌≤◌, ◌<◌, ◌^◌, [], true, IsTrue, IfSome, IfNone, length};
 ghost use Rattle.beeb_bits.specs.declared.Side.TheVariants.{Para};
 ghost use Rattle.tube_cell.specs.Passes.{own_horizon};
@@ -22,8 +22,10 @@ use tube_chip::Op;
 use tube_party::{Ask, MOST, Rewinds};
 use tube_side::{Ahead, Mark, Pause, finish, tell_first, wait_passed};
 
-/// Runs the parasite's machine for the ticks below `n`, each of its steps that asks at the shared cell. Below the host's
-/// horizon it works as `drive` does. Past it, it goes ahead in strides, as if the host changed nothing that it observes, and is rolled back where it does.
+/// Runs the parasite's machine for the ticks below `n`, with each of its steps that asks done at
+/// the shared cell. Below the host's horizon it works as `drive` does. Past that horizon it
+/// speculates, in strides, that the host changes nothing that it observes, and is rolled back if
+/// the host does.
 pub fn drive_ahead<M: Rewinds, R: Wait>(
     rt: &R,
     cell: &TubeCell,
@@ -62,8 +64,9 @@ pub fn drive_ahead<M: Rewinds, R: Wait>(
     unreachable!()
 }
 
-// Goes ahead on trust. None, and no step was done, where the host's horizon admits the step, where it is an access that the host has to
-// see, where the machine cannot note what it does, or where the host changed meanwhile what is observed.
+// Speculates past the host's horizon. Returns `None`, with no step done, if the host's horizon
+// admits the step, if the step is an access that must wait for the host, if the machine cannot note
+// its steps or gets no further, or if the host changed what was observed.
 fn go_past<M: Rewinds, R: Wait>(
     rt: &R,
     cell: &TubeCell,
@@ -104,7 +107,7 @@ fn go_past<M: Rewinds, R: Wait>(
     go_ahead::<Brand, M, R>(rt, cell, half, past, n, &from, stride, pause)
 }
 
-// A look, or a read of a status register.
+// Returns `true` for a look and for a read of a status register.
 fn is_observed(ask: Ask) -> bool {
     match ask {
         Ask::Nothing => false,
@@ -116,8 +119,10 @@ fn is_observed(ask: Ask) -> bool {
     }
 }
 
-// Goes ahead from the mark, stride by stride, while the chip shows what it showed there. Waits until the host is past, or is rolled back to where the host
-// changed it. None, and nothing was done: no room to note it, nowhere to go, or the host was first.
+// Speculates from the checkpoint, stride by stride, while the chip shows what it showed there. Then
+// waits for the host, and rolls the machine back if the host changed what was observed. Returns
+// `None`, with nothing done, if the machine cannot note its steps or gets no further, or if the
+// host changed what was observed before anything was published.
 fn go_ahead<W: Ahead, M: Rewinds, R: Wait>(
     rt: &R,
     cell: &TubeCell,

@@ -1,4 +1,4 @@
-//! What answers a machine's reads of status registers in passing.
+//! A port that answers a machine's reads of status registers without stopping the machine.
 ghost use Rattle.std.specs.Prelude.{◌≡◌, ◌≤◌, ◌<◌, ◌^◌, ◌⊎◌, None, IfSome, IfNone};
 ghost use Rattle.session.specs.CodeSight.{byte_seen};
 
@@ -9,7 +9,7 @@ use tube_chip::Op;
 use tube_party::{Desk, Log};
 use tube_trace::Entry;
 
-/// The status registers of a side as they stay below a tick, with the log of its accesses.
+/// A side's status registers, which keep their bytes below a tick, and the log of its accesses.
 #[derive(Drop)]
 pub(crate) struct StatusDesk {
     pub(crate) side: Side,
@@ -19,13 +19,13 @@ pub(crate) struct StatusDesk {
     pub(crate) log: Log,
 }
 
-/// A log of so many accesses takes no more in passing.
+/// A log that has counted `MOST_COUNT` accesses gets no further one from the port.
 const MOST_COUNT: u64 = 1 << 62;
 
 impl StatusDesk {
     ghost use Rattle.session.specs.CodeDesk.{shown, IsRead};
 
-    /// The registers as these readings show them, with this log, which the desk has meanwhile.
+    /// Makes a port for the registers as `readings` show them. The port holds the log meanwhile.
     pub(crate) fn take(log: &mut Log, side: Side, readings: &Readings, below: Tick) -> StatusDesk
         ensures { shown result ≡ record { side = side; status = readings.now.status; below = below.0; log = log.old } }
     {
@@ -37,7 +37,8 @@ impl StatusDesk {
         }
     }
 
-    /// Reads one of the registers below the tick, and notes that. None, and nothing was done, of any other access.
+    /// Reads one of the registers at a tick below `below`, and notes the read. Returns `None`,
+    /// unchanged, for any other access, or if the log has counted `MOST_COUNT` accesses.
     #[inline(always)]
     pub(crate) fn read(&mut self, tick: Tick, op: Op) -> Option<u8>
         ensures read { IfSome result (λ byte. IsRead (shown self.old) tick.0 op byte (shown self.new)) }
@@ -84,7 +85,7 @@ impl Desk for StatusDesk {
         self.read(tick, op)
     }
 
-    // A status register shows the same again and again.
+    // A status register has one byte at all ticks below `below`.
     #[inline(always)]
     fn again(&mut self, tick: Tick, op: Op, byte: u8, period: u64, most: u64) -> u64 {
         let mut times = 0;

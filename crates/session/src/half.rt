@@ -1,4 +1,4 @@
-//! The work of one thread.
+//! One side, and the work of the host's thread.
 ghost use Rattle.std.specs.Prelude.{◌≡◌, ◌≤◌, ◌<◌, ◌^◌, [], IsTrue};
 ghost use Rattle.tube_cell.specs.Passes.{own_horizon};
 ghost use Rattle.tube_party.specs.Turn.{IsPending};
@@ -24,8 +24,9 @@ pub struct Half<M> {
     pub log: Log,
 }
 
-/// Runs the machine for the ticks below `n`, each of its steps that asks at the shared cell. Its log has room for the accesses that are kept. What the other
-/// side's bound admits is answered with no word to it, and published where the next step is not admitted.
+/// Runs the machine for the ticks below `n`, with each of its steps that asks done at the shared
+/// cell. Its log has room for the accesses that are stored. A step that the other side's bound
+/// admits is done without an exchange; it is published when a later step is not admitted.
 pub fn drive<M: Party, R: Wait>(rt: &R, cell: &TubeCell, half: &mut Half<M>, n: Tick)
     requires may { MayWork M.moves M.plays cell.now n.0 (station M.state half.old) }
     ensures worked { HasWorked M.moves n.0 half.old.log.keep (station M.state half.old).at (station M.state half.new) }
@@ -40,7 +41,7 @@ pub fn drive<M: Party, R: Wait>(rt: &R, cell: &TubeCell, half: &mut Half<M>, n: 
     finish(rt, cell, &mut half.pass, n);
 }
 
-/// The tick of the step that is asked next. A party that asks is quiet up to that step.
+/// Returns the tick of the step that asks next. A party that asks is quiet up to that step.
 pub(crate) fn next_tick<M: Party>(machine: &M, n: Tick, ask: Ask) -> Tick
     requires { IsPending M.moves n.0 (M.state machine.now) ask }
     ensures { result.0 ≡ M.moves.due (M.state machine.now) }
@@ -48,7 +49,8 @@ pub(crate) fn next_tick<M: Party>(machine: &M, n: Tick, ask: Ask) -> Tick
     Tick(machine.quiet().0.min(n.0))
 }
 
-/// Does the step that asks, once the other side admits it. `is_published`: the pass has nothing unpublished.
+/// Does the step that asks, after the other side admits it. `is_published`: the pass has nothing
+/// unpublished.
 pub(crate) fn step_when_admitted<M: Party, R: Wait>(
     rt: &R,
     cell: &TubeCell,

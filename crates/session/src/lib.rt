@@ -1,4 +1,5 @@
-//! Both machines at once: each in a thread of its own, with the Tube chip in the cell that both share; the parasite's goes ahead of the host.
+//! Both machines at once, each in its own thread, with the Tube chip in the cell that both share.
+//! The parasite's machine speculates ahead of the host.
 #![tactic(auto)]
 
 mod ahead;

@@ -1,4 +1,4 @@
-//! How a side goes on by itself, as far as the other side lets it.
+//! Lookahead: a side runs on its own up to the other side's bound.
 ghost use Rattle.std.specs.Prelude.{◌≡◌, ◌≤◌, ◌+◌, ℕ, []};
 ghost use Rattle.tube_cell.specs.Views.{AllBelow, slack, shown_to};
 ghost use Rattle.tube_cell.specs.Passes.{own_horizon, here, bound_here, after_add};
@@ -14,7 +14,8 @@ use std::sync::Wait;
 use tube_cell::{Deeds, Pass, Readings, TubeCell};
 use tube_party::{Ask, MOST, Party};
 
-// What the machine will observe below `end`, before anything else, joins the pass's unpublished events.
+// Adds the machine's next observations below `end`, up to its first other ask, to the pass's
+// unpublished events.
 fn see_next<D: Deeds, M: Party, R: Wait>(
     rt: &R,
     cell: &TubeCell,
@@ -35,8 +36,8 @@ fn see_next<D: Deeds, M: Party, R: Wait>(
     cell.see_all::<D, R>(rt, pass, end);
 }
 
-/// Does the machine's steps that ask nothing, and the looks and the reads of status registers that the other side's bound admits, up to the first step
-/// that asks for more.
+/// Does the machine's steps that ask nothing, and the looks and the reads of status registers that
+/// the other side's bound admits. Returns what the first step asks that asks for more.
 pub(crate) fn advance_to_ask<M: Party, R: Wait>(
     rt: &R,
     cell: &TubeCell,
@@ -59,7 +60,7 @@ pub(crate) fn advance_to_ask<M: Party, R: Wait>(
     observe(rt, half, side, n, &readings, end)
 }
 
-// The tick below which the other side's bound admits looks.
+// Returns the tick up to which the other side's bound admits looks, itself excluded.
 fn sure_of(side: Side, bound: Tick) -> Tick
     ensures { result.0 + slack side ≤ bound.0 + 1 }
 {

@@ -1,4 +1,4 @@
-//! How a party goes on as far as it observes what is shown to it: the lines, and its status registers.
+//! Runs a party as long as it only observes what it is shown: the lines, and its status registers.
 ghost use Rattle.std.specs.Prelude.{◌≡◌, ◌≤◌};
 ghost use Rattle.session.specs.CodeObserved.{HasObserved, IsOver};
 
@@ -10,7 +10,8 @@ use tube_cell::Readings;
 use tube_chip::{Answer, Lines};
 use tube_party::{Ask, MOST, Party};
 
-// Goes on with the registers of the desk and these lines, as long as they stay.
+// Runs the machine with `lines` and the port's registers, as long as they stay. Returns the next
+// ask.
 fn observe_at<M: Party, R: Wait>(
     rt: &R,
     machine: &mut M,
@@ -38,7 +39,8 @@ fn observe_at<M: Party, R: Wait>(
     unreachable!()
 }
 
-/// Goes on as far as the machine observes anything below tick `end`, as these readings show it. What is asked then.
+/// Runs the machine as long as it only observes, below tick `end`, what `readings` show. Returns
+/// the next ask.
 pub(crate) fn observe<M: Party, R: Wait>(
     rt: &R,
     half: &mut Half<M>,

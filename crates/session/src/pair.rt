@@ -1,4 +1,4 @@
-//! Both machines beside each other.
+//! Both machines, in two threads.
 ghost use Rattle.std.specs.Prelude.{◌≡◌, ◌≤◌, ℕ, true, [], Err, IfOk, IfSome, IsErr};
 ghost use Rattle.std.specs.Arc.{arc_value};
 ghost use Rattle.beeb_bits.specs.declared.Side.TheVariants.{Host, Para};
@@ -23,18 +23,19 @@ use std::thread::Threads;
 use tube_cell::{Pass, TubeCell, Whole};
 use tube_party::{Done, Log, MOST, Party, Rewinds, legal_merge_is_reference};
 
-/// Why two parties were not run.
+/// The reason why two parties were not run.
 #[derive(Drop)]
 pub enum PairError<H, P> {
     /// The crew started no thread. Both parties are dropped.
     NoThread,
-    /// There was no memory. No step was done, and both parties are handed back as they were.
+    /// Out of memory. No step was done, and both parties are returned as they were.
     NoMemory { host: H, para: P },
 }
 
 type Shared = Arc<TubeCell, Global>;
 
-// All memory of a run: the cell, held by each side and by the caller, room for what is kept of each side, and for what the parasite's machine notes.
+// All memory of a run: the cell, held by each side and by the caller; room for the stored accesses
+// of each side; and room for the undo notes of the parasite's machine.
 #[derive(Drop)]
 struct Supplies<P: Rewinds> {
     cell: Shared,
@@ -70,12 +71,14 @@ fn take_supplies<P: Rewinds>(alloc: Global, keep: u32) -> Option<Supplies<P>>
     })
 }
 
-/// Runs two parties at one chip for the ticks below `n`, each in a thread of its own, with what `solo` gives of the same two: what the
-/// reference run does, however the threads take turns. Of each side's accesses the first `keep` are kept. All memory is taken before the
-/// threads start. May wait for a thread, and what is promised holds if it returns.
+/// Runs two parties at one chip for the ticks below `n`, each in its own thread. The result is that
+/// of the reference run, as that of `solo` is, however the threads are scheduled. The first `keep`
+/// accesses of each side are stored. All memory is taken before the threads start. The call may
+/// wait for a thread; what it promises holds if it returns.
 ///
 /// # Errors
-/// `NoThread` where the crew counted a fault, and `NoMemory` before any step.
+///
+/// `NoThread`, only if the crew counted a fault; `NoMemory`, before any step.
 pub fn run_pair<C: Crew, H: Party + Send, P: Rewinds + Send, R: Threads + Wait + Sync>(
     rt: &R,
     alloc: Global,
@@ -102,9 +105,11 @@ where
     run_pair_by(rt, alloc, crew, host, para, n, keep, USUAL)
 }
 
-/// The same, with strides of these lengths. No promise depends on them: short ones show in a test what long ones hide.
+/// Does what `run_pair` does, with strides of the lengths `strides`. No promise depends on them:
+/// tests use short strides to reach cases that long ones rarely reach.
 ///
 /// # Errors
+///
 /// As of `run_pair`.
 pub fn run_pair_by<C: Crew, H: Party + Send, P: Rewinds + Send, R: Threads + Wait + Sync>(
     rt: &R,
@@ -158,7 +163,7 @@ where
     }
 }
 
-// The work of one side.
+// Makes the job of one side.
 fn job<M>(machine: M, pass: Pass, log: Log, cell: Shared, n: Tick) -> SideJob<M>
     ensures machine { result.half.machine ≡ machine }
     ensures pass { result.half.pass ≡ pass }
@@ -173,7 +178,8 @@ fn job<M>(machine: M, pass: Pass, log: Log, cell: Shared, n: Tick) -> SideJob<M>
     }
 }
 
-// Both sides at their end: since the merge of their lists is legal, they are what the reference run leaves.
+// Joins both sides at their end. The merge of their lists is legal, so the result is that of the
+// reference run.
 fn joined<H: Party, P: Party, R: Wait>(
     rt: &R,
     cell: &TubeCell,

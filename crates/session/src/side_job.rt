@@ -15,7 +15,7 @@ use std::sync::{Arc, Wait};
 use tube_cell::TubeCell;
 use tube_party::{Party, Rewinds};
 
-/// One side that is to be run for the ticks below `n`, at a cell that both sides hold.
+/// One side to be run for the ticks below `n`, at a cell that both sides hold.
 #[derive(Drop)]
 pub(crate) struct SideJob<M> {
     pub(crate) half: Half<M>,
@@ -37,7 +37,7 @@ impl<M: Party + Send> Job for SideJob<M> {
     }
 }
 
-/// The parasite's side, which goes ahead on trust, with room for what its machine notes.
+/// The parasite's side, which speculates, with room for its machine's undo notes.
 #[derive(Drop)]
 pub(crate) struct AheadJob<M: Rewinds> {
     pub(crate) side: SideJob<M>,

@@ -5,7 +5,8 @@ ghost use Rattle.session.specs.CodeSight.{byte_seen};
 
 use tube_chip::Op;
 
-/// What a side reads at this register, where that is one of its status registers, which have these bytes.
+/// Returns the byte that `op` reads, if it reads one of the side's status registers. Their bytes
+/// are `status`.
 pub(crate) fn byte_of(status: &[u8; 4], op: Op) -> Option<u8>
     ensures { result ≡ byte_seen status.now op }
 {

@@ -1,4 +1,4 @@
-//! How far the parasite goes ahead of the host at a time.
+//! Lengths of the parasite's strides ahead of the host.
 use beeb_bits::Tick;
 
 /// The lengths of strides, in ticks. No promise depends on them.
@@ -6,15 +6,16 @@ use beeb_bits::Tick;
 pub struct Strides {
     /// The first stride from a mark.
     pub first: u64,
-    /// The fewest ticks of a stride, and of what is gone from one mark.
+    /// The fewest ticks of a stride, and of all strides from one mark.
     pub fewest: u64,
     /// The most ticks of a stride.
     pub most: u64,
-    /// The most ticks from one mark.
+    /// The most ticks of all strides from one mark.
     pub span: u64,
 }
 
-// In ticks: the first stride from a mark, the fewest and the most of one, and the most from one mark.
+// In ticks: the first stride from a mark, the fewest and the most of one stride, and the most of
+// all strides from one mark.
 const FIRST: u64 = 128;
 
 const FEWEST: u64 = 64;
@@ -31,12 +32,13 @@ pub const USUAL: Strides = Strides {
     span: SPAN,
 };
 
-/// The length of the next stride, and how far one goes from a mark. Both grow while the host takes nothing back.
+/// The length of the next stride, and of all strides from one mark. Both grow while the host forces
+/// no rollback.
 #[derive(Drop)]
 pub(crate) struct Stride {
     lengths: Strides,
     ticks: u64,
-    // No stride is longer than this for now.
+    // The present upper limit of a stride.
     cap: u64,
     span: u64,
 }
@@ -51,36 +53,36 @@ impl Stride {
         }
     }
 
-    /// From a new mark: the tick that ends its first stride.
+    /// Starts from a new mark. Returns the tick that ends its first stride.
     pub(crate) fn set_out(&mut self, mark: Tick) -> Tick {
         self.ticks = self.lengths.first.min(self.cap);
         self.end(mark)
     }
 
-    /// Where the next stride from there ends.
+    /// Returns the tick that ends the next stride, which starts at `from`.
     pub(crate) fn end(&self, from: Tick) -> Tick {
         Tick(from.0.saturating_add(self.ticks))
     }
 
-    /// Where one has gone far enough from this mark.
+    /// Returns the limit of the strides from `mark`: none starts at that tick or later.
     pub(crate) fn limit(&self, mark: Tick) -> Tick {
         Tick(mark.0.saturating_add(self.span))
     }
 
-    /// A stride was made: the next is longer.
+    /// Records a stride that was done: the next is longer.
     pub(crate) fn is_made(&mut self) {
         let cap = self.cap.saturating_add(self.cap / 4 + 1);
         self.cap = cap.min(self.lengths.most);
         self.ticks = self.ticks.saturating_mul(2).min(self.cap);
     }
 
-    /// All from a mark stands.
+    /// Records that all strides from a mark were confirmed.
     pub(crate) fn stands(&mut self) {
         let span = self.span.saturating_add(self.span / 4 + 1);
         self.span = span.min(self.lengths.span);
     }
 
-    /// The host took back what was done so many ticks after the mark.
+    /// Records a rollback: only the given number of ticks after the mark was confirmed.
     pub(crate) fn is_cut(&mut self, way: u64) {
         let fewest = self.lengths.fewest;
         self.span = (way / 2).max(fewest).min(self.lengths.span);

@@ -1,4 +1,5 @@
-//! How the parasite's machine goes ahead of the host, in strides from one mark, and comes back where the host changed what it observed.
+//! The parasite's machine ahead of the host: it runs in strides from one checkpoint, and is rolled
+//! back if the host changes what it observed.
 ghost use Rattle.std.specs.Prelude.{◌≡◌, ◌≤◌, ℕ, take, length, IfSome, IfNone};
 ghost use Rattle.beeb_bits.specs.declared.Side.TheVariants.{Para};
 ghost use Rattle.tube_cell.specs.Passes.{Carried};
@@ -18,14 +19,14 @@ use tube_cell::TubeCell;
 use tube_party::{Ask, LogMark, MOST, Rewinds};
 use tube_side::{Ahead, Mark, tell_more};
 
-/// Where a way ahead begins, and how far the log was written there.
+/// A checkpoint: the start of a speculation, and the end of the log there.
 #[derive(Drop)]
 pub(crate) struct Checkpoint {
     pub(crate) mark: Mark,
     pub(crate) log: LogMark,
 }
 
-/// How far a party has gone whose next ask below n this is.
+/// Returns the tick that a party has reached whose next ask below `n` is `ask`.
 pub(crate) fn reached(n: Tick, ask: Ask) -> Tick
     ensures { IsReached n.0 ask result.0 }
 {
@@ -35,7 +36,9 @@ pub(crate) fn reached(n: Tick, ask: Ask) -> Tick
     }
 }
 
-/// The first stride, up to tick `end`, as long as the mark shows what the machine asks. None, and it is where it was, where it cannot note that.
+/// Runs the first stride, up to tick `end`, while the mark shows what the machine asks for. Returns
+/// the next ask. Returns `None`, with machine and log unchanged, if the machine cannot note its
+/// steps.
 pub(crate) fn set_out<M: Rewinds>(
     half: &mut Half<M>,
     past: &mut M::Past,
@@ -59,7 +62,8 @@ pub(crate) fn set_out<M: Rewinds>(
     ask
 }
 
-/// One stride: the machine goes on from what is asked next, up to tick `end`, as long as the mark shows what it asks. What is asked then.
+/// Runs one stride from `ask` on, up to tick `end`, while the mark shows what the machine asks for.
+/// Returns the next ask.
 fn stride_to<M: Rewinds>(
     half: &mut Half<M>,
     past: &mut M::Past,
@@ -84,8 +88,8 @@ fn stride_to<M: Rewinds>(
     next
 }
 
-/// Makes one stride after the other from the mark, and tells each, until the machine goes no further from it, or the chip shows something else. What is asked
-/// then.
+/// Runs strides from the mark and publishes each, until the span is used up, the machine gets no
+/// further, or the chip no longer shows what was observed. Returns the next ask.
 pub(crate) fn strides_on<W: Ahead, M: Rewinds, R: Wait>(
     rt: &R,
     cell: &TubeCell,
@@ -129,8 +133,9 @@ pub(crate) fn strides_on<W: Ahead, M: Rewinds, R: Wait>(
     unreachable!()
 }
 
-/// A party that went ahead up to tick t, of which what lies below `trust` stands: it stays where it is, or is rolled back to its mark, and
-/// goes to that tick anew.
+/// Settles a speculation that reached tick `t` and is confirmed below `spec_horizon`. If both are
+/// equal, the machine stays. Otherwise it is rolled back to its mark, and runs up to `spec_horizon`
+/// again. Returns the next ask.
 pub(crate) fn roll_back<M: Rewinds, R: Wait>(
     rt: &R,
     half: &mut Half<M>,
