@@ -77,7 +77,6 @@ fn take_supplies<P: Rewinds>(alloc: Global, keep: u32) -> Option<Supplies<P>>
 /// wait for a thread; what it promises holds if it returns.
 ///
 /// # Errors
-///
 /// `NoThread`, only if the crew counted a fault; `NoMemory`, before any step.
 pub fn run_pair<C: Crew, H: Party + Send, P: Rewinds + Send, R: Threads + Wait + Sync>(
     rt: &R,
@@ -109,7 +108,6 @@ where
 /// tests use short strides to reach cases that long ones rarely reach.
 ///
 /// # Errors
-///
 /// As of `run_pair`.
 pub fn run_pair_by<C: Crew, H: Party + Send, P: Rewinds + Send, R: Threads + Wait + Sync>(
     rt: &R,
