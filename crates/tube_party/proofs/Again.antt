@@ -1,4 +1,4 @@
--- The same answer again and again, of a chip that is left alone.
+-- Repeated equal answers of a chip that is not changed.
 use Rattle.std.proofs.Common.{ℕ, zero, suc, ◌≡◌, ◌+◌, ◌*◌, refl, sym, subst, arith}
 use Rattle.std.specs.Prelude.{Bool}
 use Rattle.tube_chip.specs.State.{State}
@@ -23,7 +23,7 @@ module _ {D : Type 0} (answers : D → ℕ → Op → ℕ → D → Type 0) (op 
       let here : t + period * suc k + period ≡ t + period + period * k + period = omega (arith, period-more k) in
       (again.0, (again.1.0, again-more k again.0 (t + period) f e again.1.1 (rw here at h)))
 
-  -- the same, told by when the next is due
+  -- as above, by the tick of the next one
   pub again-on : (k : ℕ) (d : D) (t : ℕ) {at : ℕ} {f e : D} → IsAnsweredAgain answers op byte period k d t f → at ≡ t + period * k + period → answers f at op byte e
       → IsAnsweredAgain answers op byte period (k + 1) d t e × (at + period ≡ t + period * (k + 1) + period)
   again-on k d t {at} {f} {e} again here h =

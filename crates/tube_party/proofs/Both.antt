@@ -29,7 +29,7 @@ use Rattle.tube_party.proofs.UnderWay.{Run, Part, part, seated, onward, IsAt, Is
 use Rattle.tube_party.proofs.Early.{alike, like_on, no_access, like_ticks, IsEarly, early_host, free_look, para_does}
 use Rattle.tube_party.proofs.First.{IsFirst, host_first, para_first, not_first, none_left}
 
--- a party whose machine went on
+-- a party whose machine continued
 abbrev pub moved : {S : Type 0} → Part S → S → Part S
 moved a s = part s a.list a.count
 
@@ -40,7 +40,7 @@ left_as a b c = record { host = a.state; para = b.state; chip = c; host_list = a
 ticks_are : {S : Type 0} (r : Moves S) (n : ℕ) (last s : S) (ask : Ask) → IsAsk r n last ask s → ticks_left n ask ≡ n - r.due last
 ticks_are r n last s ask h = grind arith
 
--- what is left of the ticks of the parasite's ask, or of where it can be rolled back to: being rolled back leaves less
+-- the ticks left of the parasite's ask, or of its rollback point: a rollback leaves fewer
 abbrev pub rest_of : {T : Type 0} → Moves T → ℕ → Bool → T → Ask → ℕ
 rest_of p n true mark ask = (n - p.due mark) + (n - p.due mark) + 1
 rest_of p n false mark ask = ticks_left n ask + ticks_left n ask
@@ -52,7 +52,7 @@ kept_alike : {side : Side} {l m : List Event} {keep : ℕ} {list : List Entry} {
     → IsKept side l keep list count → IsKept side m keep list count
 kept_alike {keep = keep} same k = record { list_is = k.list_is ∙ ap (take keep) same; count_is = k.count_is ∙ ap length same }
 
--- looks that are sure by what a party asks come at most so many ticks behind its step
+-- looks that are safe by what a party asks come at most `tie_offset` ticks after its step
 pub in_time : {S : Type 0} (r : Moves S) (n slack sure : ℕ) (s last : S) (ask : Ask) → IsAsk r n last ask s → IsSure slack ask sure → (x : ℕ) → x < n → x < sure
     → x < r.due last + slack
 in_time r n slack sure s last ask is told x low early = grind arith
@@ -61,8 +61,8 @@ in_time r n slack sure s last ask is told x low early = grind arith
 pub stood : {S : Type 0} (r : Moves S) (n : ℕ) (last new : S) (ask : Ask) → IsAsk r n last ask new → ask ≢ Nothing → new ≡ last
 stood r n last new ask asked some = grind arith
 
--- The host's looks below a tick see the lines as the chip shows them: by what the parasite asks they come in time, or each sees the host's request alone,
--- and the chip enables none.
+-- The host's looks below a tick see the lines as the chip shows them: by what the parasite asks
+-- they come in time, or each sees the host's request alone, and the chip enables none.
 abbrev pub IsSeen : {S : Type 0} → Moves S → State → Ask → ℕ → Type 0
 IsSeen h c ask sure = IsSure 1 ask sure ⊎ (SeesHirqAlone h × (c.flags.q ≡ false))
 
@@ -81,7 +81,7 @@ module _ {S T : Type 0} (r : Run S T) where
   silent_para (Silent {s = t} low is on) none s c l = para_silent h p lh lp n 0 s t c l (omega arith) (omega arith) is ∙ silent_para on none s c l
   silent_para (Asking q a low is on) none s c l = cc
 
-  -- a party that is rolled back is ahead no more
+  -- a party that is rolled back is no longer ahead
   pub back_smaller : {far : ℕ} {mark last : T} {c : State} {entries : List Entry} (t : T) (ask ask2 : Ask) (ahead : Bool) → ahead ≡ true
       → IsWay p n far c mark last entries → IsAsk p n last ask2 t
       → rest_of p n false mark ask2 < rest_of p n ahead mark ask
@@ -90,11 +90,11 @@ module _ {S T : Type 0} (r : Run S T) where
       let rise = (course_of p lp n way.runs).few in
       omega (arith, ticks_are p n last t ask2 asked)
 
-  -- where each of the host's looks below a tick may be done at once
+  -- each of the host's looks below a tick may be done at once
   abbrev IsEarlyLook : ℕ → T → State → Type 0
   IsEarlyLook sure t c = (u : S) (l : List Event) → h.due u < n → h.due u < sure → h.asks u ≡ Some look → IsEarly h p lh lp n u t c look l
 
-  -- the reference goes on as behind them
+  -- the reference continues as it would after them
   host_saw : (c : State) {sure : ℕ} {last u : S} (t : T) (l : List Event) → IsEarlyLook sure t c → Glances h n (shown_lines (lines_of c) sure) last u
       → IsLike (onward r u t c l) (onward r last t c l)
   host_saw c t l early Here = alike refl
@@ -144,7 +144,8 @@ module _ {S T : Type 0} {r : Run S T} where
         para_few = omega arith;
       }) bp.asked
 
-  -- the parasite's way is the reference's where the host's next step does not come before what it asks
+  -- the parasite's steps ahead are the reference's, if the host's next step does not come before
+  -- what it asks
   pub catch_up : {far : ℕ} {ask_h : Ask} {a : Part S} {mark : Part T} {last : T} {c : State} {list entries : List Entry} {count : ℕ}
       (w : IsAt r ask_h a mark c) (way : IsWay p n far c mark.state last entries)
       → ((x : ℕ) → x < n → x < far → x < p.due last → x < h.due w.host_last)
@@ -167,21 +168,21 @@ module _ {S T : Type 0} {r : Run S T} where
         para_few = omega (arith, w.para_few, course.few, count_is, ap length way.noted);
       }
 
-  -- so are the parasite's looks that are sure by what the host asks
+  -- so are the parasite's looks that are safe by what the host asks
   pub goes_along : {until : ℕ} {ask_h : Ask} {a : Part S} {b : Part T} {c : State} {last : T} → IsAt r ask_h a b c → IsSure 0 ask_h until
       → Glances p n (shown_lines (lines_of c) until) last b.state → IsAt r ask_h a (moved b last) c
   goes_along {until} {ask_h} {a} w told looks =
       catch_up w (way_of_looks looks) (λ x low early _. omega (arith, in_time h n 0 until a.state w.host_last ask_h w.host_asked told x low early)) refl
       (omega arith)
 
-  -- and all of its way, where the host's step does not come first
+  -- and all its steps ahead, if the host's step does not come first
   pub settled : {ahead : Bool} {from : Mark T} {ask_h ask_p : Ask} {a : Part S} {b : Part T} {c : State} (w : IsGoing r ahead from ask_h ask_p a b c)
       → first_of ask_h ask_p ≢ Some Host → IsAt r ask_h a (moved b w.last) c
   settled {ask_h = ask_h} {ask_p} {a} {b} w never =
       catch_up w.at w.way (λ x low _ early. not_first h p n a.state w.at.host_last b.state w.last ask_h ask_p w.at.host_asked w.asked never x low early)
       w.list_is w.count_is
 
-  -- the parasite goes on from there, and is ahead, or where the reference is
+  -- the parasite continues from there, and is ahead, or where the reference is
   pub goes_on : {from : Mark T} {ask_h ask_p : Ask} {a : Part S} {mark b : Part T} {last : T} {c : State} {far : ℕ} {entries : List Entry} (ahead : Bool)
       (w : IsAt r ask_h a mark c) (way : IsWay p n far c mark.state last entries) → IsAsk p n last ask_p b.state
       → b.list ≡ note_all_leaves keep mark.list entries → b.count ≡ mark.count + length entries
@@ -205,7 +206,7 @@ module _ {S T : Type 0} {r : Run S T} where
   goes_on {b = b} {last = last} false w way asked list_is count_is back first =
       stands {b = moved b last} (catch_up w way (λ x low early _. first refl x low early) list_is count_is) asked
 
-  -- where it is rolled back to, the reference is
+  -- the reference is where the parasite is rolled back to
   pub rolled_back : {ahead : Bool} {from : Mark T} {ask_h ask_p : Ask} {a : Part S} {b : Part T} {c : State} {list : List Entry} {count : ℕ}
       → IsGoing r ahead from ask_h ask_p a b c → ahead ≡ true → list ≡ take from.len b.list → count ≡ from.count
       → IsAt r ask_h a (part from.state list count) c
@@ -279,7 +280,7 @@ module _ {S T : Type 0} {r : Run S T} {ahead : Bool} {from : Mark T} {ask_h ask_
       let on = glances_rise lh looks in
       omega arith
 
-  -- what the parasite saw stays as it is
+  -- what the parasite saw stays
   still_idle : (is_read : Bool) → (is_read ≡ false → ahead ≡ true → b.count ≡ from.count) → (ahead ≡ true → StaysSeen is_read c c2) → All (IsIdle c2) w.way.events
   still_idle is_read none stays = by ahead refl
     where
@@ -288,7 +289,7 @@ module _ {S T : Type 0} {r : Run S T} {ahead : Bool} {from : Mark T} {ask_h ask_
       by true is = seen_still is_read c c2 (stays is).0 (stays is).2 w.way.events w.way.idle
           (λ er. w.way.noted ∙ none_of w.entries (omega (arith, w.count_is, (w.back is).2, none er is)))
 
-  -- so its looks may be done at once where they come in time, or see its own request alone
+  -- so its looks may be done at once if they come in time, or see its own request alone
   early_look : All (IsIdle c2) w.way.events → IsSeen h c2 ask_p sure → IsEarlyLook r sure w.mark.state c2
   early_look still (inl told) = λ u l low early asks.
       early_host h p lh lp n u c2 look l low (omega (arith, in_time p n 1 sure b.state w.last ask_p w.asked told (h.due u) low early)) asks w.way.runs still still

@@ -40,7 +40,7 @@ own_at trace side n at d h own =
 
 -- the chip
 
--- an entry that comes before a look is done, one that doesn't is not, and no entry beyond it
+-- an entry that comes before a look is done, another is not, and no entry after it
 pub chip_past : (trace : List Entry) (side : Side) (t at : ℕ) (d : Entry) (c : State) → at < length trace
     → before (get_or trace at d).tick.0 (get_or trace at d).side t side ≡ true
     → chip_before side t c (drop at trace) ≡ chip_before side t (chip_after c (get_or trace at d).side (get_or trace at d).op) (drop (at + 1) trace)

@@ -1,6 +1,7 @@
--- A step of the host may come early, before steps of the parasite that see the chip behind it as they see it before it. The reference then goes on
--- alike, but for the order of the host's and the parasite's events in its list. So may a look of a host that sees its own request alone, while none is
--- enabled.
+-- A step of the host may come early, before steps of the parasite to which the chip shows the same
+-- before and after it. The reference then continues alike, but for the order of the host's and the
+-- parasite's events in its list. So may a look of a host that sees its own request alone, while
+-- none is enabled.
 use Rattle.std.proofs.Common.{ℕ, zero, suc, ◌≡◌, ◌+◌, ◌<◌, ◌≤◌, nat_eq, inl, inr, refl, sym, ◌∙◌, ap, arith, Bool, true, false, List, [], ◌∷◌, ◌++◌, append_assoc, Option, None, Some}
 use Rattle.std.specs.Prelude.{All, ◌&&◌, not}
 use Rattle.std.proofs.lemmas.List.{append-nil}
@@ -55,7 +56,7 @@ pub no_access : (l : List Event) (t : ℕ) (a : Answer) → SameAccesses (l ++ e
 no_access l t a Host = grows Host l (event t Host look a ∷ []) ∙ append-nil (accesses (of_side Host l))
 no_access l t a Para = grows Para l (event t Host look a ∷ []) ∙ append-nil (accesses (of_side Para l))
 
--- so that it may stand before others
+-- so it may come before others
 look_moved : (l more : List Event) (t : ℕ) (a b : Answer) → SameAccesses ((l ++ more) ++ event t Host look a ∷ []) ((l ++ event t Host look b ∷ []) ++ more)
 look_moved l more t a b side =
     no_access (l ++ more) t a side ∙ grows side l more
@@ -65,7 +66,7 @@ look_moved l more t a b side =
 none_asked : (c : State) → c.flags.q ≡ false → (lines_of c).hirq ≡ false
 none_asked c off = ap (λ b. b && not (is_empty c.to_host.r4)) off
 
--- what a step of a side does, whatever the list so far
+-- what a step of a side does, for any list before it
 record Form {S : Type 0} (m : Moves S) (side : Side) (k : ℕ) (s : S) (c : State) : Type 0 where
   state : S
   chip : State
@@ -85,7 +86,7 @@ form_of_step m side k s c true (Some x) d q = record {
 }
 
 module _ {S T : Type 0} (h : Moves S) (p : Moves T) (lh : IsLawful h) (lp : IsLawful p) where
-  -- a tick, whatever the list so far
+  -- a tick, for any list before it
   record TickForm (k : ℕ) (s : S) (t : T) (c : State) : Type 0 where
     host : S
     para : T
@@ -153,7 +154,7 @@ module _ {S T : Type 0} (h : Moves S) (p : Moves T) (lh : IsLawful h) (lp : IsLa
       ]
 
   module _ (n : ℕ) where
-    -- where the reference gets from there
+    -- where the reference arrives from there
     abbrev pub onward : S → T → State → List Event → World S T
     onward s t c l = ticks h p n 0 (world s t c l)
 
@@ -189,7 +190,7 @@ module _ {S T : Type 0} (h : Moves S) (p : Moves T) (lh : IsLawful h) (lp : IsLa
         alike (host_next h p lh lp n 0 s t c l (omega arith) (omega arith) first
         ∙ ap (λ o. ticks h p n 0 (host_done (step_leaves h Host (seat s c l) o) t)) asks)
 
-    -- where all of the parasite's steps before it see the chip behind it as they see it before it
+    -- if the chip shows all of the parasite's steps before it the same before and after it
     pub early_host : (s : S) {last t : T} (c : State) (q : Query) (l : List Event) {events : List Event} → h.due s < n → h.due s ≤ p.due last → h.asks s ≡ Some q
         → Steps p Para n last t events → All (IsIdle c) events → All (IsIdle (act c Host q).0) events → IsEarly s t c q l
     early_host s {last} c q l low first asks Over idle still = host_first s last c q l low first asks

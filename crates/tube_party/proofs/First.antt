@@ -34,7 +34,7 @@ record Waits {S : Type 0} (r : Moves S) (n : ℕ) (s last : S) (ask : Ask) (x : 
   tick : x ≡ r.due last
   below : r.due last < n
 
--- what is told of a party by its ask
+-- what an ask says of a party
 abbrev Told : {S : Type 0} → Moves S → ℕ → S → S → Ask → Option ℕ → Type 0
 Told r n s last ask None = n ≤ r.due last
 Told r n s last ask (Some x) = Waits r n s last ask x
@@ -42,7 +42,7 @@ Told r n s last ask (Some x) = Waits r n s last ask x
 told : {S : Type 0} (r : Moves S) (n : ℕ) (s last : S) (ask : Ask) → IsAsk r n last ask s → Told r n s last ask (asked_at ask)
 told r n s last ask a = grind arith
 
--- the ask is a pending one, and the other party's next step is at least `slack` ticks behind it
+-- the ask is pending, and the other party's next step is at least `tie_offset` ticks after it
 pub record IsFirst {S T : Type 0} (r : Moves S) (other : Moves T) (n slack : ℕ) (s last : S) (last2 : T) (ask : Ask) : Type 0 where
   pub pending : IsPending r n s ask
   pub here : s ≡ last

@@ -56,7 +56,7 @@ that_entry t side op a = let same : same_op op op ≡ true = op_same op in grind
 abbrev ending : {S : Type 0} → S → Ended S
 ending s = record { machine = s; place = None }
 
--- what is told of the machine at a place, if there is one
+-- what is said of the machine at a place, if there is one
 abbrev told_of : Option (ℕ × Option Doing) → Option Doing
 told_of None = None
 told_of (Some place) = place.1
@@ -111,7 +111,7 @@ module _ {S : Type 0} (m : Moves S) (lawful : IsLawful m) (side : Side) (trace :
     Finishes : n ≤ m.due last → e ≡ finish_leaves m n last left → Ending last left e
     Parts : (op : Op) (line : ℕ) → m.due last < n → m.asks last ≡ Some (access op) → Misses left (length trace) (m.due last) op line → e ≡ differs m side last op line → Ending last left e
 
-  -- the machine and the side's entries agree so far, and how it ends there
+  -- the machine and the side's entries agree up to a point, and how it ends there
   record Comes (s : S) (own : List Numbered) (e : Ended S) : Type 0 where
     pub events : List Event
     pub last : S

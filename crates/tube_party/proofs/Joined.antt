@@ -1,4 +1,5 @@
--- Two parties, each of which follows its side of a trace that the chip answers: the chip answers the merge of their lists too, and the trace is its accesses.
+-- If two parties each follow their side of a trace that the chip answers, the chip answers the
+-- merge of their lists too, and the trace is its accesses.
 use Rattle.std.proofs.Common.{ℕ, zero, suc, ◌≡◌, ◌+◌, ◌<◌, ◌≤◌, ◌⊎◌, inl, inr, refl, sym, ◌∙◌, ap, subst, arith, false, List, [], ◌∷◌, ◌++◌, length, None, Some}
 use Rattle.std.specs.Prelude.{All, IsTrue}
 use Rattle.std.proofs.lemmas.List.Elements.{All-nil, All-cons, All-head, All-tail, All-weaker, All-filter}
@@ -31,7 +32,8 @@ own_first side x trace is = rw (ap (is_side side) is ∙ side_self side) refl
 own_other : (side : Side) (x : Entry) (trace : List Entry) → is_side side x.side ≡ false → own side (x ∷ trace) ≡ own side trace
 own_other side x trace is = rw is refl
 
--- Events of one side, each before the next, whose accesses are the side's entries of a trace, and whose looks it answers, from chip c on.
+-- Events of one side, each before the next. Their accesses are the side's entries of a trace, and
+-- the trace answers their looks, from chip c on.
 pub record IsPart (side : Side) (c : State) (trace : List Entry) (l : List Event) : Type 0 where
   pub rises : Rises l
   pub each : All (IsOf side) l
@@ -55,7 +57,7 @@ IsAheadOf x (e ∷ trace) = IsAhead x e
 ahead_of_accesses : (x : Event) (l : List Event) → All (IsBefore x) l → All (IsAhead x) (accesses l)
 ahead_of_accesses x l all = placed (λ t side. IsTrue (before x.tick x.side t side)) l all
 
--- an entry comes before all that stand behind it
+-- an entry comes before all that follow it
 behind_entry : (e : Entry) (trace : List Entry) → RisesAfter (event_of e) (events_of trace) → All (IsAhead (event_of e)) trace
 behind_entry e trace rises =
     rw (accesses_back trace) at (ahead_of_accesses (event_of e) (events_of trace) (all_after (event_of e) (events_of trace) rises))
@@ -187,7 +189,7 @@ host_ahead t u a b ea eb le = grind (arith, nat_tests)
 ahead_below : (t u : ℕ) (a b : Side) → t < u → IsTrue (before t a u b)
 ahead_below t u a b lt = grind (arith, nat_tests)
 
--- and so it comes before all that come behind that
+-- and so it comes before all that follow that
 ahead_all : (x y : Event) (l : List Event) → IsBefore x y → RisesAfter y l → All (IsBefore x) (y ∷ l)
 ahead_all x y l first rises =
     All-cons (IsBefore x) y l first (All-weaker (IsBefore y) (IsBefore x) (λ f h. before-then x.tick y.tick f.tick x.side y.side f.side first h) l (all_after y l rises))

@@ -1,4 +1,4 @@
--- What is kept as the list of events grows.
+-- What is stored as the list of events grows.
 use Rattle.std.proofs.Common.{ℕ, ◌≡◌, ◌+◌, refl, sym, ◌∙◌, ap, arith, List, [], ◌∷◌, ◌++◌, length, take, if◌then◌else◌, length-append}
 use Rattle.std.proofs.lemmas.List.{append-nil}
 use Rattle.tube_chip.specs.Act.{Query}

@@ -1,4 +1,4 @@
--- What is kept of the accesses that were made before a run goes on.
+-- What is stored of the accesses that were made before a run continues.
 use Rattle.std.proofs.Common.{ℕ, ◌≡◌, ◌+◌, ◌<◌, ◌≤◌, sym, ◌∙◌, ap, arith, Bool, true, false, if◌then◌else◌, List, [], ◌∷◌, ◌++◌, length, take, get_or}
 use Rattle.std.proofs.lemmas.List.{take_more, map-append}
 use Rattle.beeb_bits.specs.declared.Side.{Side}
@@ -48,7 +48,7 @@ most_by e false = omega arith
 own_most : (side : Side) (e : Entry) → length (own_of side e) ≤ 1
 own_most side e = most_by e (is_side side e.side)
 
--- with the number to be kept named otherwise
+-- with the number to be stored by another name
 pub kept_of : {side : Side} {l : List Event} {keep keep2 count : ℕ} {list : List Entry} → keep ≡ keep2 → IsKept side l keep list count → IsKept side l keep2 list count
 kept_of {side = side} {l = l} {count = count} {list = list} e k = rw e at k
 

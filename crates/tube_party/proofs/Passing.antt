@@ -1,4 +1,4 @@
--- The turns of both parties, with the accesses that are answered in passing.
+-- The turns of both parties, with the accesses that the port answers.
 use Rattle.std.proofs.Common.{ℕ, ◌≡◌, ◌+◌, ◌<◌, ◌≤◌, ◌⊎◌, Bool, true, false, refl, sym, ◌∙◌, ap, subst, arith, List, [], ◌∷◌, length, take, Some}
 use Rattle.tube_chip.specs.State.{State, lines_of}
 use Rattle.tube_chip.specs.declared.Lines.{Lines}
@@ -27,16 +27,16 @@ use Rattle.tube_party.proofs.UnderWay.{Run, Part, part_of, seated, IsAt, IsGoing
 use Rattle.tube_party.proofs.Both.{rest_of, IsSeen, in_time, stands, stood, host_goes, host_smaller, para_step, para_turns, para_smaller, goes_along, goes_on}
 use Rattle.tube_party.proofs.Both.{rolled_back, back_smaller}
 
--- where an access comes before a tick that is sure by what the parasite asks, the host comes first
+-- if an access comes before a tick that is safe by what the parasite asks, the host comes first
 still_first : (t : Tick) (sure : ℕ) (op : Op) (ask_p : Ask) → t.0 < sure → IsSure 1 ask_p sure → first_of (Access t op) ask_p ≡ Some Host
 still_first t sure op ask_p early told = grind arith
 
--- what the host asks leaves the chip so
+-- the chip after what the host asks
 behind_is : {S : Type 0} (h : Moves S) (n : ℕ) (s : S) (c : State) (ask : Ask) (q : Query) → IsPending h n s ask → h.asks s ≡ Some q
     → (act c Host q).0 ≡ chip_behind c ask
 behind_is h n s c ask q pending asks = grind arith
 
--- ---- What an access in passing leaves of both logs
+-- ---- What an access at the port leaves of both logs
 
 abbrev pub other : Side → Side
 other Host = Para
@@ -59,7 +59,7 @@ noted_in : (side : Side) {tick : ℕ} {op : Op} {byte : ℕ} {d f : Attended} �
 noted_in Host x = x.host_noted
 noted_in Para x = x.para_noted
 
--- The other side's log is as it was.
+-- The other side's log is unchanged.
 other_stays : (side : Side) {tick : ℕ} {op : Op} {byte : ℕ} {d f : Attended} → d.turn ≡ side → IsPassed d tick op byte f
     → ((log_of (other side) f).list.items ≡ (log_of (other side) d).list.items) × ((log_of (other side) f).count ≡ (log_of (other side) d).count)
 other_stays side {tick} {op} {byte} {d} turn x =
@@ -69,9 +69,9 @@ other_stays side {tick} {op} {byte} {d} turn x =
     let zero : log.count + 0 ≡ log.count = omega arith in
     (noted.list_is ∙ ap (note_all_leaves log.keep log.list.items) none, noted.count_is ∙ ap (λ z. log.count + length z) none ∙ zero)
 
--- ---- The parasite reads its status registers in passing
+-- ---- The parasite reads its status registers at the port
 
--- So many of them were read, which left the chip, among its steps from t to last, and noted.
+-- Some of its steps from t to last read status registers, which left the chip, and were noted.
 pub record HasRead {T : Type 0} (p : Moves T) (n sure keep : ℕ) (t last : T) (d e : Attended) : Type 0 where
   pub entries : List Entry
   pub way : IsWay p n sure d.chip t last entries
@@ -120,7 +120,7 @@ para_reads {p = p} {n} {sure} {keep} {last = last} {d = d} same turn ahead until
       host_keep = more.host_keep ∙ passed.host_noted.keep_is;
     }
 
--- an access in passing is a step at the chip
+-- an access at the port is a step at the chip
 passed_act : {U : Type 0} {m : Moves U} {n keep : ℕ} {at on : U} {d f : Attended} (side : Side) → d.turn ≡ side → (log_of side d).keep ≡ keep
     → IsAnswered m IsPassed n at d on f → Acts m side keep (at_work at d.chip (log_of side d)) (at_work on f.chip (log_of side f))
 passed_act {m = m} {at = at} {d = d} side turn kept answered =
@@ -143,7 +143,7 @@ passed_act {m = m} {at = at} {d = d} side turn kept answered =
       count_is = noted.count_is ∙ ap (λ z. old.count + length z) entries;
     }
 
--- the host's looks are seen behind it as before
+-- the host's looks see after it what they saw before
 still_seen : {S : Type 0} (h : Moves S) (sure : ℕ) (ask_p : Ask) {tick : ℕ} {op : Op} {byte : ℕ} {d f : Attended} → IsPassed d tick op byte f
     → IsSeen h d.chip ask_p sure → IsSeen h f.chip ask_p sure
 still_seen h sure ask_p passed is = grind arith
@@ -152,7 +152,7 @@ seen_so : {S : Type 0} (h : Moves S) (c : State) (ask : Ask) (until seen : Tick)
     → (seen ≡ until) ⊎ (SeesHirqAlone h × (c.flags.q ≡ false)) → IsSeen h c ask seen.0
 seen_so h c ask until seen told is = grind arith
 
--- A side's turn goes on at the desk, and the other's log is this.
+-- The state of the port during a side's turn; the other side's log is `log`.
 record IsSides (keep : ℕ) (side : Side) (until : ℕ) (lines : Lines) (log : Log) (d : Attended) : Type 0 where
   turn : d.turn ≡ side
   until_is : d.sure ≡ until
@@ -177,19 +177,20 @@ still_sides {side = side} x passed =
     }
 
 module _ {S T : Type 0} (r : Run S T) where
-  -- what the loop keeps of the desk
+  -- what the loop keeps of the port
   pub record IsKeptUp (ahead : Bool) (from : Mark T) (s : S) (t : T) (ask_h ask_p : Ask) (lines : Lines) (e : Attended) : Type 0 where
     pub way : IsGoing r ahead from ask_h ask_p (part_of s e.host) (part_of t e.para) e.chip
     pub lines_is : lines ≡ lines_of e.chip
     pub host_keep : e.host.keep ≡ r.keep
     pub para_keep : e.para.keep ≡ r.keep
 
-  -- It is so after a turn, and less is left.
+  -- It holds after a turn, and less is left.
   pub record IsOver (left : ℕ) (ahead : Bool) (from : Mark T) (s : S) (t : T) (ask_h ask_p : Ask) (lines : Lines) (e : Attended) : Type 0 where
     pub kept : IsKeptUp ahead from s t ask_h ask_p lines e
     pub smaller : ticks_left r.n ask_h + rest_of r.p r.n ahead from.state ask_p < left
 
-  -- The parasite comes so far with the reference, as long as the host's next step does not come before.
+  -- The parasite arrives where the reference does, as long as the host's next step does not come
+  -- before.
   abbrev IsAlong : ℕ → S → T → Lines → Ask → Log → Attended → Type 0
   IsAlong until s last lines ask_h host e = IsAt r ask_h (part_of s host) (part_of last e.para) e.chip × IsSides r.keep Para until lines host e
 
@@ -239,7 +240,7 @@ module _ {S T : Type 0} {r : Run S T} where
       (λ _. rw (passed.is_read_is, passed.chip_is) passed.stays)
       told (still_seen h sure ask_p passed seen) (still_sides x passed) asked talks)
 
-  -- ---- The parasite's turn, as long as its accesses are answered in passing
+  -- ---- The parasite's turn, as long as the port answers its accesses
 
   para_along : {until : ℕ} {s : S} {lines : Lines} {ask_h : Ask} {host : Log} {last : T} {e : Attended} {t : T} {d : Attended} → IsSure 0 ask_h until
       → IsAt r ask_h (part_of s host) (part_of t d.para) d.chip → IsSides keep Para until lines host d

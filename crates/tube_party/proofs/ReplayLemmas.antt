@@ -89,7 +89,8 @@ module _ {S : Type 0} (m : Moves S) (side : Side) (trace : List Entry) (n : ℕ)
     pub below : m.due new < n
     pub asks : m.asks new ≡ Some q
 
--- steps among which looks see what the entries before them leave, and with accesses that are answered in passing, each by the side's next entry
+-- steps among which looks see what the entries before them leave, and accesses that the port
+-- answers, each by the side's next entry
 module _ {S : Type 0} {m : Moves S} {side : Side} {trace : List Entry} {n : ℕ} (lawful : IsLawful m) {whole : Ended S} {lines : Lines} {sure : ℕ} where
   goes_seeing : {own : List Numbered} {last s : S} → Goes m side trace n whole s own → IsShown side trace lines sure (m.due s) → Glances m n (shown_lines lines sure) last s
       → Goes m side trace n whole last own

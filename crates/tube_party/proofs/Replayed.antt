@@ -51,7 +51,7 @@ low_and : (b : Bool) (t n : ℕ) → t < n → (b && nat_lt t n) ≡ b
 low_and true t n low = low_true t n low
 low_and false t n low = refl
 
--- where all entries are below n, those of a side below n are those of the side
+-- if all entries are below n, those of a side below n are those of the side
 pub own_all : (side : Side) (n : ℕ) (trace : List Entry) → All (λ (e : Entry). (e.tick).0 < n) trace → own_below side n trace ≡ own side trace
 own_all side n [] low = refl
 own_all side n (x ∷ trace) low =

@@ -1,4 +1,4 @@
--- Two parties that were brought back are the reference run at that tick, and go on as it does.
+-- Two parties that were brought back are the reference run at that tick, and continue as it does.
 use Rattle.std.proofs.Common.{ℕ, zero, suc, ◌≡◌, ◌+◌, ◌-◌, ◌≤◌, nat_eq, refl, sym, ◌∙◌, ap, subst, arith, Bool, true, false, List, [], ◌∷◌, ◌++◌, Option, None, Some}
 use Rattle.std.proofs.lemmas.List.Elements.{All-weaker}
 use Rattle.beeb_bits.specs.declared.Side.{Side}
@@ -23,7 +23,7 @@ use Rattle.tube_party.proofs.Replayed.{own, own_all, own_of_accesses, On, IsAnsw
 use Rattle.tube_party.proofs.Early.{SameAccesses, same_after, alike, like_on}
 use Rattle.tube_party.proofs.Joined.{IsPart, IsJoined, joined, line_of_runs}
 
--- ---- States that go on alike
+-- ---- States that continue alike
 
 -- the next step is the same, and so is what closing leaves at n, if n is not past that step
 pub record IsSame {S : Type 0} (m : Moves S) (n : ℕ) (s u : S) : Type 0 where
@@ -35,11 +35,11 @@ pub record IsSame {S : Type 0} (m : Moves S) (n : ℕ) (s u : S) : Type 0 where
 same_self : {S : Type 0} (m : Moves S) (n : ℕ) (s u : S) → s ≡ u → IsSame m n s u
 same_self m n s u e = grind arith
 
--- a state that was closed below its next step goes on as before
+-- a state that was closed below its next step continues as before
 same_shut : {S : Type 0} (m : Moves S) → IsLawful m → (at n : ℕ) (s : S) → at ≤ n → at ≤ m.due s → IsSame m n s (close_leaves m s at)
 same_shut m lawful at n s le low = grind arith
 
--- one party at the chip, which goes on alike
+-- one party at the chip, which continues alike
 record IsSeatAlike {S : Type 0} (m : Moves S) (n : ℕ) (x y : Seat S) : Type 0 where
   state : IsSame m n x.state y.state
   chip : x.chip ≡ y.chip
@@ -88,7 +88,7 @@ module _ {S T : Type 0} (h : Moves S) (p : Moves T) where
   ticks_alike n zero k w v same = same
   ticks_alike n (suc j) k w v same = ticks_alike n j (k + 1) (tick h p k w) (tick h p k v) (tick_alike n k w v same)
 
-  -- so many ticks, and then so many more
+  -- some ticks, and then further ones
   ticks_then : (i j k : ℕ) (w : World S T) → ticks h p (i + j) k w ≡ ticks h p j (k + i) (ticks h p i k w)
   ticks_then zero j k w =
       let none : 0 + j ≡ j = omega arith in
@@ -163,7 +163,7 @@ module _ {S T : Type 0} (h : Moves S) (p : Moves T) (lh : IsLawful h) (lp : IsLa
       like_on (alike (ap (λ w. close_both_leaves h p at w) reached))
       (record { host = sym host_follows.follows.ends; para = sym para_follows.follows.ends; chip = all_joined.chip; listed = listed })
 
-  -- it goes on as from there
+  -- it continues as from there
   alike_there : (n : ℕ) → at ≤ n → IsAlike h p n stopped (after_entries u v entries)
   alike_there n le =
       record {

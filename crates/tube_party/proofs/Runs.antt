@@ -86,7 +86,7 @@ glances_rise {m = m} {last = last} lawful Here = let d = m.due last in omega ari
 glances_rise lawful (Past {s = s} low none on) = omega (arith, lawful.rises s None, glances_rise lawful on)
 glances_rise {v = v} lawful (Seeing {s = s} low is before on) = omega (arith, lawful.rises s (Some (Seen v.lines)), glances_rise lawful on)
 
--- accesses that are answered in passing, with such steps before and between them: as `Talks`
+-- accesses that the port answers, with such steps before and between them: as `Talks`
 pub data Talking {S D : Type 0} (m : Moves S) (answers : D → ℕ → Op → ℕ → D → Type 0) (n : ℕ) (v : Shown) (last : S) (e : D) : S → D → Type 0 where
   Last : {s : S} → Glances m n v last s → Talking m answers n v last e s e
   Next : {s at on : S} {d f : D} → Glances m n v at s → IsAnswered m answers n at d on f → Talking m answers n v last e on f → Talking m answers n v last e s d
@@ -102,7 +102,8 @@ module _ {S : Type 0} (r : Moves S) (lr : IsLawful r) (s : S) (n : ℕ) (le : n 
   closing_at : IsClosing r s (max n (r.closed s))
   closing_at = let within = lr.within s in lr.closing s (max n (r.closed s)) (omega arith) (omega arith)
 
-  -- it holds the device steps below n and as far as it was closed, its next step is as it was, and closing it further is closing it at once
+  -- it holds the device steps below n and those it held before, its next step is unchanged, and
+  -- closing it further is closing it at once
   pub shut_is : IsShut r s n
   shut_is =
       record {
@@ -117,7 +118,8 @@ module _ {S : Type 0} (r : Moves S) (lr : IsLawful r) (s : S) (n : ℕ) (le : n 
             ∙ ap (λ x. r.close s x) (omega arith);
       }
 
--- a run from a closed state is a run from the state before, save that no step at all leaves the closed one
+-- a run from a closed state is a run from the state before, except that a run of no step leaves the
+-- closed one
 module _ {S : Type 0} (r : Moves S) (lr : IsLawful r) (side : Side) (n k : ℕ) (le : n ≤ k) (s : S) (over : n ≤ r.due s) where
   shut_here : IsShut r s n
   shut_here = shut_is r lr s n over

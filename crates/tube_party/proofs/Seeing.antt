@@ -11,7 +11,7 @@ use Rattle.tube_party.specs.Turn.{IsPending}
 use Rattle.tube_party.specs.Steps.{due_rises, silent_all, looks_on, look_last, hears_after, hears_sees, rises_past_access, talks_past_access}
 
 module _ {S : Type 0} (m : Moves S) (n : ℕ) (lines : Lines) (sure : ℕ) where
-  -- after some of them the party advanced, and stopped at a step that is no sure look
+  -- after some of them the party advanced, and stopped at a step that is no safe look
   pub stops_there : (old cur new : S) (ask : Ask) → (k : ℕ) × Looks m n (shown_lines lines sure) k old cur → Advances m n cur ask new → IsUnsure sure ask
       → Sees m n (shown_lines lines sure) old ask new
   stops_there old cur new ask so_far told unsure =
@@ -45,15 +45,15 @@ module _ {S : Type 0} (m : Moves S) (n : ℕ) (lines : Lines) (sure : ℕ) where
   rises_past_ask cur at new ask t op byte lawful sees is goes =
       rises_past_access m n lines sure sees.steps cur sees.last at new t op byte lawful sees.looks (rw is at sees.asked) goes
 
--- ---- The same with accesses that a desk answers
+-- ---- The same with accesses that a port answers
 
 module _ {S D : Type 0} (m : Moves S) (answers : D → ℕ → Op → ℕ → D → Type 0) (n : ℕ) (lines : Lines) (sure : ℕ) where
-  -- after some of them the party went on, and stopped at a step to which the desk has no answer
+  -- after some of them the party went on, and stopped at a step to which the port has no answer
   pub hears_there : (old cur new : S) (d f : D) (ask : Ask) → (j : ℕ) × Talks m answers n (shown_lines lines sure) j old d cur f → Sees m n (shown_lines lines sure) cur ask new
       → Hears m answers n (shown_lines lines sure) old d ask new f
   hears_there old cur new d f ask so_far sees = hears_after m answers n lines sure old cur new d f f ask so_far (hears_sees m answers n lines sure cur new f ask sees)
 
-  -- or at an access, which the desk answered
+  -- or at an access, which the port answered
   pub hears_one_more : (old cur at new : S) (d f e : D) (ask : Ask) (t : Tick) (op : Op) (byte : ℕ) → (j : ℕ) × Talks m answers n (shown_lines lines sure) j old d cur f
       → Sees m n (shown_lines lines sure) cur ask at → ask ≡ Access t op → answers f t.0 op byte e → new ≡ m.next at (Some (Byte byte)) →
       (j : ℕ) × Talks m answers n (shown_lines lines sure) j old d new e

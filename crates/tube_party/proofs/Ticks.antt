@@ -42,7 +42,7 @@ module _ {S T : Type 0} (h : Moves S) (p : Moves T) (lh : IsLawful h) (lp : IsLa
   idle : (k : ℕ) (s : S) (t : T) (c : State) (l : List Event) → k < h.due s → k < p.due t → tick h p k (world s t c l) ≡ world s t c l
   idle k s t c l hs ht = grind arith
 
-  -- two worlds in which neither is due at k go on alike if they do so from k + 1
+  -- two worlds in which neither is due at k continue alike if they do so from k + 1
   both_idle : (j k : ℕ) (s u : S) (t v : T) (c d : State) (l m : List Event)
       → k < h.due s → k < p.due t → k < h.due u → k < p.due v
       → ticks h p j (k + 1) (world s t c l) ≡ ticks h p j (k + 1) (world u v d m)

@@ -15,7 +15,8 @@ use Rattle.tube_party.specs.GoingOn.{IsLike}
 use Rattle.tube_party.proofs.Ticks.{world}
 use Rattle.tube_party.proofs.Ways.{IsWay}
 
--- Two parties that go on to tick n, the world where the reference began, before which at most `few` accesses of a side were done, and how many are kept.
+-- Two parties that run to tick n; the world where the reference began, before which at most `few`
+-- accesses of a side were done; and the number of accesses to be stored.
 pub record Run (S T : Type 0) : Type 0 where
   pub h : Moves S
   pub p : Moves T
@@ -29,11 +30,11 @@ pub record Run (S T : Type 0) : Type 0 where
 abbrev pub run_of : {S T : Type 0} {h : Moves S} {p : Moves T} → IsLawful h → IsLawful p → ℕ → ℕ → ℕ → World S T → Run S T
 run_of {h = h} {p = p} lh lp n few keep w0 = record { h = h; p = p; lh = lh; lp = lp; n = n; few = few; keep = keep; w0 = w0 }
 
--- where the reference gets from there
+-- where the reference arrives from there
 abbrev pub onward : {S T : Type 0} → Run S T → S → T → State → List Event → World S T
 onward r s t c l = ticks r.h r.p r.n 0 (world s t c l)
 
--- a party, what is kept of its accesses, and how many there were
+-- a party, the stored accesses, and the number of all
 pub record Part (S : Type 0) : Type 0 where
   pub state : S
   pub list : List Entry
@@ -49,8 +50,9 @@ part_of s log = part s log.list.items log.count
 abbrev pub seated : {S : Type 0} → Part S → State → AtWork S
 seated a c = record { state = a.state; chip = c; list = a.list; count = a.count }
 
--- The reference goes on from where the parties are, and what was kept is what it has done. The host may already have made looks that come later than
--- the parasite's steps, and accesses that come later than what the parasite saw ahead of it.
+-- The reference continues from where the parties are, and the stored accesses are those that it has
+-- done. The host may already have made looks that come later than the parasite's steps, and
+-- accesses that come later than what the parasite observed ahead of it.
 pub record IsAt {S T : Type 0} (r : Run S T) (ask_h : Ask) (a : Part S) (b : Part T) (c : State) : Type 0 where
   pub host_last : S
   pub events : List Event
@@ -61,7 +63,7 @@ pub record IsAt {S T : Type 0} (r : Run S T) (ask_h : Ask) (a : Part S) (b : Par
   pub host_few : a.count ≤ r.few + r.h.due host_last
   pub para_few : b.count ≤ r.few + r.p.due b.state
 
--- where the parasite can be rolled back to: its state, and how far its log was written
+-- the parasite's rollback point: its state, and the length of its log
 pub record Mark (T : Type 0) : Type 0 where
   pub state : T
   pub len : ℕ
@@ -70,8 +72,8 @@ pub record Mark (T : Type 0) : Type 0 where
 abbrev pub mark_of : {T : Type 0} → T → ℕ → ℕ → Mark T
 mark_of t len count = record { state = t; len = len; count = count }
 
--- From there the parasite went on, as the chip shows itself to it, to where its step asks: past no event where it is not ahead, and else from where it can be
--- rolled back to.
+-- From there the parasite ran, as the chip shows itself to it, up to its ask: past no event if it
+-- is not ahead, and otherwise from its rollback point.
 pub record IsGoing {S T : Type 0} (r : Run S T) (ahead : Bool) (from : Mark T) (ask_h ask_p : Ask) (a : Part S) (b : Part T) (c : State) : Type 0 where
   pub mark : Part T
   pub last : T

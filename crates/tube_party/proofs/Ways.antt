@@ -1,4 +1,5 @@
--- The parasite's steps while what it sees stays as it is: each asks nothing, looks at the lines, or reads a status register.
+-- The parasite's steps while what it observes stays: each asks nothing, looks at the lines, or
+-- reads a status register.
 use Rattle.std.proofs.Common.{ℕ, ◌≡◌, ◌+◌, ◌<◌, ◌≤◌, refl, sym, ◌∙◌, ap, arith, nat_lt, Bool, true, false, cond, if◌then◌else◌}
 use Rattle.std.proofs.Common.{List, [], ◌∷◌, ◌++◌, length, length-append, take, None, Some}
 use Rattle.std.specs.Prelude.{All}
@@ -43,7 +44,7 @@ pub record IsWay {T : Type 0} (p : Moves T) (n sure : ℕ) (c : State) (t last :
   pub early : All (IsBelow sure) events
   pub noted : accesses events ≡ entries
 
--- ---- What is kept
+-- ---- What is stored
 
 -- the list grows at its end alone
 longer_by : (keep : ℕ) (list : List Entry) (x : Entry) → (length list ≤ length (note_leaves keep list x)) ×
@@ -78,9 +79,9 @@ all_own (e ∷ events) each =
       ap (λ x. if is_side Host x then e ∷ of_side Host events else of_side Host events) is ∙ rest.1,
     )
 
--- ---- The chip may change where what it showed stays
+-- ---- The chip may change if what it showed stays
 
--- the lines do, and what the status registers show, where one is read at all
+-- the lines stay, and what the status registers show, if one is read at all
 module _ (is_read : Bool) (c d : State) (lines : lines_of d ≡ lines_of c) (shows : is_read ≡ true → ShowsAlike Para c d) where
   one_still : (r : Bool) → is_read ≡ r → (t : ℕ) (side : Side) (q : Query) (a : Answer) (xs : List Entry) → IsGlance q → (act c Para q).1 ≡ a
       → (r ≡ false → entry_of t side q a ++ xs ≡ []) → ((act d Para q).1 ≡ a) × (r ≡ false → xs ≡ [])
@@ -116,7 +117,7 @@ module _ {T : Type 0} (p : Moves T) (lp : IsLawful p) (n : ℕ) where
       let both = length-append (entry_of (p.due t) Para q a) (accesses others) in
       record { each = All-cons (IsOn (p.due last)) _ others (refl, low, omega arith) rest.each; few = omega arith }
 
--- ---- Ways
+-- ---- Such steps
 
 module _ {T : Type 0} {p : Moves T} {n sure : ℕ} {c : State} where
   -- no step
@@ -154,7 +155,7 @@ module _ {T : Type 0} {p : Moves T} {n sure : ℕ} {c : State} where
         noted = ap (λ l. passed_entry Para (p.due t) op byte ∷ l) w.noted;
       }
 
-  -- a way behind another
+  -- such steps after others
   pub way_on : {t mid last : T} {xs ys : List Entry} → IsWay p n sure c t mid xs → IsWay p n sure c mid last ys → IsWay p n sure c t last (xs ++ ys)
   way_on {ys = ys} a b =
       record {

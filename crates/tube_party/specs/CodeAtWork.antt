@@ -10,18 +10,18 @@ use Rattle.tube_party.specs.declared.log.Log.{Log}
 use Rattle.tube_party.specs.Moves.{Moves}
 use Rattle.tube_party.specs.Turn.{note_all_leaves}
 
--- A side at work: the state of its party, the chip, what is kept of its accesses, and how many there were.
+-- A side at work: the state of its party, the chip, the stored accesses, and the number of all.
 pub record AtWork (S : Type 0) : Type 0 where
   pub state : S
   pub chip : State
   pub list : List Entry
   pub count : ℕ
 
--- that of a party in this state, with this log
+-- that of a party in state `s`, with this log
 abbrev pub at_work : {S : Type 0} → S → State → Log → AtWork S
 at_work s c log = record { state = s; chip = c; list = log.list.items; count = log.count }
 
--- the entry, where it is one of the side's
+-- the entry, if it is one of the side's
 abbrev pub own_of : Side → Entry → List Entry
 own_of side entry = accesses (of_side side (event_of entry ∷ []))
 

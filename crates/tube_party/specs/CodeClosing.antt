@@ -1,12 +1,12 @@
--- What closing a state leaves.
+-- The state after a state is closed.
 use Rattle.std.specs.Prelude.{ℕ, ◌≡◌, ◌≤◌, max, Option, List, ◌++◌}
 use Rattle.beeb_bits.specs.declared.Side.{Side}
 use Rattle.tube_chip.specs.declared.Answer.{Answer}
 use Rattle.tube_chip.specs.Events.{Event}
 use Rattle.tube_party.specs.Moves.{Moves, Follows, close_leaves}
 
--- The state, closed at n, holds the device steps below n and those that it held before; its next step is as it was; and closing it
--- further is closing it that far at once.
+-- The state, closed at n, holds the device steps below n and those that it held before. Its next
+-- step is unchanged, and closing it further at k is closing it at k at once.
 pub record IsShut {S : Type 0} (m : Moves S) (s : S) (n : ℕ) : Type 0 where
   pub closed : m.closed (close_leaves m s n) ≡ max n (m.closed s)
   pub due : m.due (close_leaves m s n) ≡ m.due s
@@ -18,7 +18,7 @@ pub record IsShut {S : Type 0} (m : Moves S) (s : S) (n : ℕ) : Type 0 where
 abbrev pub MayBeShut : {S : Type 0} → Moves S → Type 0
 MayBeShut {S} m = (s : S) (n : ℕ) → n ≤ m.due s → IsShut m s n
 
--- A party that follows a list up to n and then, from where that left it, another up to k follows both up to k.
+-- A party that follows a list up to n, and from its end another up to k, follows both up to k.
 abbrev pub FollowsOn : {S : Type 0} → Moves S → Type 0
 FollowsOn {S} m =
     (side : Side) (s u v : S) (a b : List Event) (n k : ℕ) →

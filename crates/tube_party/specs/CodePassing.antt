@@ -1,4 +1,4 @@
--- The accesses that are answered in passing where both parties are on one thread.
+-- The accesses that the port answers where both parties are on one thread.
 use Rattle.std.specs.Prelude.{ℕ, ◌≡◌, ◌<◌, Bool, true}
 use Rattle.beeb_bits.specs.declared.Side.{Side}
 use Rattle.beeb_bits.specs.declared.Side.TheVariants.{Host, Para}
@@ -14,8 +14,8 @@ use Rattle.tube_party.specs.declared.party.Ask.TheVariants.{Nothing, Access, Loo
 use Rattle.tube_party.specs.CodeAtWork.{own_of}
 use Rattle.tube_party.specs.Logs.{HasNoted}
 
--- The chip, what is kept of both sides' accesses, whose turn it is, the tick below which accesses are answered, and whether the parasite reads its status
--- registers ahead of the host.
+-- The chip, both sides' logs, the side in turn, the tick below which accesses are answered, and
+-- `true` if the parasite reads its status registers ahead of the host.
 pub record Attended : Type 0 where
   pub chip : State
   pub host : Log
@@ -27,21 +27,23 @@ pub record Attended : Type 0 where
 abbrev pub attended : Table → Attended
 attended t = record { chip = t.chip; host = t.host_log; para = t.para_log; turn = t.turn; sure = (t.sure).0; is_read = t.is_read }
 
--- The lines and the flags stay as they are, and where the parasite reads its status registers ahead, what they show it does too.
+-- The lines and the flags stay, and if the parasite reads its status registers ahead, what they
+-- show stays too.
 abbrev pub StaysSeen : Bool → State → State → Type 0
 StaysSeen is_read c d = (lines_of d ≡ lines_of c) × (d.flags ≡ c.flags) × (is_read ≡ true → ShowsAlike Para c d)
 
--- It reads a status register.
+-- The operation reads a status register.
 abbrev pub IsStatusRead : Op → Type 0
 IsStatusRead (Read number) = is_status number ≡ true
 IsStatusRead (Write number byte) = ⊥
 IsStatusRead Reset = ⊥
 
--- An access of a side may be answered in passing. What the parasite does ahead is to read its status registers.
+-- An access of a side may be answered by the port. Ahead of the host, the parasite only reads its
+-- status registers.
 abbrev pub MayPass : State → Side → Bool → Op → Type 0
 MayPass c side is_read op = MayDo side op × StaysSeen is_read c (chip_after c side op) × (is_read ≡ true → side ≡ Para → IsStatusRead op)
 
--- the chip behind what the host asks
+-- the chip after what the host asks
 abbrev pub chip_behind : State → Ask → State
 chip_behind c Nothing = c
 chip_behind c (Access t op) = chip_after c Host op
@@ -51,7 +53,7 @@ chip_behind c (Look t) = c
 abbrev pub passed_entry : Side → ℕ → Op → ℕ → Entry
 passed_entry side tick op byte = record { tick = record { 0 = tick }; side = side; op = op; answer = byte }
 
--- An access below that tick of the side whose turn it is was done at the chip, and noted.
+-- An access of the side in turn below tick `safe_until` was done at the chip, and noted.
 pub record IsPassed (old : Attended) (tick : ℕ) (op : Op) (byte : ℕ) (new : Attended) : Type 0 where
   pub early : tick < old.sure
   pub byte_is : byte ≡ answer_of old.chip old.turn op

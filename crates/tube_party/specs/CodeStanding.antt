@@ -1,4 +1,4 @@
--- How a party goes ahead of what is sure, and how it is rolled back.
+-- A party that speculates on one thread, and its rollback.
 use Rattle.std.specs.Prelude.{ℕ, ◌≡◌, ◌≢◌, Bool, true, false, take}
 use Rattle.beeb_bits.specs.declared.Side.TheVariants.{Para}
 use Rattle.tube_chip.specs.declared.Lines.{Lines}
@@ -9,7 +9,8 @@ use Rattle.tube_party.specs.declared.party.Ask.TheVariants.{Nothing}
 use Rattle.tube_party.specs.Moves.{Moves, GoesHearing, shown_lines}
 use Rattle.tube_party.specs.CodePassing.{Attended, IsPassed}
 
--- Whether a party is ahead of what is sure, what it asks next, its state where it began to note, and its state.
+-- A party: `true` if it is ahead of what is safe, its next ask, its state at the start of its
+-- notes, and its present state.
 pub record Standing (S : Type 0) : Type 0 where
   pub ahead : Bool
   pub ask : Ask
@@ -19,17 +20,19 @@ pub record Standing (S : Type 0) : Type 0 where
 abbrev pub standing_of : {S : Type 0} → Bool → Ask → S → S → Standing S
 standing_of ahead ask mark s = record { ahead = ahead; ask = ask; mark = mark; state = s }
 
--- the parasite's turn, with this log, up to a tick, at the chip as it stays
+-- the port at the parasite's turn, with this log, up to a tick
 abbrev pub para_turn : Attended → Log → ℕ → Attended
 para_turn d log sure = record { chip = d.chip; host = d.host; para = log; turn = Para; sure = sure; is_read = true }
 
--- It went ahead from where it asks, with what the chip shows it up to a tick, and can be rolled back to there; or it stayed.
+-- The party speculated from its ask, with what the chip shows it up to a tick, and can be rolled
+-- back to that ask; or it stayed.
 pub record IsGone {S : Type 0} (m : Moves S) (n : ℕ) (lines : Lines) (s : S) (d : Attended) (ask : Ask) (new : Standing S) (e : Attended) : Type 0 where
   pub far : ℕ
   pub goes : new.ahead ≡ true → (ask ≢ Nothing) × (new.mark ≡ s) × GoesHearing m IsPassed n (shown_lines lines far) s (para_turn d d.para far) new.ask new.state e
   pub stays : new.ahead ≡ false → (new.ask ≡ ask) × (new.state ≡ s) × (e ≡ para_turn d d.para far)
 
--- It was rolled back to where it began to note, its log was cut to a mark, and it went on anew from there up to a tick.
+-- The party was rolled back to the start of its notes, its log was cut to a mark, and it ran again
+-- from there up to tick `at`.
 pub record IsRolledBack {S : Type 0} (m : Moves S) (n : ℕ) (lines : Lines) (at : ℕ) (mark : LogMark) (s : S) (d : Attended) (ask : Ask) (new : S) (e : Attended) : Type 0 where
   pub log : Log
   pub list_is : log.list.items ≡ take mark.len d.para.list.items

@@ -12,13 +12,13 @@ use Rattle.tube_trace.specs.Entries.{accesses, entry_of}
 use Rattle.tube_party.specs.declared.log.Log.{Log}
 use Rattle.tube_party.specs.Turn.{note_leaves, note_all_leaves}
 
--- nothing was noted yet, and so many are to be kept
+-- nothing was noted yet, and `keep` accesses are to be stored
 pub record IsFresh (keep : ℕ) (log : Log) : Type 0 where
   pub list : log.list.items ≡ []
   pub count : log.count ≡ 0
   pub keep_is : log.keep ≡ keep
 
--- these accesses more were noted
+-- these further accesses were noted
 pub record HasNoted (entries : List Entry) (old new : Log) : Type 0 where
   pub list_is : new.list.items ≡ note_all_leaves old.keep old.list.items entries
   pub count_is : new.count ≡ old.count + length entries
@@ -26,11 +26,11 @@ pub record HasNoted (entries : List Entry) (old new : Log) : Type 0 where
 
 -- ---- Laws that loops over logs use
 
--- a log that was left alone
+-- an unchanged log
 pub none_noted : (log : Log) → HasNoted [] log log
 none_noted log = record { list_is = refl; count_is = omega arith; keep_is = refl }
 
--- the accesses of two lists in turn
+-- the accesses of two lists, one after the other
 pub accesses-append : (xs ys : List Event) → accesses (xs ++ ys) ≡ accesses xs ++ accesses ys
 accesses-append [] ys = refl
 accesses-append (x ∷ xs) ys =

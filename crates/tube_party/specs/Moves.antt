@@ -1,4 +1,5 @@
--- A party at the Tube: the steps of a machine as functions of its state, and what it means that they use up a list of events.
+-- A party at the Tube: the steps of a machine as functions of its state, and steps that use up a
+-- list of events.
 use Rattle.std.specs.Prelude.{ℕ, zero, suc, ◌≡◌, ◌+◌, ◌<◌, ◌≤◌, max, Bool, IsTrue, Option, None, Some, MatchOption, List, [], ◌∷◌}
 use Rattle.beeb_bits.specs.declared.Side.{Side}
 use Rattle.beeb_bits.specs.declared.Side.TheVariants.{Host}
@@ -17,14 +18,15 @@ pub record Moves (S : Type 0) : Type 0 where
   pub due : S → ℕ
   -- what that step asks of the Tube, if it asks
   pub asks : S → Option Query
-  -- the state after that step, with the answer where it asks
+  -- the state after that step, with the answer if it asks
   pub next : S → Option Answer → S
   -- the state holds all device steps below this tick
   pub closed : S → ℕ
   -- the state with the device steps below a tick done too
   pub close : S → ℕ → S
 
--- Closing a state at a tick changes nothing of its next step, and closing it further is the same as closing it so far at once.
+-- Closing a state at a tick does not change its next step, and closing it further is closing it
+-- that far at once.
 pub record IsClosing {S : Type 0} (m : Moves S) (s : S) (t : ℕ) : Type 0 where
   pub closed : m.closed (m.close s t) ≡ t
   pub due : m.due (m.close s t) ≡ m.due s
@@ -32,7 +34,8 @@ pub record IsClosing {S : Type 0} (m : Moves S) (s : S) (t : ℕ) : Type 0 where
   pub next : (a : Option Answer) → m.next (m.close s t) a ≡ m.next s a
   pub again : (u : ℕ) → t ≤ u → u ≤ m.due s → m.close (m.close s t) u ≡ m.close s u
 
--- The laws of a party: ticks rise from step to step, no state holds a device step past its next step, and it may be closed up to there.
+-- The laws of a party: ticks rise from step to step, no state holds a device step past its next
+-- step, and a state may be closed up to its next step.
 pub record IsLawful {S : Type 0} (m : Moves S) : Type 0 where
   pub rises : (s : S) (a : Option Answer) → m.due s < m.due (m.next s a)
   pub within : (s : S) → m.closed s ≤ m.due s
@@ -44,15 +47,15 @@ MayAsk side None = Unit {0}
 MayAsk side (Some look) = Unit {0}
 MayAsk side (Some (access op)) = MayDo side op
 
--- Whatever its state, a party asks only what each side that it may play may ask.
+-- In any state, a party asks only what each side that it may play may ask.
 abbrev pub IsPermitted : {S : Type 0} → Moves S → (Side → Bool) → Type 0
 IsPermitted {S} m plays = (s : S) (side : Side) → IsTrue (plays side) → MayAsk side (m.asks s)
 
--- closed at n, or as far as it is closed already if that is further
+-- closed at n, or further if it is already
 abbrev pub close_leaves : {S : Type 0} → Moves S → S → ℕ → S
 close_leaves m s n = m.close s (max n (m.closed s))
 
--- Of the lines its looks see the host's interrupt request alone.
+-- Of the lines, the party's looks see the host's interrupt request alone.
 abbrev pub SeesHirqAlone : {S : Type 0} → Moves S → Type 0
 SeesHirqAlone {S} m = (s : S) (a b : Lines) → a.hirq ≡ b.hirq → m.next s (Some (Seen a)) ≡ m.next s (Some (Seen b))
 
@@ -61,7 +64,7 @@ abbrev pub Heads : List Event → (Event → List Event → Type 0) → Type 0
 Heads [] P = ⊥
 Heads (e ∷ events) P = P e events
 
--- What a party goes through: the events of its steps in order, and the state after the last of them.
+-- An execution of a party: the events of its steps in order, and the state after the last step.
 pub record Course (S : Type 0) : Type 0 where
   pub events : List Event
   pub last : S
@@ -69,7 +72,8 @@ pub record Course (S : Type 0) : Type 0 where
 abbrev pub course : {S : Type 0} → List Event → S → Course S
 course events last = record { events = events; last = last }
 
--- k steps from s, each below n, are this course of the side: a step that asks nothing is no event
+-- k steps from s, each below n, are this execution of the side; a step that asks nothing is no
+-- event
 abbrev pub Runs : {S : Type 0} → Moves S → Side → ℕ → ℕ → S → Course S → Type 0
 Runs m side n zero s c = (c.events ≡ []) × (s ≡ c.last)
 Runs m side n (suc k) s c =
@@ -80,7 +84,7 @@ Runs m side n (suc k) s c =
     (e.tick ≡ m.due s) × (e.side ≡ side) × (e.query ≡ q)
     × Runs m side n k (m.next s (Some e.answer)) (course rest c.last)))
 
--- The steps from s below n use up the events, and ended is the state after them, closed.
+-- The steps from s below n use up the events, and `ended` is the state after them, closed.
 pub record Follows {S : Type 0} (m : Moves S) (side : Side) (s : S) (events : List Event) (n : ℕ) (ended : S) : Type 0 where
   pub steps : ℕ
   pub last : S
@@ -88,20 +92,21 @@ pub record Follows {S : Type 0} (m : Moves S) (side : Side) (s : S) (events : Li
   pub over : n ≤ m.due last
   pub ends : ended ≡ close_leaves m last n
 
--- what is told of last, the first state whose step asks or is not below n
+-- the ask that is reported at `last`, the first state whose step asks or is not below n
 abbrev pub IsAsk : {S : Type 0} → Moves S → ℕ → S → Ask → S → Type 0
 IsAsk m n last Nothing new = (n ≤ m.due last) × (new ≡ close_leaves m last n)
 IsAsk m n last (Access t op) new = (t.0 ≡ m.due last) × (t.0 < n) × (m.asks last ≡ Some (access op)) × (new ≡ last)
 IsAsk m n last (Look t) new = (t.0 ≡ m.due last) × (t.0 < n) × (m.asks last ≡ Some look) × (new ≡ last)
 
--- The steps below n that ask nothing were done, and this is asked next. A party does not know its side: the steps are no events of either.
+-- The steps below n that ask nothing were done, and `ask` comes next. A party does not know its
+-- side: the steps are no events of either.
 pub record Advances {S : Type 0} (m : Moves S) (n : ℕ) (old : S) (ask : Ask) (new : S) : Type 0 where
   pub steps : ℕ
   pub last : S
   pub runs : Runs m Host n steps old (course [] last)
   pub asked : IsAsk m n last ask new
 
--- What looks see, and the tick below which it is sure.
+-- The lines that looks see, and the tick below which they are guaranteed.
 pub record Shown : Type 0 where
   pub lines : Lines
   pub sure : ℕ
@@ -109,7 +114,8 @@ pub record Shown : Type 0 where
 abbrev pub shown_lines : Lines → ℕ → Shown
 shown_lines lines sure = record { lines = lines; sure = sure }
 
--- k steps from s to last, each below n: each asks nothing, or is a look that is sure, and sees these lines
+-- k steps from s to last, each below n: each asks nothing, or is a look below `safe_until` and sees
+-- the lines
 abbrev pub Looks : {S : Type 0} → Moves S → ℕ → Shown → ℕ → S → S → Type 0
 Looks m n v zero s last = s ≡ last
 Looks m n v (suc k) s last =
@@ -118,13 +124,14 @@ Looks m n v (suc k) s last =
     (Looks m n v k (m.next s None) last)
     (λ q. (q ≡ look) × (m.due s < v.sure) × Looks m n v k (m.next s (Some (Seen v.lines))) last)
 
--- it is not a look below `sure`
+-- the ask is no look below `safe_until`
 abbrev pub IsUnsure : ℕ → Ask → Type 0
 IsUnsure sure Nothing = Unit {0}
 IsUnsure sure (Access t op) = Unit {0}
 IsUnsure sure (Look t) = sure ≤ t.0
 
--- The steps below n that ask nothing were done, and with them the looks below `sure`, each of which saw these lines; and this is asked next.
+-- The steps below n that ask nothing were done, and the looks below `safe_until`, each of which saw
+-- the lines; and `ask` comes next.
 pub record Sees {S : Type 0} (m : Moves S) (n : ℕ) (v : Shown) (old : S) (ask : Ask) (new : S) : Type 0 where
   pub steps : ℕ
   pub last : S
@@ -132,7 +139,8 @@ pub record Sees {S : Type 0} (m : Moves S) (n : ℕ) (v : Shown) (old : S) (ask 
   pub asked : IsAsk m n last ask new
   pub unsure : IsUnsure v.sure ask
 
--- The step from s asks for an access below n, which is answered in passing; new is the state behind it. What answers goes from d to e.
+-- The step from s asks for an access below n, which the port answers; `new` is the state after it.
+-- The port goes from d to e.
 pub record IsAnswered {S D : Type 0} (m : Moves S) (answers : D → ℕ → Op → ℕ → D → Type 0) (n : ℕ) (s : S) (d : D) (new : S) (e : D) : Type 0 where
   pub op : Op
   pub byte : ℕ
@@ -141,18 +149,20 @@ pub record IsAnswered {S D : Type 0} (m : Moves S) (answers : D → ℕ → Op �
   pub answered : answers d (m.due s) op byte e
   pub goes : new ≡ m.next s (Some (Byte byte))
 
--- An access is answered by a byte so many times in turn, each time a period later, the first time that long after a tick.
+-- An access is answered by one byte k times in turn, `period` ticks apart, the first time `period`
+-- ticks after t.
 abbrev pub IsAnsweredAgain : {D : Type 0} → (D → ℕ → Op → ℕ → D → Type 0) → Op → ℕ → ℕ → ℕ → D → ℕ → D → Type 0
 IsAnsweredAgain answers op byte period zero d t e = d ≡ e
 IsAnsweredAgain {D} answers op byte period (suc k) d t e = (f : D) × (answers d (t + period) op byte f × IsAnsweredAgain answers op byte period k f (t + period) e)
 
--- From s to last, below n, so many accesses are answered in passing; each other step asks nothing, or is a look that is sure, and sees these lines.
+-- From s to last, below n, the port answers j accesses; each other step asks nothing, or is a look
+-- below `safe_until` and sees the lines.
 abbrev pub Talks : {S D : Type 0} → Moves S → (D → ℕ → Op → ℕ → D → Type 0) → ℕ → Shown → ℕ → S → D → S → D → Type 0
 Talks m answers n v zero s d last e = (d ≡ e) × ((k : ℕ) × Looks m n v k s last)
 Talks {S} {D} m answers n v (suc j) s d last e =
     (at : S) × (on : S) × (f : D) × ((k : ℕ) × Looks m n v k s at) × IsAnswered m answers n at d on f × Talks m answers n v j on f last e
 
--- They were done, and this is asked next.
+-- Steps of `Talks` were done, and `ask` comes next: no look below `safe_until`.
 pub record Hears {S D : Type 0} (m : Moves S) (answers : D → ℕ → Op → ℕ → D → Type 0) (n : ℕ) (v : Shown) (old : S) (before : D) (ask : Ask) (new : S) (after : D) : Type 0 where
   pub accesses : ℕ
   pub last : S
@@ -160,7 +170,7 @@ pub record Hears {S D : Type 0} (m : Moves S) (answers : D → ℕ → Op → �
   pub asked : IsAsk m n last ask new
   pub unsure : IsUnsure v.sure ask
 
--- The same, but that it may be a sure look that is asked next.
+-- Steps of `Talks` were done, and `ask` comes next: any look is allowed.
 pub record GoesHearing {S D : Type 0} (m : Moves S) (answers : D → ℕ → Op → ℕ → D → Type 0) (n : ℕ) (v : Shown) (old : S) (before : D) (ask : Ask) (new : S) (after : D) : Type 0 where
   pub accesses : ℕ
   pub last : S
@@ -174,7 +184,7 @@ FitsAnswer look (Seen l) = Unit {0}
 FitsAnswer (access op) (Seen l) = ⊥
 FitsAnswer look (Byte b) = ⊥
 
--- The next step is below `most`, asks, and this is an answer of its kind.
+-- The next step is below `most` and asks, and the answer is of its kind.
 pub record IsAskedFor {S : Type 0} (m : Moves S) (most : ℕ) (s : S) (a : Answer) : Type 0 where
   pub below : m.due s < most
   pub kind : MatchOption (m.asks s) ⊥ (λ q. FitsAnswer q a)

@@ -1,4 +1,4 @@
--- What a run of two parties on one thread keeps of the reference run.
+-- The result of a run of two parties on one thread, compared with the reference run.
 use Rattle.std.specs.Prelude.{ℕ, ◌≡◌, ◌≤◌, Bool, IsTrue, List, length, take}
 use Rattle.beeb_bits.specs.declared.Side.{Side}
 use Rattle.beeb_bits.specs.declared.Side.TheVariants.{Host, Para}
@@ -23,7 +23,8 @@ pub record IsKept (side : Side) (events : List Event) (keep : ℕ) (list : List 
   pub list_is : list ≡ take keep (accesses (of_side side events))
   pub count_is : count ≡ length (accesses (of_side side events))
 
--- What a run of two parties leaves: both as they ended, the chip, the first accesses of each side, and their numbers.
+-- The result of a run of two parties: both as they ended, the chip, the first accesses of each
+-- side, and their numbers.
 pub record Played (S T : Type 0) : Type 0 where
   pub host : S
   pub para : T
@@ -33,7 +34,7 @@ pub record Played (S T : Type 0) : Type 0 where
   pub host_count : ℕ
   pub para_count : ℕ
 
--- that of two parties whose states these functions tell
+-- that of two parties, whose states `host` and `para` give
 abbrev pub played_of : {H P S T : Type 0} → (H → S) → (P → T) → Done H P → Played S T
 played_of host para d = record {
   host = host d.host;
@@ -45,7 +46,7 @@ played_of host para d = record {
   para_count = d.para_count;
 }
 
--- The run ended as this world, and this was kept of the accesses.
+-- The run ended as this world, with these parts of its accesses stored and counted.
 pub record IsPlayed {S T : Type 0} (w : World S T) (keep : ℕ) (d : Played S T) : Type 0 where
   pub host_is : d.host ≡ w.host
   pub para_is : d.para ≡ w.para

@@ -1,5 +1,6 @@
--- A machine against its side of a trace. Each access is answered by the side's next entry, each look by the lines of the chip after the entries that
--- come before it. The first place where the machine and the side differ ends it.
+-- A machine against its side of a trace. Each access is answered by the side's next entry, each
+-- look by the lines of the chip after the entries that come before it. The replay ends at the first
+-- place where the machine and the side differ.
 use Rattle.std.specs.Prelude.{ℕ, zero, suc, ◌+◌, ◌==◌, ◌&&◌, nat_lt, Bool, Option, None, Some, List, [], ◌∷◌, length, if◌then◌else◌}
 use Rattle.beeb_bits.specs.Order.{before}
 use Rattle.beeb_bits.specs.declared.Side.{Side}
@@ -13,7 +14,8 @@ use Rattle.tube_trace.specs.declared.Entry.{Entry}
 use Rattle.tube_party.specs.declared.replaying.Doing.{Doing}
 use Rattle.tube_party.specs.Moves.{Moves, close_leaves}
 
--- the chip after the entries of a trace that come before a step of this side at tick t, from chip c on
+-- the chip, from chip c on, after the entries of a trace that come before a step of this side at
+-- tick t
 abbrev pub chip_before : Side → ℕ → State → List Entry → State
 chip_before side t c [] = c
 chip_before side t c (x ∷ trace) = if before (x.tick).0 x.side t side then chip_before side t (chip_after c x.side x.op) trace else c
@@ -23,7 +25,7 @@ pub record Numbered : Type 0 where
   pub line : ℕ
   pub entry : Entry
 
--- the side's entries below n, of a trace whose lines count from a number
+-- the side's entries below n, of a trace whose lines count from `line`
 abbrev pub own_from : Side → ℕ → ℕ → List Entry → List Numbered
 own_from side n line [] = []
 own_from side n line (x ∷ trace) =
@@ -44,13 +46,14 @@ same_op Reset (Write q w) = Bool.false
 abbrev pub doing_of : ℕ → Side → Op → Doing
 doing_of t side op = record { tick = record { 0 = t }; side = side; op = op }
 
--- Where a replay ended: the machine there, and the place, if they differed. A place is the line of the side's entry, or one past the trace where it
--- has none, with what the machine does there, if it does something.
+-- The end of a replay: the machine there, and the place, if they differed. A place is the line of
+-- the side's entry, or one past the trace if the side has none, and what the machine does there, if
+-- it does something.
 pub record Ended (S : Type 0) : Type 0 where
   pub machine : S
   pub place : Option (ℕ × Option Doing)
 
--- the line of the first of them, where the machine does nothing
+-- the line of the first entry, if the machine does nothing more
 abbrev pub next_line : List Numbered → Option (ℕ × Option Doing)
 next_line [] = None
 next_line (x ∷ own) = Some (x.line, None)
@@ -59,7 +62,7 @@ next_line (x ∷ own) = Some (x.line, None)
 abbrev pub finish_leaves : {S : Type 0} → Moves S → ℕ → S → List Numbered → Ended S
 finish_leaves m n s own = record { machine = close_leaves m s n; place = next_line own }
 
--- the machine is at an access that the side's next entry is not
+-- the machine is at an access that is not the side's next entry
 abbrev pub differs : {S : Type 0} → Moves S → Side → S → Op → ℕ → Ended S
 differs m side s op line = record { machine = s; place = Some (line, Some (doing_of (m.due s) side op)) }
 
@@ -78,12 +81,12 @@ one_step m side trace s own None go = go (m.next s None) own
 one_step m side trace s own (Some look) go = go (m.next s (Some (Seen (lines_of (chip_before side (m.due s) power_on trace))))) own
 one_step m side trace s own (Some (access op)) go = access_step m side (length trace) s op own go
 
--- Steps one after another, at most so many, with the side's entries that are left.
+-- At most k steps one after another, with the side's entries that are left.
 abbrev pub replay_from : {S : Type 0} → Moves S → Side → List Entry → ℕ → ℕ → S → List Numbered → Ended S
 replay_from m side trace n zero s own = finish_leaves m n s own
 replay_from m side trace n (suc k) s own =
     if nat_lt (m.due s) n then one_step m side trace s own (m.asks s) (replay_from m side trace n k) else finish_leaves m n s own
 
--- The replay of a machine up to tick n. Ticks rise from step to step, so that n steps are enough.
+-- The replay of a machine up to tick n. Ticks rise from step to step, so n steps are enough.
 unfoldable pub replay_of : {S : Type 0} → Moves S → Side → List Entry → ℕ → S → Ended S
 replay_of m side trace n s = replay_from m side trace n n s (own_from side n 1 trace)

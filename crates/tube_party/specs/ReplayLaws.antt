@@ -1,4 +1,4 @@
--- What a replay says in terms of lists of events.
+-- What a replay reports, in terms of lists of events.
 use Rattle.std.specs.Prelude.{ℕ, ◌≡◌, ◌<◌, ◌≤◌, ◌↔◌, ◌&&◌, nat_lt, List, ◌++◌, length, map, filter, All, Option, None, Some, MatchOption}
 use Rattle.beeb_bits.specs.declared.Side.{Side}
 use Rattle.beeb_bits.specs.declared.Side.TheVariants.{Host, Para}
@@ -20,30 +20,35 @@ use Rattle.tube_party.specs.Reference.{World, reference}
 abbrev pub own_below : Side → ℕ → List Entry → List Entry
 own_below side n trace = filter (λ x. is_side side x.side && nat_lt (x.tick).0 n) trace
 
--- An access is answered by a byte, and a look by the lines of the chip after the entries of the trace that come before it.
+-- An access is answered by a byte, and a look by the lines of the chip after the entries of the
+-- trace that come before it.
 abbrev pub IsAnsweredBy : List Entry → ℕ → Side → Query → Answer → Type 0
 IsAnsweredBy trace t side (access op) a = FitsAnswer (access op) a
 IsAnsweredBy trace t side look a = a ≡ Seen (lines_of (chip_before side t power_on trace))
 
--- The machine follows a list up to n whose accesses are the side's entries of the trace below n, and whose looks the trace answers.
+-- The machine follows a list up to n. The list's accesses are the side's entries of the trace below
+-- n, and the trace answers its looks.
 pub record FollowsTrace {S : Type 0} (m : Moves S) (side : Side) (trace : List Entry) (n : ℕ) (s ended : S) : Type 0 where
   pub events : List Event
   pub follows : Follows m side s events n ended
   pub own : accesses events ≡ own_below side n trace
   pub answered : All (λ e. IsAnsweredBy trace e.tick e.side e.query e.answer) events
 
--- A replay ends without a place that differs exactly where the machine follows the trace, and in that state.
+-- A replay ends without a difference exactly if the machine follows the trace, and in the state
+-- that the machine then has.
 abbrev pub ReplayIsFollowing : {S : Type 0} → Moves S → Type 0
 ReplayIsFollowing {S} m =
     (side : Side) (trace : List Entry) (n : ℕ) (s ended : S) →
     (replay_of m side trace n s ≡ record { machine = ended; place = None }) ↔ FollowsTrace m side trace n s ended
 
--- Where a machine and its side's entries of a trace part: the machine's state before what it does next, and the entries that are left.
+-- The point where a machine and its side's entries of a trace differ: the machine's state before
+-- its next step, and the entries that are left.
 pub record Parting (S : Type 0) : Type 0 where
   pub last : S
   pub left : List Numbered
 
--- What a replay tells of it: the line, what the machine does there, if it does something, and the machine.
+-- What a replay reports of a difference: the line, what the machine does there, if it does
+-- something, and the machine.
 pub record Difference (S : Type 0) : Type 0 where
   pub line : ℕ
   pub what : Option Doing
@@ -52,8 +57,9 @@ pub record Difference (S : Type 0) : Type 0 where
 abbrev pub difference : {S : Type 0} → ℕ → Option Doing → S → Difference S
 difference line what machine = record { line = line; what = what; machine = machine }
 
--- What the machine does next below n and the side's entries that are left, of a trace of so many lines, differ. Either it makes an access that is not the
--- next of them, if one is left; or it does nothing more, and one is left.
+-- What the machine does next below n and the side's entries that are left, of a trace of `lines`
+-- lines, differ. Either it makes an access, and the next entry is another or none is left; or it
+-- does nothing more, and an entry is left.
 abbrev pub IsDifference : {S : Type 0} → Moves S → Side → ℕ → ℕ → Parting S → Difference S → Type 0
 IsDifference m side n lines at d =
     MatchOption d.what
@@ -66,7 +72,8 @@ IsDifference m side n lines at d =
     × Misses at.left lines (m.due at.last) op d.line
     × (d.machine ≡ at.last))
 
--- The machine makes the first of the side's entries below n, its looks answered by the trace, and then they differ so.
+-- The machine makes the first of the side's entries below n, with its looks answered by the trace,
+-- and then meets the difference `d`.
 pub record DiffersAt {S : Type 0} (m : Moves S) (side : Side) (trace : List Entry) (n : ℕ) (s : S) (d : Difference S) : Type 0 where
   pub events : List Event
   pub steps : ℕ
@@ -79,14 +86,15 @@ pub record DiffersAt {S : Type 0} (m : Moves S) (side : Side) (trace : List Entr
   pub agrees : accesses events ≡ map (λ x. x.entry) agreed
   pub differs : IsDifference m side n (length trace) (record { last = last; left = left }) d
 
--- A replay ends at a place exactly where that is the first difference, and with the machine before it.
+-- A replay ends at a place exactly if that is the first difference, and with the machine before it.
 abbrev pub ReplayTellsDifference : {S : Type 0} → Moves S → Type 0
 ReplayTellsDifference {S} m =
     (side : Side) (trace : List Entry) (n : ℕ) (s : S) (line : ℕ) (what : Option Doing) (stopped : S) →
     (replay_of m side trace n s ≡ record { machine = stopped; place = Some (line, what) })
     ↔ DiffersAt m side trace n s (difference line what stopped)
 
--- The replay of each party against the reference run's own list meets no difference, and ends as the reference run does.
+-- The replay of each party against the reference run's own list meets no difference, and ends as
+-- the reference run does.
 abbrev pub ReferenceIsReplayed : {S T : Type 0} → Moves S → Moves T → Type 0
 ReferenceIsReplayed {S} {T} h p =
     (s : S) (t : T) (n : ℕ) →

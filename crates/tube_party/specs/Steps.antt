@@ -29,7 +29,7 @@ module _ {S : Type 0} (m : Moves S) (n : ℕ) (lines : Lines) (sure : ℕ) where
       → Looks m n (shown_lines lines sure) (suc k) s last
   look_first k s last low asks early looks = grind arith
 
-  -- steps after the first of them
+  -- steps of which the first is followed by others
   after_by : (j k : ℕ) (s mid last : S) (o : Option Query) → ((u : S) → Looks m n (shown_lines lines sure) j u mid → Looks m n (shown_lines lines sure) k u last) → After j s mid o → After k s last o
   after_by j k s mid last o on h = grind arith
 
@@ -71,7 +71,7 @@ module _ {S : Type 0} (m : Moves S) (n : ℕ) (lines : Lines) (sure : ℕ) where
   due_rises zero s last lawful looks = subst (λ (x : S). m.due s ≤ m.due x) looks (let d : ℕ = m.due s in omega arith)
   due_rises (suc k) s last lawful looks = due_past k s last lawful (m.asks s) (λ u on. due_rises k u last lawful on) looks.1
 
-  -- past the access that is asked behind them the tick, which was below n, is larger
+  -- past the access that is asked after them the tick, which was below n, is larger
   pub rises_past_access : (k : ℕ) (s last at new : S) (t : Tick) (op : Op) (byte : ℕ) → IsLawful m → Looks m n (shown_lines lines sure) k s last
       → IsAsk m n last (Access t op) at → new ≡ m.next at (Some (Byte byte)) → (m.due s < m.due new) × (m.due s < n)
   rises_past_access k s last at new t op byte lawful looks asked goes =
@@ -81,7 +81,7 @@ module _ {S : Type 0} (m : Moves S) (n : ℕ) (lines : Lines) (sure : ℕ) where
       let w : m.due at ≡ m.due last = ap m.due asked.3 in
       (omega (arith, x, y, z, w), omega (arith, x, asked.0, asked.1))
 
-  -- steps that ask nothing are some of them
+  -- steps that ask nothing are such steps
   silent_by : (j k : ℕ) (s mid last : S) (o : Option Query) →
       ((u : S) → Runs m Host n j u (course [] mid) → Looks m n (shown_lines lines sure) k u last) →
       MatchOption o (Runs m Host n j (m.next s None) (course [] mid)) (λ q. ⊥) → After k s last o
@@ -91,7 +91,7 @@ module _ {S : Type 0} (m : Moves S) (n : ℕ) (lines : Lines) (sure : ℕ) where
   silent_all zero s last h = h.1
   silent_all (suc k) s last h = (h.0, silent_by k k s last last (m.asks s) (λ u on. silent_all k u last on) h.1)
 
--- where no look is sure, all steps ask nothing
+-- if no look is below `safe_until`, all steps ask nothing
 module _ {S : Type 0} (m : Moves S) (n : ℕ) (lines : Lines) where
   runs_by_looks : (k : ℕ) (s last : S) (o : Option Query) →
       ((u : S) → Looks m n (shown_lines lines 0) k u last → Runs m Host n k u (course [] last)) →
@@ -106,7 +106,7 @@ module _ {S : Type 0} (m : Moves S) (n : ℕ) (lines : Lines) where
   pub advances_of : (s new : S) (ask : Ask) → Sees m n (shown_lines lines 0) s ask new → Advances m n s ask new
   advances_of s new ask sees = record { steps = sees.steps; last = sees.last; runs = none_seen sees.steps s sees.last sees.looks; asked = sees.asked }
 
--- ---- A run on trust, in strides
+-- ---- A speculative run, in strides
 
 module _ {S : Type 0} (m : Moves S) (n : ℕ) (lines : Lines) where
   wider_by : (sure far k : ℕ) (s last : S) (o : Option Query) → sure ≤ far → ((u : S) → Looks m n (shown_lines lines sure) k u last → Looks m n (shown_lines lines far) k u last) →
@@ -118,12 +118,12 @@ module _ {S : Type 0} (m : Moves S) (n : ℕ) (lines : Lines) where
   looks_wider sure far zero s last low h = h
   looks_wider sure far (suc k) s last low h = (h.0, wider_by sure far k s last (m.asks s) low (λ u on. looks_wider sure far k u last low on) h.1)
 
--- where it left off, what it asked is asked by the next step
+-- the next step asks what was asked when the run stopped
 pub left_pending : {S D : Type 0} (m : Moves S) (answers : D → ℕ → Op → ℕ → D → Type 0) (n : ℕ) (v : Shown) (s : S) (d : D) (ask : Ask) (new : S) (e : D)
     → GoesHearing m answers n v s d ask new e → ask ≢ Nothing → IsPending m n new ask
 left_pending m answers n v s d ask new e went h = grind arith
 
--- ---- Steps with accesses that are answered in passing
+-- ---- Steps with accesses that a port answers
 
 module _ {S D : Type 0} (m : Moves S) (answers : D → ℕ → Op → ℕ → D → Type 0) (n : ℕ) (lines : Lines) (sure : ℕ) where
   -- other steps before them
@@ -149,7 +149,7 @@ module _ {S D : Type 0} (m : Moves S) (answers : D → ℕ → Op → ℕ → D 
       let rest : m.due h.1 ≤ m.due last = talks_rise j h.1 last h.2 e lawful h.5 in
       omega (arith, up, past, rest)
 
-  -- and behind them the looks up to an access that is answered, and that
+  -- and after them the looks up to an access that is answered, and that access
   pub talks_past_access : (k : ℕ) (old s last at new : S) (d f e : D) (t : Tick) (op : Op) (byte : ℕ)
       → (j : ℕ) × Talks m answers n (shown_lines lines sure) j old d s f → Looks m n (shown_lines lines sure) k s last
       → IsAsk m n last (Access t op) at → answers f t.0 op byte e → new ≡ m.next at (Some (Byte byte))
@@ -165,7 +165,7 @@ module _ {S D : Type 0} (m : Moves S) (answers : D → ℕ → Op → ℕ → D 
       } in
       talks_on so_far.0 1 old s new d f e so_far.1 (last, new, e, (k, looks), passed, (refl, (0, refl)))
 
-  -- what they come to
+  -- what such steps and a further run yield
   pub hears_after : (s mid new : S) (d f e : D) (ask : Ask) → (j : ℕ) × Talks m answers n (shown_lines lines sure) j s d mid f → Hears m answers n (shown_lines lines sure) mid f ask new e
       → Hears m answers n (shown_lines lines sure) s d ask new e
   hears_after s mid new d f e ask so_far hears =

@@ -1,4 +1,4 @@
--- What is asked at a turn, what is kept of it, and whose turn is next.
+-- What is asked at a turn, what is stored of it, and the side whose turn is next.
 use Rattle.std.specs.Prelude.{ℕ, ◌≡◌, ◌+◌, ◌-◌, ◌<◌, ◌≤◌, nat_lt, Option, None, Some, List, [], ◌∷◌, ◌++◌, length, if◌then◌else◌}
 use Rattle.beeb_bits.specs.declared.Side.{Side}
 use Rattle.beeb_bits.specs.declared.Side.TheVariants.{Host, Para}
@@ -22,17 +22,17 @@ IsPending m n s Nothing = ⊥
 IsPending m n s (Access t op) = (t.0 ≡ m.due s) × (t.0 < n) × (m.asks s ≡ Some (access op))
 IsPending m n s (Look t) = (t.0 ≡ m.due s) × (t.0 < n) × (m.asks s ≡ Some look)
 
--- the tick of what is asked
+-- the tick of an ask, or 0 for `Nothing`
 abbrev pub tick_of : Ask → ℕ
 tick_of Nothing = 0
 tick_of (Access t op) = t.0
 tick_of (Look t) = t.0
 
--- whose step comes first: the host's, unless the parasite's is at a smaller tick
+-- the side whose step comes first: the host, unless the parasite's step is at a smaller tick
 abbrev pub first_due : ℕ → ℕ → Side
 first_due t u = if nat_lt u t then Para else Host
 
--- whose ask comes first, if there is one
+-- the side whose ask comes first, if one asks
 abbrev pub first_of : Ask → Ask → Option Side
 first_of Nothing Nothing = None
 first_of Nothing (Access u op) = Some Para
@@ -44,14 +44,14 @@ first_of (Access t op) (Look u) = Some (first_due t.0 u.0)
 first_of (Look t) (Access u po) = Some (first_due t.0 u.0)
 first_of (Look t) (Look u) = Some (first_due t.0 u.0)
 
--- how far an ask is from n
+-- the number of ticks from an ask to n
 abbrev pub ticks_left : ℕ → Ask → ℕ
 ticks_left n Nothing = 0
 ticks_left n (Access t op) = n - t.0
 ticks_left n (Look t) = n - t.0
 
--- Looks of the other side below this tick see the chip as it is, where they may come so many ticks behind a step of this one: its next step is
--- not before it, if one is left.
+-- Looks of the other side below `safe_until` meet the chip as it is: that tick is at most
+-- `tie_offset` ticks after this party's ask, if it asks.
 abbrev pub IsSure : ℕ → Ask → ℕ → Type 0
 IsSure slack Nothing sure = Unit {0}
 IsSure slack (Access t op) sure = sure ≤ t.0 + slack

@@ -1,4 +1,4 @@
-//! A trace as one side's machine meets it.
+//! A trace as one side's machine reads it.
 ghost use Rattle.std.specs.Prelude.{◌≡◌, ◌≤◌, ◌<◌, ◌+◌, ℕ, length, drop, All, MatchResult, ◌&&◌, nat_lt, true, false};
 ghost use Rattle.beeb_bits.specs.declared.Side.{Side};
 ghost use Rattle.beeb_bits.specs.Order.{before};
@@ -41,7 +41,8 @@ fn is_own(entry: Entry, side: Side, until: Tick) -> bool
     entry.side == side && entry.tick < until
 }
 
-/// The place of the side's next entry below `until`, from a place on; the length of the trace where there is none.
+/// Returns the index of the side's next entry below `until`, from index `from` on, or the length of
+/// the trace if there is none.
 pub(crate) fn next_own(trace: &[Entry], side: Side, until: Tick, from: usize) -> usize
     requires { from ≤ length trace.now }
     ensures within { result ≤ length trace.now }
@@ -55,7 +56,8 @@ pub(crate) fn next_own(trace: &[Entry], side: Side, until: Tick, from: usize) ->
     at
 }
 
-/// The byte of the side's next entry, at this place, if it is this access, or else the line where they differ.
+/// Returns the byte of the side's next entry, at index `at`, if the entry is access `op` at `tick`,
+/// or as `Err` the line where they differ.
 pub(crate) fn take(trace: &[Entry], at: usize, tick: Tick, op: Op) -> Result<u8, u64>
     requires within { at ≤ length trace.now }
     ensures { (side : Side) (n : ℕ) → IsOwnAt trace.now side n at → MatchResult result
@@ -74,7 +76,8 @@ pub(crate) fn take(trace: &[Entry], at: usize, tick: Tick, op: Op) -> Result<u8,
     }
 }
 
-// The place where the side has an entry and the machine does nothing more, if there is one.
+// Returns the place of the side's next entry, if there is one, at which the machine does nothing
+// more.
 fn next_line(trace: &[Entry], at: usize) -> Option<(u64, Option<Doing>)>
     requires { at ≤ length trace.now }
     ensures { (side : Side) (n : ℕ) → IsOwnAt trace.now side n at →
@@ -87,7 +90,8 @@ fn next_line(trace: &[Entry], at: usize) -> Option<(u64, Option<Doing>)>
     }
 }
 
-/// A side's entries below a tick, as far as they are left of a trace. They are a desk, which answers an access that is the next of them.
+/// A side's entries below a tick that are left of a trace. As a port it answers an access that is
+/// the next of the entries.
 #[derive(Drop)]
 pub(crate) struct OwnEntries<'a> {
     trace: &'a [Entry],
@@ -109,7 +113,7 @@ impl<'a> Model for OwnEntries<'a> {
 }
 
 impl<'a> OwnEntries<'a> {
-    /// All of them.
+    /// Makes a port of all of a side's entries below `until`.
     pub(crate) fn new(trace: &'a [Entry], side: Side, until: Tick) -> OwnEntries<'a>
         ensures left { result.left ≡ own_left trace.now side until.0 0 }
         ensures lines { result.lines ≡ length trace.now }
@@ -123,7 +127,8 @@ impl<'a> OwnEntries<'a> {
         }
     }
 
-    /// The byte of the next of them, if it is this access, or else the line where they differ.
+    /// Takes the next of the entries, and returns its byte, if it is access `op` at `tick`.
+    /// Otherwise returns as `Err` the line where they differ.
     #[inline(always)]
     pub(crate) fn take(&mut self, tick: Tick, op: Op) -> Result<u8, u64>
         ensures { MatchResult result (λ byte. IsTaken self.old tick.0 op byte self.new)
@@ -134,7 +139,7 @@ impl<'a> OwnEntries<'a> {
         Ok(byte)
     }
 
-    /// The place of the next of them, where the machine does nothing more.
+    /// Returns the place of the next of the entries, if the machine does nothing more.
     pub(crate) fn next_line(&self) -> Option<(u64, Option<Doing>)>
         ensures { result ≡ next_line (self.now).left }
     {
@@ -168,7 +173,8 @@ impl<'a> Desk for OwnEntries<'a> {
     }
 }
 
-// Does the entries that come before a look of the side at a tick, from a place on, and gives the place of the first that doesn't.
+// Does the entries from index `seen` on that come before a look of the side at `tick`. Returns the
+// index of the first that does not.
 #[inline(never)]
 fn catch_up(chip: &mut Chip, trace: &[Entry], seen: usize, side: Side, tick: Tick) -> usize
     requires within { seen ≤ length trace.now }
@@ -187,7 +193,7 @@ fn catch_up(chip: &mut Chip, trace: &[Entry], seen: usize, side: Side, tick: Tic
     at
 }
 
-// The first tick at which a look of the side comes after an entry, but no earlier than another.
+// Returns the first tick, at least `least`, at which a look of the side comes after the entry.
 #[inline(always)]
 fn first_look(entry: Entry, side: Side, least: u64) -> u64
     ensures least { least ≤ result }
@@ -202,7 +208,7 @@ fn first_look(entry: Entry, side: Side, least: u64) -> u64
     if first < least { least } else { first }
 }
 
-/// Whether an operation reads a status register, and so leaves the chip.
+/// Returns `true` only if the operation reads a status register, and so does not change the chip.
 #[inline(always)]
 pub(crate) fn is_status(op: Op) -> bool
     ensures reads { result ≡ true → IsStatusRead op }
@@ -215,7 +221,7 @@ pub(crate) fn is_status(op: Op) -> bool
     }
 }
 
-// Does an entry, and says whether it leaves these lines.
+// Does an entry. Returns `true` only if it does not change the lines.
 #[inline(always)]
 fn leaves_lines(chip: &mut Chip, lines: &Lines, entry: Entry) -> bool
     requires entry { IsEntry entry }
@@ -230,8 +236,9 @@ fn leaves_lines(chip: &mut Chip, lines: &Lines, entry: Entry) -> bool
     chip.lines() == *lines
 }
 
-// Does entries from a place on, as long as they leave these lines, and the first that does not. It gives the place behind that, and a tick: looks of
-// the side below it see the lines, and looks from there on in a run come after all entries that are done.
+// Does entries from index `from` on, up to and including the first that changes the lines. Returns
+// the index after that entry, and a tick: looks of the side below the tick see `lines`, and looks
+// from the tick on in a run come after all entries that are done.
 #[inline(never)]
 fn go_past(
     chip: &mut Chip,
@@ -262,9 +269,10 @@ fn go_past(
     (at, Tick(MOST))
 }
 
-/// The lines at a look of the side at a tick. From a place on, the entries that come before the look are done, then others as long as they leave the
-/// lines, and the first that does not. It gives the place behind that, and a tick: looks below it see the lines, and looks from there on come after
-/// all entries that are done.
+/// Sets `lines` to those at a look of the side at `tick`. Does the entries from index `seen` on
+/// that come before the look, and then others, up to and including the first that changes the
+/// lines. Returns the index after that entry, and a tick: looks below the tick see `lines`, and
+/// looks from the tick on come after all entries that are done.
 #[inline(always)]
 pub(crate) fn lines_at(
     chip: &mut Chip,

@@ -1,4 +1,4 @@
-//! What answers a party's accesses in passing.
+//! Ports, which answer a party's accesses without stopping the party.
 ghost use Rattle.std.specs.Prelude.{◌≡◌, ◌≤◌, ◌<◌, ◌+◌, ◌*◌, ◌^◌, ℕ, MatchOption};
 ghost use Rattle.tube_chip.specs.declared.Op.{Op};
 ghost use Rattle.tube_party.specs.Moves.{IsAnsweredAgain};
@@ -6,30 +6,34 @@ ghost use Rattle.tube_party.specs.Moves.{IsAnsweredAgain};
 use beeb_bits::Tick;
 use tube_chip::Op;
 
-/// What a party that goes on asks in passing: where it has an answer, the party need not leave off at an access.
+/// Answers a running party's Tube accesses: the party need not stop at an access that has an
+/// answer.
 pub trait Desk {
-    /// What contracts see of it.
+    /// The port's state, as contracts see it.
     ghost State: { Type 0 };
 
     ghost state: { Self → State };
 
-    /// From one state an access at a tick may be answered by a byte, which leaves another.
+    /// In a state, an access at a tick may be answered by a byte, which leads to another state.
     ghost answers: { State → ℕ → Op → ℕ → State → Type 0 };
 
-    /// Whether it may have an answer to an access at a tick from the first on, below the second.
+    /// Returns `true` if the port may answer an access at a tick from `from` on, below `to`.
     fn awaits(&self, from: Tick, to: Tick) -> bool;
 
-    /// Whether it is asked for each access, and not only where the party does an instruction at once: elsewhere a party then leaves off.
+    /// Returns `true` if the port is asked about each access, and `false` if only about those that
+    /// a party makes as part of whole instructions. In the latter case a party stops at each other
+    /// access.
     fn is_asked_each(&self) -> bool {
         false
     }
 
-    /// The byte that an access at this tick reads, or 0 of a write. None where the party is to leave off there.
+    /// Returns the byte that an access at `tick` reads, or 0 for a write. Returns `None`,
+    /// unchanged, if the party must stop there.
     fn ask(&mut self, tick: Tick, op: Op) -> Option<u8>
         ensures { MatchOption result (state self.new ≡ state self.old) (λ byte. answers (state self.old) tick.0 op byte (state self.new)) };
 
-    /// How often the same access is answered by the same byte again, each time so many ticks later than the time before, the first time after this tick;
-    /// at most so often. A desk that says 0 is asked each time.
+    /// Answers further accesses `op` by `byte`, at `tick + period` and each `period` ticks later.
+    /// Returns their number, at most `most`. A port that returns 0 is asked each time.
     fn again(&mut self, tick: Tick, op: Op, byte: u8, period: u64, most: u64) -> u64
         requires { tick.0 + period * (most + 1) < 2 ^ 63 }
         ensures again { IsAnsweredAgain answers op byte period result (state self.old) tick.0 (state self.new) }
@@ -40,7 +44,7 @@ pub trait Desk {
     }
 }
 
-/// A desk that has no answer.
+/// A port without answers.
 #[derive(Drop)]
 pub struct Closed;
 

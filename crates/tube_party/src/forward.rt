@@ -6,8 +6,8 @@ use beeb_bits::Tick;
 use std::alloc::{AllocError, Global};
 use tube_chip::{Answer, Lines};
 
-/// A party that notes nothing: it goes no further than what is sure, and so need never be rolled back. With it any two
-/// parties can be run beside each other.
+/// A party that notes nothing: it never speculates, and so need never be rolled back. With it any
+/// two parties can be run in two threads.
 #[derive(Drop)]
 pub struct Forward<P> {
     pub party: P,

@@ -7,15 +7,15 @@ ghost use Rattle.tube_party.specs.ReplayLaws.{ReplayIsFollowing, ReplayTellsDiff
 
 use crate::party::Party;
 
-/// A party that was closed goes on as it would have gone on before. What it follows up to one tick and then up to another it
-/// follows up to the second at once.
+/// A party that was closed continues as it would have before. What it follows up to one tick and
+/// then up to another it follows up to the second at once.
 pub fn party_goes_on<M: Party>()
     ensures shut { MayBeShut M.moves }
     ensures follows { FollowsOn M.moves }
 {}
 
-/// Two parties, each of which follows a list of events of its side, are what the reference run of both is, if the merge of the two
-/// lists is legal. Then the reference run's list is that merge.
+/// If two parties each follow a list of events of their side, and the merge of the two lists is
+/// legal, the reference run ends with both as they end, and its list is that merge.
 pub fn legal_merge_is_reference<H: Party, P: Party>()
     ensures { LegalMergeIsReference H.moves P.moves }
 {}
@@ -25,29 +25,32 @@ pub fn reference_is_followed<H: Party, P: Party>()
     ensures { ReferenceIsFollowed H.moves P.moves }
 {}
 
-/// The accesses of the reference run's list are operations that their sides may do; they rise, lie below the end of the run, and have
-/// the chip's answers.
+/// The accesses of the reference run's list are operations that their sides may do. They rise, lie
+/// below the end of the run, and have the chip's answers.
 pub fn reference_is_trace<H: Party, P: Party>()
     requires sides { TakeSides H.plays P.plays }
     ensures { ReferenceIsTrace H.moves P.moves }
 {}
 
-/// A replay ends at no place that differs, with the party in some state, exactly where the party follows a list of events to that
-/// state. The accesses of the list are the side's entries below the end of the replay, and its looks see what comes before them
-/// in the trace. It ends at a place exactly where the party and the entries differ there for the first time.
+/// A replay ends without a difference, with the party in some state, exactly if the party follows a
+/// list of events to that state. The accesses of the list are the side's entries below the end of
+/// the replay, and its looks see the chip after the trace's entries before them. A replay ends at a
+/// place exactly if the party and the entries differ there for the first time.
 pub fn replay_is_following<M: Party>()
     ensures follows { ReplayIsFollowing M.moves }
     ensures differs { ReplayTellsDifference M.moves }
 {}
 
-/// A replay of either party against the accesses of the reference run's list ends at no place that differs, with the party as the
-/// reference run leaves it.
+/// A replay of either party against the accesses of the reference run's list ends without a
+/// difference, with the party as the reference run leaves it.
 pub fn reference_is_replayed<H: Party, P: Party>()
     ensures { ReferenceIsReplayed H.moves P.moves }
 {}
 
-/// Two parties that were brought back to a tick, each by its replay against a trace below it, with the chip after that trace and
-/// its accesses, are the reference run at that tick. The reference run that goes on from there is the reference run.
+/// Two parties that were brought back to a tick, each by its replay against a trace below it, with
+/// the chip after that trace and its accesses, are the reference run at that tick, but for the
+/// looks in its list. The reference run that continues from there is the reference run, but for
+/// these looks.
 pub fn brought_back_is_reference<H: Party, P: Party>()
     ensures { BroughtBackIsReference H.moves P.moves }
 {}

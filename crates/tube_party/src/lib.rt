@@ -1,4 +1,4 @@
-//! Parties at the Tube: what a machine with a clock is, two of them at one chip, and one against a trace.
+//! Parties at the Tube: a machine with a clock, two of them at one chip, and one against a trace.
 #![tactic(auto)]
 
 mod cursor;

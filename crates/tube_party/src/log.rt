@@ -1,11 +1,11 @@
-//! What is kept of a side's accesses.
+//! The stored accesses of a side.
 ghost use Rattle.std.specs.Prelude.{◌≡◌, ◌≤◌, ◌<◌, ◌^◌, ◌∷◌, [], IfOk, length, take, vec_capacity};
 
 use std::alloc::{AllocError, Global};
 use std::mem;
 use tube_trace::Entry;
 
-/// The first `keep` accesses of a side, with room for them all, and the number of all.
+/// The first `keep` accesses of a side, with room for them all, and the number of all accesses.
 #[derive(Drop)]
 pub struct Log {
     pub list: Vec<Entry>,
@@ -14,7 +14,7 @@ pub struct Log {
     ghost room: { keep ≤ vec_capacity list },
 }
 
-/// How far a log was written.
+/// The length and the count of a log at some moment.
 #[derive(Clone, Copy)]
 pub struct LogMark {
     pub len: usize,
@@ -24,7 +24,7 @@ pub struct LogMark {
 impl Log {
     ghost use Rattle.tube_party.specs.Logs.{IsFresh, HasNoted};
 
-    /// A log of nothing yet.
+    /// Makes an empty log with room for `keep` accesses.
     pub fn new(alloc: Global, keep: u32) -> Result<Log, AllocError>
         ensures { IfOk result (λ log. IsFresh keep log) }
     {
@@ -36,7 +36,7 @@ impl Log {
         })
     }
 
-    /// One more access: it is counted, and joins the list while that has fewer than `keep`. Takes no memory.
+    /// Counts one more access, and stores it while fewer than `keep` are stored. Takes no memory.
     pub fn note(&mut self, entry: Entry)
         requires { self.old.count < 2 ^ 63 }
         ensures { HasNoted (entry ∷ []) self.old self.new }
@@ -47,7 +47,7 @@ impl Log {
         self.count += 1;
     }
 
-    /// Takes it out of its place, where an empty one is left.
+    /// Moves the log out, and leaves an empty one.
     pub fn take(&mut self) -> Log
         ensures { result ≡ self.old }
     {
@@ -59,7 +59,7 @@ impl Log {
         mem::replace(self, empty)
     }
 
-    /// How far it is written.
+    /// Returns the present length and count.
     pub fn mark(&self) -> LogMark
         ensures len { result.len ≡ length self.now.list.items }
         ensures count { result.count ≡ self.now.count }
@@ -70,7 +70,7 @@ impl Log {
         }
     }
 
-    /// Takes out what was noted since it was written so far.
+    /// Removes what was noted after `mark`.
     pub fn cut(&mut self, mark: LogMark)
         ensures list { self.new.list.items ≡ take mark.len self.old.list.items }
         ensures count { self.new.count ≡ mark.count }

@@ -1,4 +1,4 @@
-//! The memory of a run on one thread, and the accesses that were made before it goes on.
+//! The memory of a run on one thread, and the accesses that were made before it.
 ghost use Rattle.std.specs.Prelude.{◌≡◌, ◌≤◌, ◌<◌, ◌^◌, All, IfOk, length};
 ghost use Rattle.beeb_bits.specs.declared.Side.TheVariants.{Host, Para};
 ghost use Rattle.tube_chip.specs.Events.{after};
@@ -14,7 +14,8 @@ use std::alloc::{AllocError, Global};
 use tube_chip::Chip;
 use tube_trace::Entry;
 
-/// All memory of a run of two parties on one thread: room for the first `keep` accesses of each side, and for what the parasite's party notes.
+/// All memory of a run of two parties on one thread: room for the first `keep` accesses of each
+/// side, and for the undo notes of the parasite's party.
 #[derive(Drop)]
 pub struct Room<P: Rewinds> {
     pub keep: u32,
@@ -26,10 +27,10 @@ pub struct Room<P: Rewinds> {
 }
 
 impl<P: Rewinds> Room<P> {
-    /// Takes it.
+    /// Takes the memory.
     ///
     /// # Errors
-    /// Want of memory.
+    /// Out of memory.
     pub fn new(alloc: Global, keep: u32) -> Result<Room<P>, AllocError>
         ensures { IfOk result (λ room. room.keep ≡ keep) }
     {
@@ -45,7 +46,7 @@ impl<P: Rewinds> Room<P> {
     }
 }
 
-/// One more access, in the log of its side.
+/// Notes one more access, in the log of its side.
 #[inline(always)]
 pub(crate) fn note_own(host_log: &mut Log, para_log: &mut Log, entry: Entry)
     requires host_count { host_log.old.count < 2 ^ 63 }
@@ -59,7 +60,7 @@ pub(crate) fn note_own(host_log: &mut Log, para_log: &mut Log, entry: Entry)
     }
 }
 
-/// The chip after the accesses of a list, from power-on on, with each in the log of its side.
+/// Returns the chip after the accesses of a list, from power-on. Notes each in the log of its side.
 pub(crate) fn note_all(host_log: &mut Log, para_log: &mut Log, entries: &[Entry]) -> Chip
     requires entries { All IsEntry entries.now }
     requires host_none { IsFresh host_log.old.keep host_log.old }

@@ -24,8 +24,8 @@ use std::alloc::Global;
 use tube_chip::{Answer, Chip, Lines};
 use tube_trace::Entry;
 
-/// Two parties after a run, with the chip between them. A list holds the first accesses of its side, as many as were to be kept, and
-/// a count is the number of all of them.
+/// Two parties after a run, with the chip between them. A list has the first accesses of its side,
+/// as many as were to be stored, and a count is the number of all of them.
 #[derive(Drop)]
 pub struct Done<H, P> {
     pub host: H,
@@ -37,7 +37,7 @@ pub struct Done<H, P> {
     pub para_count: u64,
 }
 
-/// Whose ask comes first, if there is one.
+/// Returns the side whose ask comes first, if one asks.
 fn first_of(host: Ask, para: Ask) -> Option<Side>
     ensures { result ≡ first_of host para }
 {
@@ -58,8 +58,9 @@ fn first_of(host: Ask, para: Ask) -> Option<Side>
     }
 }
 
-/// A tick below which each look and access of the other side meets the chip as it is, by what this party asks next: it may come `slack` ticks behind a
-/// step of this party. The last tick of a run where it asks nothing.
+/// Returns the tick below which the other side's looks and accesses meet the chip as it is, given
+/// this party's next ask: `tie_offset` ticks after the ask, or the end of the longest run if it
+/// asks nothing. `tie_offset` is 1 if the other side is first on equal ticks, and otherwise 0.
 #[inline(always)]
 fn lookahead(ask: Ask, slack: u64) -> Tick
     ensures { IsSure slack ask result.0 }
@@ -70,7 +71,7 @@ fn lookahead(ask: Ask, slack: u64) -> Tick
     }
 }
 
-/// The tick of what is asked.
+/// Returns the tick of an ask, or 0 for `Nothing`.
 #[inline(always)]
 fn tick_of(ask: Ask) -> Tick
     ensures { result.0 ≡ tick_of ask }
@@ -81,7 +82,7 @@ fn tick_of(ask: Ask) -> Tick
     }
 }
 
-/// Does the step that asks. The lines are kept up with the chip, which a look leaves alone.
+/// Does the step that asks, and keeps `lines` equal to the chip's. A look does not change the chip.
 #[inline(always)]
 fn act<M: Party>(
     machine: &mut M,
@@ -120,7 +121,8 @@ fn act<M: Party>(
     }
 }
 
-/// Whether a party whose step asks this next may go ahead from there: past a look, or past a read of its status.
+/// Returns `true` if the party may speculate from its next ask: past a look, or past a read of its
+/// status.
 #[inline(always)]
 fn may_go_ahead(ask: Ask, stride: &Stride) -> bool
     ensures { result ≡ true → ask ≢ Ask.Nothing }
@@ -132,8 +134,9 @@ fn may_go_ahead(ask: Ask, stride: &Stride) -> bool
     }
 }
 
-/// Goes ahead from what is asked next: past all that the chip shows it below `ahead`, and its status too, as the stride says, where its notes allow. True if
-/// it is ahead, and what is asked then.
+/// Speculates from `ask` on, if the party can note its steps: past all looks below `ahead`, and
+/// past status reads, if the stride allows them. Returns `true` if the party is ahead, and its next
+/// ask.
 #[inline(always)]
 fn go_ahead<M: Rewinds>(
     machine: &mut M,
@@ -164,7 +167,8 @@ fn go_ahead<M: Rewinds>(
     }
 }
 
-/// Whether a party that is ahead, and can be rolled back to this mark, has read the chip on its way.
+/// Returns `true` if a party is ahead, and has read the chip after `mark`, to which it can be
+/// rolled back.
 #[inline(always)]
 fn has_read(log: &Log, mark: LogMark, is_ahead: bool) -> bool
     ensures { result ≡ false → is_ahead ≡ true → log.now.count ≡ mark.count }
@@ -172,7 +176,7 @@ fn has_read(log: &Log, mark: LogMark, is_ahead: bool) -> bool
     is_ahead && log.count != mark.count
 }
 
-/// Whether what a party that is ahead saw on its way is sure to stay as it is behind the host's step that asks this.
+/// Returns `true` if the host's next step keeps all that a party ahead of it has observed.
 #[inline(always)]
 fn stays(table: &Table, is_ahead: bool, ask: Ask) -> bool
     ensures ahead { result ≡ false → is_ahead ≡ true }
@@ -187,7 +191,8 @@ fn stays(table: &Table, is_ahead: bool, ask: Ask) -> bool
     }
 }
 
-/// Rolls a party back that is ahead, and cuts its log to the mark. It goes on anew to tick `at`.
+/// Rolls back a party that is ahead, cuts its log to the mark, and runs it again up to tick `at`.
+/// Returns the next ask.
 #[inline(never)]
 fn roll_back<M: Rewinds>(
     machine: &mut M,
@@ -212,8 +217,8 @@ fn roll_back<M: Rewinds>(
     machine.advance_at(n, lines, at, table)
 }
 
-/// The tick below which the host's looks see the lines as they are: those of a host that sees its own request alone do while the chip enables none, else
-/// those do that come in time.
+/// Returns the tick below which the host's looks see the present lines: `n` if the host sees its
+/// own request alone and the chip enables none, and otherwise `safe_until`.
 #[inline(always)]
 fn seen_until<H: Party>(host: &H, chip: &Chip, n: Tick, sure: Tick) -> Tick
     ensures { (result ≡ sure) ⊎ (SeesHirqAlone H.moves × ((chip.now).flags.q ≡ false)) }
@@ -225,12 +230,16 @@ fn seen_until<H: Party>(host: &H, chip: &Chip, n: Tick, sure: Tick) -> Tick
     }
 }
 
-/// Goes on with two parties at one chip for the ticks below `n`, as the reference run does from where both parties are. Before it these accesses were
-/// made: the chip is the one after them, and they count among the accesses of each side, of which as many are kept as `room` has room for.
+/// Continues with two parties at one chip for the ticks below `n`, as the reference run does from
+/// where both parties are. The accesses `entries` were made before: the chip is the one after them,
+/// and they count among the accesses of each side. Of each side's accesses as many are stored as
+/// `room` has room for.
 ///
-/// Both parties take turns: the one whose ask comes first does that step, and goes on to the other's ask, with the accesses that leave the lines. The host
-/// goes on also past looks before which the parasite can change nothing that they see. Then the parasite goes ahead of the host, and reads its status
-/// registers as if the host left what they show. Before a step of the host that may change what it saw, it is rolled back.
+/// Both parties take turns: the one whose ask comes first does that step, and runs on to the
+/// other's ask, with the accesses that leave the lines. The host also runs past looks whose lines
+/// the parasite cannot change. After its turn the parasite speculates ahead of the host, and reads
+/// its status registers as if the host did not change them. Before a step of the host that may
+/// change what the parasite observed, the parasite is rolled back.
 pub fn go_on_from<H: Party, P: Rewinds>(
     mut host: H,
     mut para: P,
@@ -335,11 +344,12 @@ pub fn go_on_from<H: Party, P: Rewinds>(
     }
 }
 
-/// Runs two parties at one chip for the ticks below `n`, as the reference run does: on each tick the host's step, if it is due, and
-/// then the parasite's. Of each side's accesses the first `keep` are kept. All memory is taken before the first step.
+/// Runs two parties at one chip for the ticks below `n`, as the reference run does: at each tick
+/// the host's step, if it is due, and then the parasite's. The first `keep` accesses of each side
+/// are stored. All memory is taken before the first step.
 ///
 /// # Errors
-/// Want of memory: both parties are handed back as they were.
+/// Out of memory: both parties are returned as they were.
 pub fn solo<H: Party, P: Rewinds>(
     alloc: Global,
     host: H,

@@ -1,4 +1,4 @@
-//! What a machine at the Tube is.
+//! A machine at the Tube, as a trait.
 ghost use Rattle.std.specs.Prelude.{◌≡◌, ◌≤◌, ℕ, Bool, true, Some};
 ghost use Rattle.beeb_bits.specs.declared.Side.{Side};
 ghost use Rattle.tube_party.specs.Moves.{Moves, IsLawful, IsPermitted, SeesHirqAlone, Advances, Sees, Hears, IsAskedFor, shown_lines};
@@ -22,7 +22,7 @@ pub enum Ask {
 /// The most ticks of a run.
 pub const MOST: u64 = 1_073_741_824;
 
-/// Lines for a run in which no look is sure of its own, so that none sees these.
+/// Placeholder for runs with `safe_until` 0, in which no look reads it.
 pub const NO_LINES: Lines = Lines {
     prst: false,
     resets: 0,
@@ -31,8 +31,8 @@ pub const NO_LINES: Lines = Lines {
     hirq: false,
 };
 
-/// A machine with a clock, whose steps are bus accesses and looks at the Tube's lines. Contracts see its state, and its steps as functions
-/// of that state.
+/// A machine with a clock, whose steps are bus accesses and looks at the Tube's lines. Contracts
+/// see its state, and its steps as functions of that state.
 pub trait Party: Drop {
     /// What contracts see of a party.
     ghost State: { Type 0 };
@@ -42,36 +42,39 @@ pub trait Party: Drop {
     /// The party's steps.
     ghost moves: { Moves State };
 
-    /// Which sides it may play: some operations are of one side alone.
+    /// The sides that it may play: some operations are of one side alone.
     ghost plays: { Side → Bool };
 
-    /// Whether of the lines its looks see the host's interrupt request alone, as those of a host do. Where it says no, nothing is said.
+    /// Returns `true` only if, of the lines, the party's looks see the host's interrupt request
+    /// alone, as those of a host do.
     fn sees_hirq_alone(&self) -> bool
         ensures { result ≡ true → SeesHirqAlone moves }
     {
         false
     }
 
-    /// The tick of the next step.
+    /// Returns the tick of the next step.
     fn due(&self) -> Tick
         ensures { result.0 ≡ moves.due (state self.now) };
 
-    /// A tick before which no step asks that is reached by steps that ask nothing, whatever is answered later. It is not below that of the next
-    /// step.
+    /// Returns a tick before which no step asks, whatever is answered later. It is not before the
+    /// next step.
     fn quiet(&self) -> Tick
         ensures { IsQuiet moves (state self.now) result.0 }
     {
         self.due()
     }
 
-    /// Does the steps below `until` that ask nothing, up to the first that asks. After `Nothing` all steps below `until` are done, and the
-    /// state is closed at `until`, or as far as it is closed already if that is further.
+    /// Does the steps below `until` that ask nothing, up to the first that asks. After `Nothing`
+    /// all steps below `until` are done, and the state is closed at `until`, or further if it was
+    /// already.
     fn advance(&mut self, until: Tick) -> Ask
         requires { until.0 ≤ MOST }
         ensures { Advances moves until.0 (state self.old) result (state self.new) };
 
-    /// Does the steps below `until` that ask nothing, and with them each look below tick `sure`, which sees these lines; up to the first step
-    /// that asks for more. It is `advance` and `answer` in turn, and a machine may do it without leaving off at each look.
+    /// Does the steps below `until` that ask nothing, and the looks below `safe_until`, which see
+    /// `lines`, up to the first step that asks for more. It does `advance` and `answer` in turn; a
+    /// machine may do it without stopping at each look.
     fn advance_seeing(&mut self, until: Tick, lines: &Lines, sure: Tick) -> Ask
         requires { until.0 ≤ MOST }
         ensures { Sees moves until.0 (shown_lines lines.now sure.0) (state self.old) result (state self.new) }
@@ -90,7 +93,9 @@ pub trait Party: Drop {
         }
     }
 
-    /// The same, but with the accesses that the desk answers. It is `advance_seeing`, `Desk::ask` and `answer` in turn.
+    /// Does what `advance_seeing` does, and the accesses that the port answers. It does
+    /// `advance_seeing`, `TubePort::ask` and `answer` in turn; a machine may stop at an access that
+    /// the port would answer.
     fn advance_at<D: Desk>(&mut self, until: Tick, lines: &Lines, sure: Tick, desk: &mut D) -> Ask
         requires { until.0 ≤ MOST }
         ensures { Hears moves D.answers until.0 (shown_lines lines.now sure.0) (state self.old) (D.state desk.old) result (state self.new) (D.state desk.new) }

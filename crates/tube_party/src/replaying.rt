@@ -9,7 +9,7 @@ use beeb_bits::{Side, Tick};
 use tube_chip::{Answer, Chip, Op};
 use tube_trace::Entry;
 
-/// What a machine does at a place: an access of its side.
+/// What a machine does at a place of a trace: an access of its side.
 #[derive(Clone, Copy, Debug, PartialEq, Eq)]
 pub struct Doing {
     pub tick: Tick,
@@ -17,11 +17,13 @@ pub struct Doing {
     pub op: Op,
 }
 
-/// Runs a party up to tick `n` against the entries of its side: each access is answered by the next entry, each look by the lines
-/// of the chip after the entries of the trace before it. The second part is none where the party's accesses below `n` are exactly
-/// the side's entries below `n`. Otherwise it is the first place where they differ. That is the line of the side's entry there,
-/// counted from 1, or one past the trace where it has none; with it what the party does there, if it does something. The party
-/// stops before that step, or, if it does nothing more, as it is at `n`.
+/// Runs a party up to tick `n` against the entries of its side. Each access is answered by the next
+/// entry, each look by the lines of the chip after the entries of the trace before it. The second
+/// part of the result is `None` if the party's accesses below `n` are exactly the side's entries
+/// below `n`. Otherwise it is the first place where they differ: the line of the side's entry
+/// there, counted from 1, or one past the trace if the side has none; and what the party does
+/// there, if it does something. The party stops before that step, or, if it does nothing more, as
+/// it is at `n`.
 #[tactic(auto, unfolding(crate::specs::Replay::replay_of))]
 // Kept out of its caller, so that the loop has the registers to itself.
 #[inline(never)]

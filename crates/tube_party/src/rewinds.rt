@@ -9,25 +9,26 @@ use beeb_bits::Tick;
 use std::alloc::{AllocError, Global};
 use tube_chip::Lines;
 
-/// A party that can go on from what is not sure yet, and be rolled back to where it was.
+/// A party that can speculate, and be rolled back.
 ///
-/// One that cannot be rolled back notes nothing: its `Past` is `()`, its `advance_noting` answers None, and it never
-/// goes ahead. `Forward` makes such a one of any party.
+/// A party that cannot be rolled back notes nothing: its `Past` is `()`, its `advance_noting`
+/// returns `None`, and it never speculates. `Forward` makes such a party of any other.
 pub trait Rewinds: Party {
-    /// What it notes so that it can be rolled back.
+    /// The notes with which it is rolled back.
     type Past: Drop;
 
-    /// Where it was when it began to note, by where it is.
+    /// The party at the start of its notes, from the notes and the present party.
     ghost before: { Self.Past → Self → Self };
 
-    /// Room for what is noted.
+    /// Makes room for the notes.
     ///
     /// # Errors
-    /// Want of memory.
+    /// Out of memory.
     fn past(alloc: Global) -> Result<Self::Past, AllocError>;
 
-    /// Notes where it is, and goes on as `advance_at` does, as if each look below tick `sure` saw these lines; but it may leave off at any look.
-    /// None, and it is where it was, if it cannot note what it does.
+    /// Starts notes at the present state, and runs as `advance_at` does, with `lines` at each look
+    /// below `safe_until`; but it may stop at any look. Returns `None`, with party and port
+    /// unchanged, if it cannot note its steps.
     fn advance_noting<D: Desk>(
         &mut self,
         until: Tick,
@@ -44,8 +45,8 @@ pub trait Rewinds: Party {
             (λ ask. GoesHearing Self.moves D.answers until.0 (shown_lines lines.now sure.0) old (D.state desk.old) ask new (D.state desk.new)
             × (mark ≡ old)) };
 
-    /// Goes on from where a run that it notes left off with this ask, and notes that too. What it goes back to stays where it was. It may leave
-    /// off at any look, and at this ask too.
+    /// Continues a noted run from `ask`, at which it stopped, and notes the further steps too. A
+    /// rollback still leads to the start of the notes. It may stop at any look, and also at `ask`.
     fn advance_on<D: Desk>(
         &mut self,
         ask: Ask,
@@ -64,7 +65,7 @@ pub trait Rewinds: Party {
         ask
     }
 
-    /// Goes back to where it was when it began to note.
+    /// Rolls the party back to the start of its notes.
     fn rewind(&mut self, past: &mut Self::Past)
         ensures { Self.state self.new ≡ Self.state (before past.old self.old) };
 }

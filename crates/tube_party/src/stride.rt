@@ -1,25 +1,29 @@
-//! How far the parasite goes ahead of the host on one thread, and when it stays.
+//! The parasite's distance ahead of the host on one thread, and when it stays.
 use beeb_bits::Tick;
 
-// In ticks: the least and the most that the parasite goes ahead, and how far it has to go for its status to be read ahead.
+// In ticks: the least and the most that the parasite speculates, and the least with which it also
+// reads its status registers.
 const FEWEST: u64 = 16;
 
 const FURTHEST: u64 = 4_096;
 
 const TRUSTED: u64 = 64;
 
-// In ticks: the cost of a way ahead that the host cuts, which is twice that of a way that it does not cut, and the most credit.
+// In ticks: the cost of a speculation that is rolled back, which is twice that of another, and the
+// most credit.
 const COST: u64 = 128;
 
 const MOST_CREDIT: u64 = 1_024;
 
-/// The length of the parasite's next way ahead, and whether such a way pays. No promise depends on them.
+/// The length of the parasite's next speculation, and whether speculation pays. No promise depends
+/// on them.
 #[derive(Drop)]
 pub(crate) struct Stride {
     ticks: u64,
-    // The ticks that were gained by going ahead, less their cost. It grows by one in each turn in which the parasite stays, so that the parasite tries again.
+    // The ticks gained by speculation, less their cost. It grows by one in each turn in which the
+    // parasite stays, so that the parasite tries again.
     credit: u64,
-    // Where the last way began.
+    // The start of the last speculation.
     from: Tick,
 }
 
@@ -32,30 +36,30 @@ impl Stride {
         }
     }
 
-    /// Whether it pays to go ahead.
+    /// Returns `true` if speculation pays.
     pub(crate) fn pays(&self) -> bool {
         self.credit >= COST
     }
 
-    /// Whether the parasite reads its status registers as it goes ahead.
+    /// Returns `true` if the parasite reads its status registers as it speculates.
     pub(crate) fn reads(&self) -> bool {
         self.ticks >= TRUSTED && self.pays()
     }
 
-    /// The parasite goes ahead from this tick. The tick at which its way ends.
+    /// Starts a speculation at tick `from`. Returns the tick of its end.
     pub(crate) fn set_out(&mut self, from: Tick) -> Tick {
         self.from = from;
         Tick(from.0.saturating_add(self.ticks))
     }
 
-    /// The parasite's turn ends. Its next way is longer, if it pays to go ahead.
+    /// Ends the parasite's turn. Its next speculation is longer, if speculation pays.
     pub(crate) fn grow(&mut self) {
         if self.pays() {
             self.ticks = self.ticks.saturating_add(self.ticks / 4).min(FURTHEST);
         }
     }
 
-    /// The parasite's turn begins at this tick. If it was ahead, the host cut nothing of its way.
+    /// Starts the parasite's turn at tick `at`. If it was ahead, it was not rolled back.
     pub(crate) fn take_turn(&mut self, is_ahead: bool, at: Tick) {
         if is_ahead {
             self.account(at, COST / 2);
@@ -64,13 +68,13 @@ impl Stride {
         }
     }
 
-    /// The host cut the parasite's way at this tick.
+    /// Records that the parasite is rolled back, and runs again up to tick `at`.
     pub(crate) fn is_cut(&mut self, at: Tick) {
         self.ticks = (self.ticks / 8).max(FEWEST);
         self.account(at, COST);
     }
 
-    // The host left the last way as it was up to this tick. The way cost so much.
+    // Adds the last speculation to the credit: it was valid up to tick `at`, and cost `cost` ticks.
     fn account(&mut self, at: Tick, cost: u64) {
         let gained = at.0.saturating_sub(self.from.0);
         let credit = self.credit.saturating_add(gained).min(MOST_CREDIT);

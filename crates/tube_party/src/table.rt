@@ -1,4 +1,4 @@
-//! What answers accesses in passing where both parties are on one thread.
+//! The port of a run with both parties on one thread.
 ghost use Rattle.std.specs.Prelude.{◌≡◌, true};
 ghost use Rattle.tube_party.specs.CodePassing.{MayPass};
 
@@ -10,8 +10,8 @@ use beeb_bits::{Side, Tick};
 use tube_chip::{Chip, Op};
 use tube_trace::Entry;
 
-/// The chip, with what is kept of both sides' accesses. It answers accesses below a tick of the side whose turn it is: those that leave the lines, and
-/// what the parasite has read ahead.
+/// The chip, with the logs of both sides. It answers accesses below a tick of the side in turn:
+/// those that change neither the lines nor what the parasite has read ahead of the host.
 #[derive(Drop)]
 pub(crate) struct Table {
     pub(crate) chip: Chip,
@@ -21,15 +21,15 @@ pub(crate) struct Table {
     pub(crate) sure: Tick,
     /// The parasite reads its status registers ahead of the host, or has read them.
     pub(crate) is_read: bool,
-    /// It answers at all.
+    /// The port answers at all.
     pub(crate) is_open: bool,
 }
 
-/// A log of so many accesses takes no more in passing.
+/// A log that has counted `MOST_COUNT` accesses gets no further one from the port.
 const MOST_COUNT: u64 = 1 << 62;
 
-/// Whether an access of this side is sure to leave what the parasite sees as it goes ahead: the lines. Where it reads its status registers, the host's
-/// accesses leave what those show too, and its own are such reads.
+/// Returns `true` only if `op` of `side` leaves the lines, and with `is_read` also what the
+/// parasite's status registers show. With `is_read`, only status reads of the parasite pass.
 #[inline(always)]
 pub(crate) fn passes(chip: &Chip, side: Side, is_read: bool, op: Op) -> bool
     ensures { result ≡ true → MayPass chip.now side is_read op }
@@ -78,7 +78,7 @@ impl Desk for Table {
         Some(answer)
     }
 
-    // A status register shows the same as long as the chip is left alone.
+    // A status register shows one byte as long as the chip is unchanged.
     #[inline(always)]
     fn again(&mut self, tick: Tick, op: Op, byte: u8, period: u64, most: u64) -> u64 {
         if !is_status(op) || self.chip.apply(self.turn, op) != byte {

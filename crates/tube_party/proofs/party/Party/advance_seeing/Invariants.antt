@@ -2,7 +2,7 @@ use Rattle.std.proofs.Common.{ℕ, ◌-◌}
 use Rattle.tube_party.specs.Moves.{Looks, shown_lines}
 use Rattle.tube_party.proofs.party.Party.advance_seeing.Given as goal
 
--- of the steps so far each asked nothing, or was a sure look
+-- each step until here asked nothing, or was a safe look
 abbrev pub invariant-loop-tick : goal.invariant-loop-tick
 invariant-loop-tick g l = (k : ℕ) × Looks g.Self.Party.moves l.until.0 (shown_lines l.lines l.sure.0) k (g.Self.Party.state l.fn.self) (g.Self.Party.state l.self)
 
