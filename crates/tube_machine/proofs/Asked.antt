@@ -1,5 +1,5 @@
--- An instruction whose last access is the Tube's and is answered in passing, and a branch behind it that leads back: where the registers are then as they
--- were, the same comes again.
+-- An instruction whose last access is the Tube's and is answered by the port, and a branch after it
+-- that leads back: if the registers are then unchanged, the same steps follow again.
 use Rattle.std.proofs.Common.{◌≡◌, ◌≤◌, ◌<◌, ◌∙◌, ◌+◌, ◌-◌, ◌*◌, refl, sym, ap, ℕ, zero, suc, Bool, true, false, Some, IsSome, arith}
 use Rattle.op_table.specs.declared.names.Part.{Part}
 use Rattle.cpu_alu.specs.declared.Cycle.{Cycle}
@@ -74,7 +74,7 @@ module _ (part : Part) {B D : Type 0} {w : Wiring B} (wired : IsWired w) {reads 
   abbrev pub top : ℕ → ℕ
   top from = from + n * o.cycles
 
-  -- closed so far, at the start of the instruction, and behind it
+  -- closed this far, at the start of the instruction, and after it
   abbrev pub starts : ℕ → ℕ → At B
   starts u from = at_of (fresh Instruction r) (w.close m u) from
 
@@ -97,7 +97,7 @@ module _ (part : Part) {B D : Type 0} {w : Wiring B} (wired : IsWired w) {reads 
     came : Closes part wired memory from o.cycles (fresh Instruction r) m last m u
     came = carried-closed part wired memory from o.cycles (fresh Instruction r) m last m u (omega (arith, low)) (outside from).carried
 
-    -- before the access, and behind it
+    -- before the access, and after it
     abbrev there : At B
     there = at_of last came.0 (top from)
 
@@ -211,7 +211,7 @@ module _ (part : Part) {B D : Type 0} {w : Wiring B} (wired : IsWired w) {reads 
     abbrev at : ℕ → At B
     at s = at_of (fresh Instruction r) (w.close m s) s
 
-    -- how long it takes until it comes again
+    -- the time until it repeats
     abbrev pub period : ℕ
     period = n * o.cycles + n + n * k
 
@@ -246,7 +246,7 @@ module _ (part : Part) {B D : Type 0} {w : Wiring B} (wired : IsWired w) {reads 
         let there : t + n * k ≡ s + period = omega arith in
         served-then ask (served-onward (rw there at (branch t (omega (arith, before)) (omega (arith, fits)))))
 
-    -- so many times
+    -- j such periods
     pub rounds : (j s t : ℕ) (d e : D) → t + period ≡ s + n * o.cycles → w.closed m ≤ s + 1 → s + period * j ≤ bound → IsAnsweredAgain answers asked byte period j d t e →
         IsServed part w plain answers lines bound (at s) d (at (s + period * j)) e
     rounds zero s t d e here before fits again =

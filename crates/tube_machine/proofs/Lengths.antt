@@ -126,7 +126,7 @@ within : (o : Option Cycle) (xs : List Cycle) (k : ℕ) → slice_get xs k ≡ o
 within (Some c) xs k is some = slice_get_within xs k c is
 within None xs k is some = cc
 
--- where a sequence is not over, fewer than sixteen cycles of it were seen
+-- if a sequence is not over, fewer than sixteen cycles of it were seen
 pub few_seen : (c : cpu.State) → is_none (next_cycle c) ≡ false → length c.seen < 16
 few_seen c on =
     let low : length c.seen < length (accesses Cmos c.sequence c.regs c.seen) = within (next_cycle c) (accesses Cmos c.sequence c.regs c.seen) (length c.seen) refl on in

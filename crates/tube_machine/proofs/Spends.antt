@@ -37,7 +37,7 @@ spent-more {cycle = cycle} {room = room} {now = now} so_far one there more = rec
   late = λ is top high late. omega (arith, so_far.late is top high late, ap (λ (k : ℕ). cycle * k) (more is), one-more cycle now.seen, there is);
 }
 
--- so many cycles and a look, up to a tick
+-- some cycles and a look, up to a tick
 pub spent-whole : {counts : Type 0} {cycle sure : ℕ} (k : ℕ) {room due seen : ℕ} {old now : Spent} → HasSpent counts cycle sure old now → now.room ≤ room + k
     → now.due + cycle * k ≤ due → due ≤ sure → HasSpent counts cycle sure old (spent due room seen)
 spent-whole {cycle = cycle} k {room} {now = now} so_far few here early = record {
@@ -48,7 +48,7 @@ spent-whole {cycle = cycle} k {room} {now = now} so_far few here early = record 
   late = λ is top high late. omega (arith, early, high);
 }
 
--- from which tick on accesses come
+-- the tick from which accesses come
 pub ready-look : (part : Part) (c : cpu.State) (due : ℕ) → next_cycle part c ≡ None → ready part c due ≡ due + 1
 ready-look part c due over = rw over
 

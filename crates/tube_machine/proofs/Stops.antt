@@ -1,4 +1,4 @@
--- Where the machine stops, and how it goes on from there.
+-- Where the machine stops, and how it continues from there.
 use Rattle.std.proofs.Common.{◌≡◌, ◌∙◌, ◌&&◌, ◌||◌, refl, sym, ap, subst, ℕ, zero, suc, ◌+◌, ◌-◌, ◌*◌, ◌<◌, ◌≤◌, ◌⊎◌, max, min, length}
 use Rattle.std.specs.Prelude.{nat_lt, not}
 use Rattle.std.proofs.lemmas.Bool.{ltb-true, and_right}
@@ -38,14 +38,14 @@ alone-parts : (low breaks has : Bool) → (low && breaks && not has) ≡ true �
 alone-parts true true false is = (refl, (refl, refl))
 alone-parts _ _ _ is = cc
 
--- where no room is left, the run began with little of it
+-- if no room is left, the run began with little of it
 pub cramped : {counts : Type 0} {n sure : ℕ} {first last : Spent} → HasSpent counts n sure first last → counts → last.room ≡ 0 → last.seen < 16 → IsCramped n sure first.due first.room
 cramped {n = n} {sure} {first} {last} all is none few =
     let no_room : n * last.room ≡ 0 = ap (λ (k : ℕ). n * k) none ∙ mul-zero n in
     let some_seen : n * last.seen ≤ n * 15 = mul-le-mul_left n (omega (arith, few)) in
     omega (arith, all.room is, all.late is (max sure first.due) (omega arith) (omega arith), no_room, some_seen)
 
--- where a sequence is not over, fewer than sixteen cycles of it were seen
+-- if a sequence is not over, fewer than sixteen cycles of it were seen
 pub few : (part : Part) (c : cpu.State) → part ≡ Cmos → IsSome (next_cycle part c) → length c.seen < 16
 few part c is on = few_seen c (some-of (next_cycle Cmos c) (subst (λ (p : Part). IsSome (next_cycle p c)) is on))
   where
@@ -67,7 +67,7 @@ module _ (part : Part) {B : Type 0} (w : Wiring B) where
       )
 
 module _ (part : Part) {B : Type 0} (w : Wiring B) (wired : IsWired w) where
-  -- no step changes how long a cycle is
+  -- no step changes the length of a cycle
   step-cycle : (o : Option Cycle) (s : At B) (a : Option Answer) → w.cycle (after_step part w o s a).bus ≡ w.cycle s.bus
   step-cycle o s a = grind arith
 
@@ -97,7 +97,7 @@ module _ (part : Part) {B : Type 0} (w : Wiring B) (wired : IsWired w) where
         → Came part w n lines sure s new
     more-look s new low early h over is = grind arith
 
-    -- a look that is not sure, or none below n
+    -- a look that is not below `safe_until`, or none below n
     unsure-by : (last new : At B) (ask : Ask) → IsAsk (moves_of part w) n last ask new → (is_break part w last ≡ true) ⊎ (min n sure ≤ last.due) → IsUnsure sure ask
     unsure-by last new ask is late = grind arith
 
@@ -109,7 +109,7 @@ module _ (part : Part) {B : Type 0} (w : Wiring B) (wired : IsWired w) where
   pub next-rises : (s : At B) {new : At B} (a : Option Answer) → new ≡ next_state part w s a → s.due < new.due
   next-rises s a is = subst (λ (x : At B). s.due < x.due) (sym is) ((lawful part w wired).rises s a)
 
-  -- what an access of one cycle costs, whatever answers it
+  -- the cost of an access of one cycle, for any answer
   pub cost : (s new : At B) (a : Option Answer) → is_break part w s ≡ false → new ≡ next_state part w s a → IsSome (next_cycle part s.cpu) → part ≡ Cmos
       → ((b : B) (t : ℕ) (c : Cycle) → w.takes b t c ≡ w.cycle b) →
       (ready part new.cpu new.due ≡ s.due + w.cycle s.bus) × (length new.cpu.seen ≡ length s.cpu.seen + 1)

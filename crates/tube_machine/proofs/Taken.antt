@@ -17,7 +17,7 @@ use Rattle.tube_chip.specs.declared.Op.TheVariants as op
 use Rattle.tube_chip.specs.Act.{access}
 use Rattle.tube_party.specs.Moves.{FitsAnswer}
 
--- what a write shows does not hang on a byte
+-- what a write shows does not depend on a byte
 after_byte-write : (part : Part) (s : cpu.State) (at v byte : ℕ) → next_cycle part s ≡ Some (Write at v) → after_byte part s byte ≡ after_byte part s 0
 after_byte-write part s at v byte e = rw e
 
@@ -37,7 +37,7 @@ module _ (part : Part) {B : Type 0} (w : Wiring B) where
   over-by false b (Some (Read at)) l asked = absurd (none-seen (w.has_tube b && w.is_tube at) (op.Read (at % 8)) l asked)
   over-by false b (Some (Write at v)) l asked = absurd (none-seen (w.has_tube b && w.is_tube at) (op.Write (at % 8) v) l asked)
 
-  -- where lines are asked for, the sequence is over
+  -- if lines are asked for, the sequence is over
   pub asked-over : (s : At B) (l : Lines) → MatchOption (asks part w s) ⊥ (λ q. FitsAnswer q (Seen l)) → next_cycle part s.cpu ≡ None
   asked-over s l asked = over-by (is_break part w s) s.bus (next_cycle part s.cpu) l asked
 
@@ -45,7 +45,7 @@ module _ (part : Part) {B : Type 0} (w : Wiring B) where
   at-tube b there (Read at) same asked = rw same (asked-by (w.has_tube b && w.is_tube at) (op.Read (at % 8)) asked)
   at-tube b there (Write at v) same asked = rw same (asked-by (w.has_tube b && w.is_tube at) (op.Write (at % 8) v) asked)
 
-  -- where a byte is asked for, the Tube answers it
+  -- if a byte is asked for, the Tube answers it
   pub asked-at-tube : (wired : IsWired w) (s : At B) (c : Cycle) (t : ℕ) → next_cycle part s.cpu ≡ Some c → is_break part w s ≡ false → IsAskedByte part w s → IsAtTube w (w.close s.bus t) c
   asked-at-tube wired s c t is none asked =
       at-tube s.bus (w.close s.bus t) c (wired.tube_close s.bus t)
@@ -70,7 +70,7 @@ module _ (part : Part) {B : Type 0} (w : Wiring B) where
       let x : At B = closed_to w s (s.due + 1) in
       accessed-next wired s (Some (Byte byte)) c b byte n is none (given-shown s.cpu x.bus s.due byte c is there) after (ticks ∙ ap w.cycle after ∙ wired.cycle_after x.bus c ∙ sym fast)
 
-  -- and one that leaves the bus
+  -- and one that does not change the bus
   pub passed : (wired : IsWired w) (s : At B) (b : B) (byte n : ℕ) → is_break part w s ≡ false → LeavesBus part w s → b ≡ w.close s.bus (s.due + 1) → n ≡ w.cycle b →
       after_cycle part w (at_of s.cpu b s.due) (w.pending b (s.due + (n - 1)) && halted part s.cpu) (after_byte part s.cpu byte) n ≡ next_state part w s (Some (Byte byte))
   passed wired s b byte n none at closed ticks =

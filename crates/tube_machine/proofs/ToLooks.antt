@@ -1,4 +1,4 @@
--- An instruction that is done whole comes to its look, and goes past it.
+-- An instruction that is done whole reaches its look, and goes past it.
 use Rattle.std.proofs.Common.{◌≡◌, ◌≤◌, ◌<◌, ◌+◌, ◌-◌, ◌*◌, refl, ℕ, zero, suc, Bool, true, false, arith}
 use Rattle.op_table.specs.declared.names.Part.{Part}
 use Rattle.cpu_alu.specs.declared.Regs.{Regs}
@@ -25,7 +25,7 @@ passes_more m over n v (suc k) s u new h is looks = (h.0, (h.1.0, (h.1.1.0, pass
 
 module _ (part : Part) {B : Type 0} {w : Wiring B} (wired : IsWired w) {plain : B → Lines → Bool} (stays : StaysPlain w plain) (far until : ℕ) (lines : Lines) (sure n : ℕ)
     {reads writes : ℕ → Bool} (memory : IsMemory w reads writes) {rests : B → Lines → Bool → ℕ → Type 0} (stays_at_rest : StaysAtRest w writes rests) (masks : Bool) (quiet : ℕ) where
-  -- a whole instruction and the look behind it
+  -- a whole instruction and the look after it
   pub whole-looks : (k due : ℕ) (r new : Regs) (m there : B) → 0 < k → n ≡ w.cycle m → plain m lines ≡ true → IsFree part w far m →
       IsDone part (reach_of w reads writes) due r m k new there → w.closed m ≤ due + 1 → due + n * k ≤ far → due + n * k ≤ until → due + n * k ≤ sure → due + n * k ≤ quiet →
       rests m lines masks quiet → has_flag r.p INTERRUPT ≡ masks →

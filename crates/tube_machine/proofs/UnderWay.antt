@@ -1,4 +1,4 @@
--- A machine, of which device steps are owed: it stands for the one in which they are done.
+-- A machine of which device steps are owed: it represents the one in which they are done.
 use Rattle.std.proofs.Common.{◌≡◌, ◌≤◌, ◌<◌, ◌∙◌, ◌+◌, ◌-◌, ◌⊎◌, inl, inr, refl, sym, ap, subst, ℕ, suc, Bool, true, false, is_none, Option, Some, None, IsSome, arith, if◌then◌else◌}
 use Rattle.std.specs.Prelude.{nat_lt}
 use Rattle.std.proofs.lemmas.Bool.{lt-ltb, le-ltb}
@@ -55,7 +55,7 @@ module _ (part : Part) {B : Type 0} (w : Wiring B) where
   abbrev pub IsFree : ℕ → B → Type 0
   IsFree far b = (t : ℕ) → t < far → w.pending b t ≡ false
 
-  -- so many steps, of which each asked nothing or saw the lines
+  -- some steps, of which each asked nothing or saw the lines
   abbrev pub Came : ℕ → Lines → ℕ → At B → At B → Type 0
   Came until lines sure start s = (k : ℕ) × Looks (moves_of part w) until (shown_lines lines sure) k start s
 
@@ -64,8 +64,9 @@ module _ (part : Part) {B : Type 0} (w : Wiring B) where
       after_look part w s l ≡ begin_leaves s (fresh (sequence_at_look (w.nmi s.bus l) (w.irq s.bus l) (after part s.cpu)) (after part s.cpu)) (w.taken s.bus l)
   plain-look s l none = rw none
 
--- The steps so far asked nothing, or saw these lines; the next one is an access, and device steps are owed where there was an access since a tick.
--- A cycle has n ticks, and no break comes below tick far; looks are plain if they were so at the start.
+-- The steps until here asked nothing, or saw these lines. The next one is an access, and device
+-- steps are owed if there was an access since a tick. A cycle has n ticks, and no break comes below
+-- tick far. Looks are plain if they were so at the start.
 pub record IsUnderWay (part : Part) {B : Type 0} (w : Wiring B) (plain : B → Lines → Bool) (far n until : ℕ) (lines : Lines) (sure : ℕ) (start s : At B) (since : ℕ) : Type 0 where
   pub cycle : n ≡ w.cycle s.bus
   pub goes_on : IsSome (next_cycle part s.cpu)
@@ -105,7 +106,7 @@ module _ (part : Part) {B : Type 0} {w : Wiring B} (wired : IsWired w) {plain : 
         due = refl;
       })
 
-  -- A look of a machine that stands for one closed further.
+  -- A look of a machine that represents one closed further.
   module _ (c : cpu.State) (b : B) (t u : ℕ) (over : next_cycle part c ≡ None) (none : w.pending b t ≡ false) where
     abbrev stands : At B
     stands = at_of c (w.close b u) t
@@ -119,7 +120,7 @@ module _ (part : Part) {B : Type 0} {w : Wiring B} (wired : IsWired w) {plain : 
     pub look-next : (lines : Lines) {new : At B} → u ≤ t + 1 → new ≡ after_look part w (closed_to w (at_of c b t) (t + 1)) lines → new ≡ next_state part w stands (Some (Seen lines))
     look-next lines high is = grind arith
 
-  -- a plain look that is sure
+  -- a plain look below `safe_until`
   sees-on : (until : ℕ) (lines : Lines) (sure : ℕ) (start : At B) (c : cpu.State) (b : B) (t u : ℕ) (new : At B) → Came part w until lines sure start (at_of c (w.close b u) t) → u ≤ t + 1
       → next_cycle part c ≡ None → t < until → t < sure → w.pending b t ≡ false →
       new ≡ after_look part w (closed_to w (at_of c b t) (t + 1)) lines → Came part w until lines sure start new
@@ -128,7 +129,7 @@ module _ (part : Part) {B : Type 0} {w : Wiring B} (wired : IsWired w) {plain : 
       (suc came.0, look_last (moves_of part w) until lines sure came.0 start (at_of c (w.close b u) t) came.1 low (look-asks c b t u over none) early)
 
   module _ {far n until : ℕ} {lines : Lines} {sure : ℕ} {start s : At B} where
-    -- before the next access, where no steps are owed
+    -- before the next access, if no steps are owed
     pub caught-up : n ≡ w.cycle s.bus → IsSome (next_cycle part s.cpu) → w.closed s.bus ≤ s.due + 1 → IsFree part w far s.bus → (plain start.bus lines ≡ true → plain s.bus lines ≡ true) →
         Came part w until lines sure start s → IsUnderWay part w plain far n until lines sure start s s.due
     caught-up cycle goes_on before free kept came = grind arith

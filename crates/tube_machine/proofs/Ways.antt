@@ -1,4 +1,4 @@
--- Steps of a run, with what answers in passing, one behind another.
+-- Steps of a run, with a port, one after another.
 use Rattle.std.proofs.Common.{◌≡◌, ◌∙◌, refl, ap, ℕ, zero, suc, ◌+◌, ◌<◌, ◌≤◌, inl, inr, length, Bool, false, true, Option, Some, None, IsSome, Ok, Err}
 use Rattle.op_table.specs.declared.names.Part.{Part}
 use Rattle.op_table.specs.declared.names.Part.TheVariants.{Cmos}
@@ -21,26 +21,26 @@ use Rattle.tube_machine.specs.declared.bus.Unable.TheVariants.{Tube}
 use Rattle.tube_machine.proofs.UnderWay.{IsUnderWay, caught-up, came-there}
 use Rattle.tube_machine.proofs.Stops.{more, looks-cycle, next-cycle, next-rises, silent-by, cost}
 
--- what answers goes from d to e on the way from one state to another
+-- the port goes from d to e, from one state to another
 abbrev pub Way : {S D : Type 0} → Moves S → (D → ℕ → Op → ℕ → D → Type 0) → ℕ → Shown → S → D → S → D → Type 0
 Way m answers n v s d new e = (j : ℕ) × Talks m answers n v j s d new e
 
 module _ {S D : Type 0} (m : Moves S) {answers : D → ℕ → Op → ℕ → D → Type 0} {n : ℕ} (v : Shown) {s mid new : S} {d f : D} (way : Way m answers n v s d mid f) where
-  -- one way behind another
+  -- one run after another
   pub way-on : {e : D} → Way m answers n v mid f new e → Way m answers n v s d new e
   way-on {e} on = talks_on m answers n v.lines v.sure way.0 on.0 s mid new d f e way.1 on.1
 
   pub then-came : (k : ℕ) × Looks m n v k mid new → Way m answers n v s d new f
   then-came came = way-on (0, (refl, came))
 
--- what comes behind it
+-- what comes after it
 pub way-hears : {S D : Type 0} {m : Moves S} {answers : D → ℕ → Op → ℕ → D → Type 0} {n : ℕ} {v : Shown} {s mid new : S} {d f e : D} {ask : Ask} → Way m answers n v s d mid f
     → Hears m answers n v mid f ask new e → Hears m answers n v s d ask new e
 way-hears {m = m} {answers} {n} {v} {s} {mid} {new} {d} {f} {e} {ask} way hears = hears_after m answers n v.lines v.sure s mid new d f e ask way hears
 
 module _ (part : Part) {B D : Type 0} {w : Wiring B} (wired : IsWired w) {answers : D → ℕ → Op → ℕ → D → Type 0} {n : ℕ} (v : Shown) {s new : At B} {d e : D}
     (way : Way (moves_of part w) answers n v s d new e) where
-  -- at its end an access is asked for
+  -- it ends at an access
   pub way-asks : {last : At B} {f : D} {o : Op} → new.due < n → IsDone part w answers new e (Err (Tube o)) last f
       → Hears (moves_of part w) answers n v s d (asks.Access (record { 0 = last.due }) o) last f
   way-asks {f = f} low done = record {
@@ -64,7 +64,8 @@ module _ (part : Part) {B D : Type 0} {w : Wiring B} (wired : IsWired w) {answer
   pub way-rises : s.due ≤ new.due
   way-rises = talks_rise (moves_of part w) answers n v.lines v.sure way.0 s new d e (lawful part w wired) way.1
 
--- The steps so far, with accesses that were answered in passing: from a machine behind the last of them the way is as in IsUnderWay.
+-- The steps until here, with accesses that the port answered: from a machine after the last of them
+-- the steps are as in IsUnderWay.
 pub record IsTalking (part : Part) {B D : Type 0} (w : Wiring B) (plain : B → Lines → Bool) (answers : D → ℕ → Op → ℕ → D → Type 0) (far n until : ℕ) (lines : Lines) (sure : ℕ)
     (start : At B) (d : D) (s : At B) (e : D) (since : ℕ) : Type 0 where
   pub mid : At B
@@ -93,7 +94,7 @@ module _ {part : Part} {B D : Type 0} {w : Wiring B} (wired : IsWired w) {plain 
     way = let to = served.alike in caught-up part wired stays (at.way.cycle ∙ to.cycle) to.goes_on to.closed (to.free far far_on at.way.free) (λ is. is) (0, refl);
   }
 
--- the next step is done, and may be answered in passing
+-- the next step is done, possibly by the port's answer
 module _ (part : Part) {B D : Type 0} {w : Wiring B} (wired : IsWired w) {answers : D → ℕ → Op → ℕ → D → Type 0} {s : At B} {d : D} {new : At B} {e : D}
     (done : IsDone part w answers s d (Ok tt) new e) where
   -- it is a step of a run
@@ -117,7 +118,7 @@ module _ (part : Part) {B D : Type 0} {w : Wiring B} (wired : IsWired w) {answer
   pub done-cycle : w.cycle new.bus ≡ w.cycle s.bus
   done-cycle = rw done-next.1 (next-cycle part w wired s done-next.0)
 
-  -- where each access takes one cycle, it takes one
+  -- if each access takes one cycle, it takes one
   pub done-cost : IsSome (next_cycle part s.cpu) → part ≡ Cmos → w.has_tube s.bus ≡ true → ((b : B) (t : ℕ) (c : Cycle) → w.takes b t c ≡ w.cycle b) →
       (ready part new.cpu new.due ≡ s.due + w.cycle s.bus) × (length new.cpu.seen ≡ length s.cpu.seen + 1)
   done-cost some cmos has even = cost part w wired s new done-next.0 free done-next.1 some cmos even

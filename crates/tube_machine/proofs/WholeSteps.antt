@@ -1,4 +1,4 @@
--- A whole instruction and the look behind it are steps of the machine.
+-- A whole instruction and the look after it are steps of the machine.
 use Rattle.std.proofs.Common.{◌≡◌, ◌≤◌, ◌<◌, ◌∙◌, ◌+◌, ◌-◌, ◌*◌, refl, sym, ap, subst, ℕ, zero, suc, max, length, [], List, Bool}
 use Rattle.std.proofs.Common.{true, false, Option, Some, None, IsSome, MatchOption, arith}
 use Rattle.std.proofs.Math.Nat.{mul-one}
@@ -61,7 +61,7 @@ module _ (part : Part) where
       let same : after_byte part s byte ≡ s = rw halts in
       stays-halted g t k s b last there halts (rw same at one.rest)
 
-  -- so that none of an instruction that comes to its end is halted
+  -- so the processor is not halted in an instruction that ends
   none-halted : {M : Type 0} → (g : Reach M) (t k : ℕ) (s : cpu.State) (m : M) (last : cpu.State) (there : M)
       → Carried g t part (suc k) s m last there → next_cycle part last ≡ None → halted part s ≡ false
   none-halted g t k s m last there h over = by (halted part s) refl
@@ -86,8 +86,8 @@ module _ (part : Part) {B : Type 0} {w : Wiring B} (wired : IsWired w) {reads wr
       → w.closed (leaves reach t m j c) ≤ due + 1
   is-closed t j due m c is there before = grind arith
 
-  -- Cycles over a bus whose devices are closed at a tick already, up to which the first of them closes them: they lead to one that is the same
-  -- once it is closed from that tick on.
+  -- Cycles over a bus whose devices are closed already, up to the tick to which the first cycle
+  -- closes them: they lead to a bus that is equal once it is closed from that tick on.
   abbrev Comes : ℕ → ℕ → cpu.State → Option Cycle → B → cpu.State → B → Type 0
   Comes t k s o m last there =
       MatchOption o ⊥ (λ (c : Cycle). (is_plain reach c ≡ true) × Carried reach t part k
@@ -125,7 +125,7 @@ module _ (part : Part) {B : Type 0} {w : Wiring B} (wired : IsWired w) {reads wr
     rests-on t j due m c lines masks far is there low rest = grind arith
 
     module _ {plain : B → Lines → Bool} (stays : StaysPlain w plain) where
-      -- the look behind an instruction, which is at rest
+      -- the look after an instruction, which is at rest
       pub look-on : {lines : Lines} {masks : Bool} {far : ℕ} (on : cpu.State) (b : B) (t : ℕ) → plain b lines ≡ true → rests b lines masks far → t < far
           → masks ≡ has_flag (after part on).p INTERRUPT →
           at_of (fresh Instruction (after part on)) (w.close b (t + 1)) (t + 1) ≡ after_look part w (closed_to w (at_of on b t) (t + 1)) lines
@@ -170,7 +170,7 @@ module _ (part : Part) {B : Type 0} {w : Wiring B} (wired : IsWired w) {reads wr
           rested : s.due < quiet → rests b lines masks quiet
           rested still = rests-on t (length s.cpu.seen) s.due s.bus c lines masks quiet apart_is tick-there still mid.rest
 
-          -- and behind it comes the next one
+          -- and after it comes the next one
           mid-on : halted part s.cpu ≡ false → IsSome (next_cycle part on) → s.due + n ≤ far → s.due + n ≤ until → s.due + n ≤ quiet → IsMid t (at_of on b (s.due + n)) since
           mid-on goes more far_on in_run still =
               let some : 1 < n = omega (arith, mid.way.cycle, wired.some s.bus) in
@@ -184,7 +184,7 @@ module _ (part : Part) {B : Type 0} {w : Wiring B} (wired : IsWired w) {reads wr
               }
 
         module _ (c : Cycle) (x : B) (last : cpu.State) (next : next_cycle part last ≡ Some c) (tube : IsAtTube w x c) where
-          -- none of an instruction that comes to the Tube is halted
+          -- the processor is not halted in an instruction that reaches the Tube
           unhalted : (t k : ℕ) (s : cpu.State) (m there : B) → Carried reach t part (suc k) s m last there → halted part s ≡ false
           unhalted t k s m there h = by (halted part s) refl
             where
@@ -212,7 +212,7 @@ module _ (part : Part) {B : Type 0} {w : Wiring B} (wired : IsWired w) {reads wr
               (omega (arith, fits, sum, still)) in
               to-tube k _ since t there top on one.rest (omega (arith, fits, sum)) far_on in_run still
 
-        -- an instruction that comes to its end before tick top is done but for its last access
+        -- an instruction that ends before tick top is done but for its last access
         walk : (k : ℕ) (s : At B) (since t : ℕ) (last : cpu.State) (there : B) (top : ℕ) → IsMid t s since → Carried reach t part (suc k) s.cpu s.bus last there → next_cycle part last ≡ None →
             s.due + n * suc k ≡ top → top ≤ far → top ≤ until → top ≤ quiet → (p : At B) × (IsMid t p since × (Carried reach t part (suc zero) p.cpu p.bus last there × (p.due + n ≡ top)))
         walk zero s since t last there top mid h over fits far_on in_run still = (s, (mid, (h, ap (λ (x : ℕ). s.due + x) (sym (mul-one n)) ∙ fits)))
@@ -223,7 +223,7 @@ module _ (part : Part) {B : Type 0} {w : Wiring B} (wired : IsWired w) {reads wr
             (omega (arith, fits, sum, far_on)) (omega (arith, fits, sum, in_run)) (omega (arith, fits, sum, still)) in
             walk k _ since t last there top on one.rest over (omega (arith, fits, sum)) far_on in_run still
 
-        -- the last access of an instruction is quick, and the look behind it leads to new
+        -- the last access of an instruction is quick, and the look after it leads to new
         pub record IsLast (since : ℕ) (new : At B) : Type 0 where
           pub s : At B
           pub way : IsUnderWay part w plain far n until lines sure start s since
@@ -281,7 +281,7 @@ module _ (part : Part) {B : Type 0} {w : Wiring B} (wired : IsWired w) {reads wr
               stays_at_rest.close there lines masks quiet top (rw bus at rest_on) still,
             )
 
-        -- an instruction done whole, and the look behind it
+        -- an instruction done whole, and the look after it
         pub whole-on : (k due : ℕ) (r new : Regs) (m there : B) → 0 < k → IsUnderWay part w plain far n until lines sure start (at_of (fresh Instruction r) m due) due →
             IsDone part reach due r m k new there → w.closed m ≤ due + 1 → due + n * k ≤ far → due + n * k ≤ until → due + n * k ≤ sure → due + n * k ≤ quiet →
             rests m lines masks quiet → has_flag r.p INTERRUPT ≡ masks → plain start.bus lines ≡ true →
@@ -298,7 +298,7 @@ module _ (part : Part) {B : Type 0} {w : Wiring B} (wired : IsWired w) {reads wr
               last.1,
             )
 
-        -- the same from a bus whose devices need not be closed yet as far as it counts
+        -- as above, from a bus whose devices need not be closed yet as far as it counts
         pub whole-behind : (k due u : ℕ) (r new : Regs) (m there : B) → 0 < k → u ≤ due → IsUnderWay part w plain far n until lines sure start (at_of (fresh Instruction r) (w.close m u) due) due →
             IsDone part reach due r m k new there → w.closed m ≤ due + 1 → due + n * k ≤ far → due + n * k ≤ until → due + n * k ≤ sure → due + n * k ≤ quiet →
             rests (w.close m u) lines masks quiet → has_flag r.p INTERRUPT ≡ masks → plain start.bus lines ≡ true →
@@ -312,7 +312,7 @@ module _ (part : Part) {B : Type 0} {w : Wiring B} (wired : IsWired w) {reads wr
             rw (c.1.1 top (omega (arith, low))) at
             (whole-on k due r new (w.close m u) c.0 more way again (omega (arith, closed, before, low)) far_on in_run early still rest held first)
 
--- what whole instructions come to
+-- the result of whole instructions
 pub onward : (part : Part) {B : Type 0} {w : Wiring B} (wired : IsWired w) {plain : B → Lines → Bool} (stays : StaysPlain w plain) {lines : Lines} {n bound : ℕ} {start s : At B} →
     ((far until sure : ℕ) → bound ≤ far → bound ≤ until → bound ≤ sure → IsFree part w far start.bus → IsUnderWay part w plain far n until lines sure start s s.due) →
     IsFree part w bound start.bus → n ≡ w.cycle start.bus → w.closed s.bus ≤ s.due + 1 → plain start.bus lines ≡ true → IsOnward part w plain lines bound start s

@@ -1,4 +1,4 @@
--- What an access comes to, and where steps leave off.
+-- The result of an access, and where steps in a row stop.
 use Rattle.std.specs.Prelude.{ℕ, true, max, is_none, ◌≡◌, ◌≤◌, ◌<◌, ◌+◌, ◌-◌, ◌*◌, ◌&&◌, ◌⊎◌, false, nat_lt, if◌then◌else◌, Option, Some, None, IsSome, MatchOption, Result, Ok, Err}
 use Rattle.op_table.specs.declared.names.Part.{Part}
 use Rattle.op_table.specs.declared.names.Part.TheVariants.{Cmos}
@@ -27,13 +27,15 @@ module _ {B : Type 0} (w : Wiring B) where
   IsAtTube b (Read at) = (w.has_tube b && w.is_tube at) ≡ true
   IsAtTube b (Write at byte) = (w.has_tube b && w.is_tube at) ≡ true
 
-  -- An access asks this of the Tube, takes one cycle, and leaves the bus, however far that is closed.
+  -- An access asks this of the Tube, takes one cycle, and does not change the bus, however far that
+  -- is closed.
   pub record IsPassing (b : B) (c : Cycle) (op : Op) : Type 0 where
     pub asks : asks_by w b (Some c) ≡ Some (access op)
     pub leaves : (t : ℕ) → w.after (w.close b t) c ≡ w.close b t
     pub fast : (t u : ℕ) → w.takes (w.close b u) t c ≡ w.cycle (w.close b u)
 
-  -- An access at tick t is done, with the devices closed before it, or it asks the Tube, or it cannot be noted.
+  -- An access at tick t is done, with the devices closed before it; or it asks the Tube; or it
+  -- cannot be noted.
   abbrev pub IsExchanged : B → ℕ → Cycle → Result Done Unable → B → Type 0
   IsExchanged b t c (Ok done) new =
       (asks_by w b (Some c) ≡ None)
@@ -43,7 +45,8 @@ module _ {B : Type 0} (w : Wiring B) where
   IsExchanged b t c (Err (Tube o)) new = (asks_by w b (Some c) ≡ Some (access o)) × (new ≡ b)
   IsExchanged b t c (Err Full) new = new ≡ b
 
-  -- An access at tick t is done in one cycle, and the bus that it leaves need not be closed yet; or nothing has changed.
+  -- An access at tick t is done in one cycle, and the bus after it need not be closed yet; or
+  -- nothing has changed.
   abbrev pub IsQuick : B → ℕ → Cycle → Option ℕ → B → Type 0
   IsQuick b t c None new = new ≡ b
   IsQuick b t c (Some byte) new =
@@ -52,12 +55,13 @@ module _ {B : Type 0} (w : Wiring B) where
       × (w.close new (t + 1) ≡ w.after (w.close b (t + 1)) c)
       × (w.takes (w.close b (t + 1)) t c ≡ w.cycle b)
 
--- How far the devices count as closed before a step at the tick due: up to the access of the cycle before, of so many ticks, if there was one since
--- another tick.
+-- The tick to which the devices count as closed before a step at tick `due`: that of the access of
+-- the last cycle, of `cycle` ticks, if there was one after tick `since`.
 abbrev pub owed_at : ℕ → ℕ → ℕ → ℕ → ℕ
 owed_at cycle since due closed = if nat_lt since due then due - (cycle - 1) else closed
 
--- How far the devices count as closed behind whole instructions from one tick to another, if there were any.
+-- The tick to which whole instructions from tick `from` to `due` close the devices, or 0 if there
+-- were none.
 abbrev pub behind : ℕ → ℕ → ℕ
 behind from due = if nat_lt from due then due else 0
 
@@ -66,7 +70,7 @@ module _ (part : Part) {B : Type 0} (w : Wiring B) where
   abbrev pub IsSilent : At B → At B → Type 0
   IsSilent old new = (asks part w old ≡ None) × (new ≡ next_state part w old None)
 
-  -- The next step is an access that leaves the bus.
+  -- The next step is an access that does not change the bus.
   pub record LeavesBus (s : At B) : Type 0 where
     pub cycle : Cycle
     pub op : Op
@@ -77,13 +81,14 @@ module _ (part : Part) {B : Type 0} (w : Wiring B) where
   abbrev pub IsAskedByte : At B → Type 0
   IsAskedByte s = MatchOption (asks part w s) ⊥ (λ q. FitsAnswer q (Byte 0))
 
-  -- Where steps leave off: at a look, at another step below the end, or past the end.
+  -- Where steps in a row stop: at a look, at another step below the end, or past the end.
   abbrev pub IsStop : ℕ → Stop → At B → Type 0
   IsStop until Look s = next_cycle part s.cpu ≡ None
   IsStop until Access s = IsSome (next_cycle part s.cpu) × (s.due < until)
   IsStop until End s = until ≤ s.due
 
--- The next step is done, an access answered in passing among them, or it asks the Tube, or it cannot be noted. What answers goes from d to e.
+-- The next step is done, possibly by the port's answer; or it asks the Tube; or it cannot be noted.
+-- The port goes from d to e.
 module _ (part : Part) {B D : Type 0} (w : Wiring B) (answers : D → ℕ → Op → ℕ → D → Type 0) where
   abbrev pub IsDone : At B → D → Result (Unit {0}) Unable → At B → D → Type 0
   IsDone old d (Ok x) new e =
@@ -91,7 +96,8 @@ module _ (part : Part) {B D : Type 0} (w : Wiring B) (answers : D → ℕ → Op
   IsDone old d (Err (Tube o)) new e = (asks part w old ≡ Some (access o)) × (new ≡ old) × (d ≡ e)
   IsDone old d (Err Full) new e = (new ≡ old) × (d ≡ e)
 
--- A machine at a tick, with room for so many notes, in a sequence of which so many cycles were seen.
+-- A machine at tick `due`, with room for `room` notes, in a sequence of which `seen` cycles were
+-- done.
 pub record Spent : Type 0 where
   pub due : ℕ
   pub room : ℕ
@@ -100,22 +106,25 @@ pub record Spent : Type 0 where
 abbrev pub spent : ℕ → ℕ → ℕ → Spent
 spent due room seen = record { due = due; room = room; seen = seen }
 
--- What is left at a tick, by what there was, if that holds.
+-- If `counts` holds: each note cost at most a cycle, and the present sequence began no later than a
+-- tick `top` from `safe_until` on, if the one before did.
 pub record HasSpent (counts : Type 0) (cycle sure : ℕ) (old new : Spent) : Type 0 where
   pub room : counts → old.due + cycle * old.room ≤ new.due + cycle * new.room
   pub late : counts → (top : ℕ) → sure ≤ top → old.due ≤ top + cycle * old.seen → new.due ≤ top + cycle * new.seen
 
--- the tick from which on accesses come, behind the look at the tick due or at it
+-- the tick of the first access: `due`, or the tick after it if a look is at `due`
 abbrev pub ready : Part → cpu.State → ℕ → ℕ
 ready part c due = if is_none (next_cycle part c) then due + 1 else due
 
--- Notes cost no more than a cycle each, and so do the cycles of a sequence that began below a tick: what is left at an access by what there was.
+-- The cost of steps up to an access, of a CMOS part: at most a note for each cycle, and no sequence
+-- that began too late. Of other stops nothing is said.
 abbrev pub Spends : Part → ℕ → ℕ → Spent → Stop → Spent → Type 0
 Spends part cycle sure old Access new = HasSpent (part ≡ Cmos) cycle sure old new
 Spends part cycle sure old _ new = Unit {0}
 
--- The steps of a run ask nothing, see these lines, or are accesses answered in passing. They lead to a look, of which nothing more is said, or to what is
--- asked. What answers goes from d to e. Of a run that cannot be noted nothing is told.
+-- The steps of a run ask nothing, see these lines, or are accesses that the port answers. They lead
+-- to a look, of which nothing more is said, or to an ask. The port goes from d to e. Of a run that
+-- cannot be noted nothing is said.
 module _ (part : Part) {B D : Type 0} (w : Wiring B) (answers : D → ℕ → Op → ℕ → D → Type 0) where
   abbrev pub IsRun : ℕ → Lines → ℕ → At B → D → Left → At B → D → Type 0
   IsRun until lines sure old d left.Full new e = Unit {0}
@@ -123,7 +132,8 @@ module _ (part : Part) {B D : Type 0} (w : Wiring B) (answers : D → ℕ → Op
   IsRun until lines sure old d left.Look new e =
       ((j : ℕ) × Talks (moves_of part w) answers until (shown_lines lines sure) j old d new e) × (next_cycle part new.cpu ≡ None)
 
--- A run from a tick came to the end of its room, in a sequence that began with the run or below the tick sure. Each note is of a write, which takes a
--- cycle, and of that sequence fewer than 16 cycles are done.
+-- The notes of a run from tick `from` had room for at most the cycles up to `safe_until`, plus 15:
+-- each note is of a write, which takes a cycle, and fewer than 16 cycles of the last sequence are
+-- done.
 abbrev pub IsCramped : ℕ → ℕ → ℕ → ℕ → Type 0
 IsCramped cycle sure from room = from + cycle * room ≤ max sure from + cycle * 15

@@ -37,11 +37,11 @@ module _ (part : Part) {B : Type 0} (w : Wiring B) (wired : IsWired w) where
   rises_by true c s a = omega arith
   rises_by false c s a = rises c s a
 
-  -- closing a machine so far and then further is closing it further at once
+  -- closing a machine and then closing it further is closing it further at once
   pub again : (s : At B) (t u : ℕ) → t ≤ u → closed_to w (closed_to w s t) u ≡ closed_to w s u
   again s t u high = ap (λ (b : B). record s { bus = b }) (wired.again s.bus t u high)
 
-  -- and changes nothing of the next step
+  -- and does not change the next step
   pub break_closed : (s : At B) (t : ℕ) → is_break part w (closed_to w s t) ≡ is_break part w s
   break_closed s t = grind arith
 
@@ -72,7 +72,8 @@ module _ {B : Type 0} (w : Wiring B) where
   permitted_by breaks side b c may = grind arith
 
 module _ (part : Part) {B : Type 0} (w : Wiring B) where
-  -- A machine may play a side that may ask for the reset operation, or any side, if no break is ever pending.
+  -- A machine may play a side that may ask for the reset operation, or any side, if no break is
+  -- ever pending.
   pub may_play : (plays : Side → Bool) → ((b : B) (t : ℕ) (side : Side) → IsTrue (plays side) → w.pending b t ≡ true → MayDo side op.Reset) → IsPermitted (moves_of part w) plays
   may_play plays may s side plays_it = permitted_by w (is_break part w s) side s.bus (next_cycle part s.cpu) (λ breaks. may s.bus s.due side plays_it (pending_at (w.pending s.bus s.due) _ breaks))
     where

@@ -1,4 +1,4 @@
--- Where no break is pending, a step is an access or a look.
+-- If no break is pending, a step is an access or a look.
 use Rattle.std.specs.Prelude.{◌≡◌, ◌+◌, ◌&&◌, ◌||◌, Bool, false, is_none, Option, if◌then◌else◌}
 use Rattle.std.proofs.Common.{ap}
 use Rattle.op_table.specs.declared.names.Part.{Part}

@@ -1,4 +1,4 @@
--- Starts of instructions that are passed over, up to one that is not.
+-- Starts of instructions that are skipped, up to one that is not.
 use Rattle.std.specs.Prelude.{ℕ, zero, suc, ◌≡◌, ◌≢◌, ◌<◌, true, Option, Some}
 use Rattle.cpu_core.specs.Sequences.{starting}
 use Rattle.beeb_bits.specs.declared.Tick.{Tick}
@@ -9,17 +9,17 @@ use Rattle.tube_machine.specs.Step.{At}
 use Rattle.tube_machine.specs.declared.pass.Passing.{Passing}
 use Rattle.tube_machine.specs.declared.pass.Passing.TheVariants.{Before, Elsewhere, Same}
 
--- A start at this tick and this PC, of a machine in whose memory these bytes stand, is passed over.
+-- A start at this tick and this program counter is skipped, with `peek` for the bytes in memory.
 abbrev pub IsOver : Passing → ℕ → ℕ → (ℕ → Option ℕ) → Type 0
 IsOver (Before end) tick pc peek = tick < end
 IsOver (Elsewhere at) tick pc peek = pc ≢ at
 IsOver (Same at byte) tick pc peek = peek at ≡ byte
 
--- a machine starts an instruction, and that start is passed over
+-- a machine starts an instruction, and that start is skipped
 abbrev pub over_at : {B : Type 0} → (B → ℕ → Option ℕ) → Passing → At B → Type 0
 over_at peek passing s = (starting s.cpu ≡ true) × IsOver passing s.due s.cpu.regs.pc (peek s.bus)
 
--- Steps below tick n that ask nothing, and then a look that is sure, and sees these lines.
+-- Steps below tick n that ask nothing, and then a look below `safe_until`, which sees the lines.
 pub record ToLook {S : Type 0} (m : Moves S) (n : ℕ) (v : Shown) (s on : S) : Type 0 where
   pub tick : Tick
   pub last : S
@@ -27,7 +27,7 @@ pub record ToLook {S : Type 0} (m : Moves S) (n : ℕ) (v : Shown) (s on : S) : 
   pub sure : tick.0 < v.sure
   pub next : on ≡ m.next last (Some (Seen v.lines))
 
--- so many times, each from a state of which this holds
+-- k such runs up to a look and past it, each from a state of which `over` holds
 abbrev pub Passes : {S : Type 0} → Moves S → (S → Type 0) → ℕ → Shown → ℕ → S → S → Type 0
 Passes m over n v zero s last = s ≡ last
 Passes {S} m over n v (suc k) s last = over s × ((u : S) × (ToLook m n v s u × Passes m over n v k u last))

@@ -1,22 +1,23 @@
--- What is particular to the bus of a machine at the Tube.
+-- The model of the bus of a machine at the Tube.
 use Rattle.std.specs.Prelude.{ℕ, ◌≡◌, ◌≤◌, max, Bool, true, false}
 use Rattle.cpu_alu.specs.declared.Cycle.{Cycle}
 use Rattle.tube_chip.specs.declared.Lines.{Lines}
 
--- A bus whose states are B, with the devices on it, and what it has taken of the counts of its lines.
+-- A bus whose states are B, with the devices on it, and the counts of the Tube's lines that it has
+-- taken.
 pub record Wiring (B : Type 0) : Type 0 where
-  -- how many ticks a cycle has
+  -- the number of ticks of a cycle
   pub cycle : B → ℕ
-  -- whether there is a Tube, and which addresses are its
+  -- there is a Tube; and an address is the Tube's
   pub has_tube : B → Bool
   pub is_tube : ℕ → Bool
-  -- the byte that a read at a tick shows where the Tube does not answer
+  -- the byte that a read at a tick yields, if the Tube does not answer
   pub answer : B → ℕ → ℕ → ℕ
   -- the bus after an access
   pub after : B → Cycle → B
-  -- how many ticks an access takes that begins at a tick
+  -- the number of ticks of an access that begins at a tick
   pub takes : B → ℕ → Cycle → ℕ
-  -- at a look that sees these lines: whether a reset is to be taken, an NMI, an IRQ
+  -- a look that sees these lines is to take a reset, an NMI, an IRQ
   pub resets : B → Lines → Bool
   pub nmi : B → Lines → Bool
   pub irq : B → Lines → Bool
@@ -24,15 +25,16 @@ pub record Wiring (B : Type 0) : Type 0 where
   pub held : B → B
   pub reset : B → Lines → B
   pub taken : B → Lines → B
-  -- whether a break is pending at a tick, and the bus after it was taken there
+  -- a break is pending at a tick; and the bus after it was taken there
   pub pending : B → ℕ → Bool
   pub broken : B → ℕ → B
-  -- the device steps below this tick are done; and the bus with those below another done too
+  -- the tick below which device steps are done; and the bus with those below another done too
   pub closed : B → ℕ
   pub close : B → ℕ → B
 
--- What holds of each bus. A cycle is some ticks. Accesses and looks leave what a cycle is and which breaks are pending. Closing a bus so far and then
--- further is closing it further at once, and it leaves whether there is a Tube.
+-- What holds of each bus. A cycle has 2 to 6 ticks, and an access takes at least a cycle. Steps
+-- leave the length of a cycle, and accesses and looks without a reset leave the pending breaks.
+-- Closing a bus and then closing it further is closing it further at once, and leaves its Tube.
 pub record IsWired {B : Type 0} (w : Wiring B) : Type 0 where
   pub some : (b : B) → 2 ≤ w.cycle b
   pub few : (b : B) → w.cycle b ≤ 6
@@ -55,7 +57,8 @@ pub record IsWired {B : Type 0} (w : Wiring B) : Type 0 where
   pub cycle_reset : (b : B) (l : Lines) → w.cycle (w.reset b l) ≡ w.cycle b
   pub cycle_broken : (b : B) (t : ℕ) → w.cycle (w.broken b t) ≡ w.cycle b
 
--- Looks that see these lines are plain: no reset is to be taken, and no access, no closing and none of these looks changes that.
+-- Looks that see these lines are plain: they take no reset. Accesses, closing and such looks do not
+-- change that.
 pub record StaysPlain {B : Type 0} (w : Wiring B) (plain : B → Lines → Bool) : Type 0 where
   pub resets : (b : B) (l : Lines) → plain b l ≡ true → w.resets b l ≡ false
   pub close : (b : B) (l : Lines) (t : ℕ) → plain (w.close b t) l ≡ plain b l

@@ -1,4 +1,4 @@
-//! What a machine's processor reaches.
+//! The bus of a machine at the Tube, as a trait.
 ghost use Rattle.std.specs.Prelude.{ℕ, Bool, ◌≡◌, ◌≤◌, ◌<◌, ◌+◌, ◌*◌, ◌^◌, true, false, Option, None, MatchOption, IfOk, Err};
 ghost use Rattle.cpu_alu.specs.declared.Cycle.{Cycle};
 ghost use Rattle.tube_chip.specs.declared.Lines.{Lines};
@@ -14,47 +14,48 @@ use cpu_whole::LastAccess;
 use op_table::Part;
 use tube_chip::{Lines, Op};
 
-/// An access that is done: the byte that was read, or 0, and how many ticks it took.
+/// An access that is done: the byte that was read, or 0, and its number of ticks.
 #[derive(Clone, Copy, Debug, PartialEq, Eq)]
 pub struct Done {
     pub byte: u8,
     pub ticks: u64,
 }
 
-/// Why an access is not done.
+/// The reason why an access is not done.
 #[derive(Clone, Copy, Debug, PartialEq, Eq)]
 pub enum Unable {
     /// It is the Tube's.
     Tube(Op),
-    /// It is a write for whose note there is no room.
+    /// It is a write, and there is no room to note it.
     Full,
 }
 
-/// What a look asks the processor for.
+/// The interrupts that a look asks for.
 #[derive(Clone, Copy, Debug, PartialEq, Eq)]
 pub struct Interrupts {
     pub nmi: bool,
     pub irq: bool,
 }
 
-/// A bus with its devices, one of which is the Tube, and what is taken of the counts of its lines. What is done to it may be noted in an `N`.
+/// A bus with its devices, among them the Tube, and the counts of the Tube's lines that it has
+/// taken. What is done to it may be noted in an `N`.
 pub trait TubeBus<N>: Drop {
-    /// What contracts see of it.
+    /// The bus's state, as contracts see it.
     ghost State: { Type 0 };
 
     ghost state: { Self → State };
 
-    /// How it answers, and what it becomes.
+    /// The model of the bus: its answers, and its states after accesses and looks.
     ghost wiring: { Wiring State };
 
     ghost wired: { IsWired wiring };
 
-    /// Looks that see these lines take no reset, and the loop may do them.
+    /// Looks with these lines need no reset, so the fast loop may do them.
     ghost plain: { State → Lines → Bool };
 
     ghost stays_plain: { StaysPlain wiring plain };
 
-    /// What notes can take back: what is left of it by what is noted.
+    /// The part of the bus that a rollback restores, from the notes and the present bus.
     ghost Kept: { Type 0 };
 
     ghost before: { N → Self → Kept };
@@ -62,10 +63,10 @@ pub trait TubeBus<N>: Drop {
     /// There is always room for a note.
     ghost endless: { Bool };
 
-    /// For how many notes there is room at least.
+    /// The number of further notes for which there is room, at least.
     ghost room: { N → ℕ };
 
-    /// Where writes are noted each access takes one cycle.
+    /// If the room may end, each access takes one cycle.
     ghost even: { endless ≡ false → (b : State) (t : ℕ) (c : Cycle) → wiring.takes b t c ≡ wiring.cycle b };
 
     /// And there is a Tube.
@@ -78,21 +79,22 @@ pub trait TubeBus<N>: Drop {
 
     ghost memory: { IsMemory wiring reads writes };
 
-    /// Looks below this tick that see these lines, with the flag I so, ask for nothing and leave the bus.
+    /// Looks below a tick that see these lines, with the flag I as given, ask for nothing and do
+    /// not change the bus.
     ghost rests: { State → Lines → Bool → ℕ → Type 0 };
 
     ghost stays_at_rest: { StaysAtRest wiring writes rests };
 
-    /// The byte that stands at an address, if one does.
+    /// The byte stored at an address, if one is.
     ghost peek: { State → ℕ → Option ℕ };
 
-    /// A cycle, in ticks.
+    /// Returns the ticks of a cycle.
     fn cycle(&self) -> u64
         ensures value { result ≡ wiring.cycle (state self.now) }
         ensures some { 2 ≤ result }
         ensures bound { result ≤ 6 };
 
-    /// Whether there is a Tube.
+    /// Returns `true` if there is a Tube.
     fn has_tube(&self) -> bool
         ensures { result ≡ wiring.has_tube (state self.now) };
 
@@ -103,20 +105,22 @@ pub trait TubeBus<N>: Drop {
         ensures closed { state self.new ≡ wiring.close (state self.old) t }
         ensures kept { (notes : N) → before notes self.new ≡ before notes self.old };
 
-    /// The tick of the first break, or the last number where none is left: before it none is pending, and from it on one is.
+    /// Returns the tick of the first break, or the largest number if none is left. Before that tick
+    /// no break is pending, and from it on one is.
     fn break_tick(&self) -> u64
         ensures none { (t : ℕ) → t < result → wiring.pending (state self.now) t ≡ false }
         ensures some { (t : ℕ) → result ≤ t → t < 2 ^ 63 → wiring.pending (state self.now) t ≡ true };
 
-    /// Whether looks that see these lines are plain.
+    /// Returns `true` if looks that see these lines are plain.
     fn is_plain(&self, lines: &Lines) -> bool
         ensures { result ≡ plain (state self.now) lines.now };
 
-    /// The device steps below this tick are done.
+    /// Returns the tick below which device steps are done.
     fn closed(&self) -> u64
         ensures { result ≡ wiring.closed (state self.now) };
 
-    /// Takes every break that is pending at tick `t`, if one is, with the devices closed behind it.
+    /// Takes every break that is pending at tick `t`, if one is, with the devices closed at `t +
+    /// 1`.
     fn take_break(&mut self, t: u64)
         requires low { wiring.closed (state self.old) ≤ t + 1 }
         requires room { t < 2 ^ 40 }
@@ -124,27 +128,27 @@ pub trait TubeBus<N>: Drop {
             state self.new ≡ wiring.broken (wiring.close (state self.old) (t + 1)) t }
         ensures kept { wiring.has_tube (state self.old) ≡ false → (notes : N) → before notes self.new ≡ before notes self.old };
 
-    /// Whether a look that sees these lines is to take a reset.
+    /// Returns `true` if a look that sees these lines must take a reset.
     fn resets(&self, lines: &Lines) -> bool
         ensures { result ≡ wiring.resets (state self.now) lines.now };
 
-    /// A look that finds the processor held.
+    /// Does a look that finds the processor held.
     fn hold(&mut self)
         ensures held { state self.new ≡ wiring.held (state self.old) }
         ensures kept { (notes : N) → before notes self.new ≡ before notes self.old };
 
-    /// A look at which a reset begins.
+    /// Does a look at which a reset begins.
     fn reset(&mut self, lines: &Lines)
         ensures { state self.new ≡ wiring.reset (state self.old) lines.now };
 
-    /// Any other look.
+    /// Does any other look. Returns the interrupts that it asks for.
     fn take(&mut self, lines: &Lines) -> Interrupts
         requires { wiring.resets (state self.old) lines.now ≡ false }
         ensures nmi { result.nmi ≡ wiring.nmi (state self.old) lines.now }
         ensures irq { result.irq ≡ wiring.irq (state self.old) lines.now }
         ensures taken { state self.new ≡ wiring.taken (state self.old) lines.now };
 
-    /// The same, where it is plain.
+    /// Does what `take` does, at a plain look.
     fn take_plain(&mut self, lines: &Lines) -> Interrupts
         requires { plain (state self.old) lines.now ≡ true }
         ensures nmi { result.nmi ≡ wiring.nmi (state self.old) lines.now }
@@ -152,15 +156,15 @@ pub trait TubeBus<N>: Drop {
         ensures taken { state self.new ≡ wiring.taken (state self.old) lines.now }
         ensures kept { (notes : N) → before notes self.new ≡ before notes self.old };
 
-    /// An access that the Tube answered.
+    /// Does an access that the Tube answered.
     fn answered(&mut self, cycle: Cycle)
         requires { IsAtTube wiring (state self.old) cycle }
         ensures after { state self.new ≡ wiring.after (state self.old) cycle }
         ensures fast { (t : ℕ) → wiring.takes (state self.old) t cycle ≡ wiring.cycle (state self.old) }
         ensures closed { wiring.closed (state self.new) ≡ wiring.closed (state self.old) };
 
-    /// Does an access at tick `t` that takes one cycle and few tests, and gives its byte, or 0 for a write. Any other is left. It may leave the bus
-    /// as far as it is closed.
+    /// Does an access at tick `t` that takes one cycle and few tests, and returns its byte, or 0
+    /// for a write. Returns `None`, unchanged, for any other access. It need not close the devices.
     fn quick(&mut self, t: u64, cycle: Cycle, notes: &mut N) -> Option<u8>
         requires closed { wiring.closed (state self.old) ≤ t + 1 }
         requires room { t < 2 ^ 40 }
@@ -170,18 +174,20 @@ pub trait TubeBus<N>: Drop {
         ensures room { room notes.old ≤ room notes.new + 1 }
         ensures still { result ≡ None → notes.new ≡ notes.old };
 
-    /// A tick below which looks that see these lines, with the flag I so, ask for nothing and leave the bus; 0 where none is known.
+    /// Returns a tick below which looks that see these lines, with the flag I as `masks`, ask for
+    /// nothing and do not change the bus; 0 if none is known.
     fn rests_until(&self, lines: &Lines, masks: bool) -> u64
         requires { plain (state self.now) lines.now ≡ true }
         ensures { rests (state self.now) lines.now masks result };
 
-    /// The byte that a read of this address would give now. None where a device answers.
+    /// Returns the byte that a read of address `at` would yield now, or `None` if a device answers
+    /// there.
     fn peek(&self, at: u16) -> Option<u8>
         ensures { result ≡ peek (state self.now) at };
 
-    /// Does the instruction whose first cycle is at tick `t`, whole, if all its accesses are of plain memory, and gives the number of its cycles.
-    /// Else nothing is done, and that number is 0.
-    /// `L` stands for the calling loop and is used for nothing else: each loop so gets its own inlined copy.
+    /// Does the instruction whose first cycle is at tick `t`, whole, if all its accesses are of
+    /// plain memory, and returns the number of its cycles. Otherwise does nothing and returns 0.
+    /// `L` names the calling loop and has no other use: each loop so gets its own inlined copy.
     fn whole<L>(&mut self, part: Part, regs: &mut Regs, t: u64, notes: &mut N) -> u64
         requires closed { wiring.closed (state self.old) ≤ t + 1 }
         requires room { t < 2 ^ 40 }
@@ -193,25 +199,28 @@ pub trait TubeBus<N>: Drop {
         ensures room { room notes.old ≤ room notes.new + result }
         ensures few { result ≤ 8 };
 
-    /// The last access of the instruction at PC, where all others are reads of plain memory. Where nothing is said its `cycles` are 0. `L` is as in
-    /// `whole`.
+    /// Returns the last access of the instruction at the program counter, if all its others are
+    /// reads of plain memory. Its `cycles` are 0 if nothing is known. `L` is as in `whole`.
     fn last_access<L>(&self, part: Part, regs: &Regs) -> LastAccess
         ensures outside { let reach = reach_of wiring reads writes in
             (t : ℕ) → 0 < result.cycles → outside.IsOutside part reach t regs.now (state self.now) result }
         ensures few { result.cycles ≤ 5 };
 
-    /// What an access asks of the Tube, where it leaves the bus as it is. None where nothing is said.
+    /// Returns what an access asks of the Tube, if it does not change the bus, or `None` if nothing
+    /// is known.
     fn asked(&self, cycle: Cycle) -> Option<Op>
         ensures { MatchOption result (Unit {0}) (λ op. IsPassing wiring (state self.now) cycle op) };
 
-    /// How many cycles the instruction at PC takes, where that is a branch which leads from these registers to those, over plain memory. Else 0. `L`
+    /// Returns the number of cycles of the instruction at the program counter, if it is a branch
+    /// over plain memory that leads from registers `from` to registers `to`, and otherwise 0. `L`
     /// is as in `whole`.
     fn branch_to<L>(&self, part: Part, from: &Regs, to: &Regs) -> u64
         ensures done { let reach = reach_of wiring reads writes in
             (t : ℕ) → 0 < result → whole.IsDone part reach t from.now (state self.now) result to.now (state self.now) }
         ensures few { result ≤ 8 };
 
-    /// Does any access at tick `t`, or tells what it asks of the Tube.
+    /// Does any access at tick `t`. Returns as `Err` what it asks of the Tube, or that it cannot be
+    /// noted.
     fn exchange(&mut self, t: u64, cycle: Cycle, notes: &mut N) -> Result<Done, Unable>
         requires closed { wiring.closed (state self.old) ≤ t + 1 }
         requires room { t < 2 ^ 40 }

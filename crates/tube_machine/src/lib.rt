@@ -1,4 +1,5 @@
-//! A processor at a bus as a party at the Tube: its steps, and the loop that does them, for any bus.
+//! A processor at a bus as a party at the Tube: its steps, and the loop that does them, for any
+//! bus.
 #![tactic(auto)]
 
 mod bus;

@@ -1,4 +1,4 @@
-//! Skips instructions whose starts nobody looks for, each done whole.
+//! Skips instructions whose starts are not looked for. Each is done whole.
 ghost use Rattle.std.specs.Prelude.{◌≡◌, ◌≢◌, ◌≤◌, ◌<◌, ◌+◌, ◌*◌, ◌^◌, ℕ, true, false};
 ghost use Rattle.cpu_alu.specs.Flags.{has_flag};
 ghost use Rattle.cpu_alu.specs.declared.flags.TheConstants.{INTERRUPT};
@@ -17,14 +17,14 @@ use cpu_alu::{INTERRUPT, Regs, has_flag};
 use op_table::Part;
 use tube_chip::Lines;
 
-/// Which starts of instructions are passed over.
+/// The starts of instructions that are skipped.
 #[derive(Clone, Copy, Debug, PartialEq, Eq)]
 pub enum Passing {
     /// Those below this tick.
     Before(u64),
-    /// Those whose PC is not this address.
+    /// Those whose program counter is not this address.
     Elsewhere(u16),
-    /// Those at which this address has this byte, or none of memory where that is said.
+    /// Those at which this address holds this byte, or for `None` no byte of memory.
     Same(u16, Option<u8>),
 }
 
@@ -40,7 +40,7 @@ fn is_same(one: Option<u8>, other: Option<u8>) -> bool
     }
 }
 
-// Whether a start at tick `t` and this PC is passed over.
+// Returns `true` if a start at tick `t` with program counter `pc` is skipped.
 #[inline(always)]
 fn is_over<N, B: TubeBus<N>>(passing: Passing, t: u64, pc: u16, bus: &B) -> bool
     ensures over { result ≡ true → IsOver passing t pc (B.peek (B.state bus.now)) }
@@ -53,8 +53,8 @@ fn is_over<N, B: TubeBus<N>>(passing: Passing, t: u64, pc: u16, bus: &B) -> bool
     }
 }
 
-// Does the instruction that starts at tick `t` whole, and gives the number of its cycles. 0, and nothing was done, where its start is not passed over or
-// it needs single cycles.
+// Does the instruction that starts at tick `t`, whole, and returns the number of its cycles.
+// Returns 0, with nothing done, if its start is not skipped or if it needs single cycles.
 #[inline(always)]
 fn whole_if_over<N, B: TubeBus<N>>(
     bus: &mut B,
@@ -81,8 +81,9 @@ fn whole_if_over<N, B: TubeBus<N>>(
     }
 }
 
-// The same from a start at tick `from` on, and gives the tick of the next step. Before `bound` no break is pending, and looks are plain and see these
-// lines. Before `quiet` they ask for nothing.
+// Does so with instructions one after another, from a start at tick `from` on, and returns the tick
+// of the next step. Before `bound` no break is pending, and looks are plain and see these lines.
+// Before `quiet` they ask for nothing.
 #[inline(never)]
 fn pass_whole<N, P: Processor, B: TubeBus<N>>(
     cpu: &mut P,
@@ -132,9 +133,10 @@ fn pass_whole<N, P: Processor, B: TubeBus<N>>(
     due
 }
 
-/// Skips instructions whose starts `passing` passes over. Each is done whole, with the look behind it, which sees these lines, comes before `until` and
-/// `sure`, and asks for nothing. Stops at any other start, and at one whose instruction needs single cycles or may end too late. Within an instruction it
-/// does nothing.
+/// Skips instructions whose starts `passing` names. Each is done whole, with the look after it,
+/// which sees these lines, comes before `until` and `safe_until`, and asks for nothing. Stops at
+/// any other start, and at one whose instruction needs single cycles or may end too late. Does
+/// nothing in the middle of an instruction.
 #[inline(always)]
 pub fn pass_over<N, P: Processor, B: TubeBus<N>>(
     cpu: &mut P,

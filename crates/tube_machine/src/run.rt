@@ -1,5 +1,5 @@
-//! Steps one after another, as long as they are quick accesses and plain looks that are sure of their lines. They go over the parts of the
-//! machine, with the tick of the next step beside them.
+//! Runs of steps: quick accesses, and plain looks that are guaranteed to see the given lines. They
+//! work on the parts of the machine, with the tick of the next step beside them.
 ghost use Rattle.std.specs.Prelude.{◌≡◌, ◌≤◌, ◌<◌, ◌+◌, ◌-◌, ◌*◌, ◌^◌, ℕ, List, [], length, None, IsSome, true, false};
 ghost use Rattle.op_table.specs.declared.Part.TheVariants.{Cmos};
 ghost use Rattle.cpu_core.specs.declared.Sequence.TheVariants.{Instruction};
@@ -17,18 +17,19 @@ use cpu_whole::take_in;
 use tube_chip::Lines;
 use tube_party::Desk;
 
-/// Where the steps leave off.
+/// Where such steps stop.
 #[derive(Clone, Copy, Debug, PartialEq, Eq)]
 pub(crate) enum Stop {
-    /// At a look that is past the end of the run, is not sure of its lines or is not plain; or at a break in its place.
+    /// At a look that is past the end of the run, is not below `safe_until` or is not plain; or at
+    /// a break in place of it.
     Look,
-    /// At an access that is not quick, or one whose cycle could end at a break, or at that break.
+    /// At an access that is not quick, or whose cycle could end at a break; or at that break.
     Access,
     /// At an access that is not below the end of the run.
     End,
 }
 
-/// A plain look at tick `t`.
+/// Does a plain look at tick `t`.
 #[inline(always)]
 pub(crate) fn see<N, P: Processor, B: TubeBus<N>>(cpu: &mut P, bus: &mut B, t: u64, lines: &Lines)
     requires room { t < 2 ^ 40 }
@@ -46,8 +47,8 @@ pub(crate) fn see<N, P: Processor, B: TubeBus<N>>(cpu: &mut P, bus: &mut B, t: u
     cpu.take_lines(interrupts.nmi, interrupts.irq);
 }
 
-// Does the device steps that quick accesses left for later: those before the access of the last cycle, if there was one since the tick
-// `caught_up`. A cycle has so many ticks.
+// Does the device steps that quick accesses left for later: those before the access of the last
+// cycle, if there was one since tick `caught_up`. A cycle has `cycle` ticks.
 fn catch_up<N, B: TubeBus<N>>(bus: &mut B, cycle: u64, caught_up: u64, due: u64)
     requires gone { caught_up < due → (0 < cycle) × (cycle ≤ due) × (due < 2 ^ 48) }
     requires low { let closed = (B.wiring).closed (B.state bus.old) in closed ≤ owed_at cycle caught_up due closed }
@@ -60,7 +61,7 @@ fn catch_up<N, B: TubeBus<N>>(bus: &mut B, cycle: u64, caught_up: u64, due: u64)
     }
 }
 
-/// The tick below which each look is plain and sees these lines.
+/// Returns the tick below which each look is plain and sees these lines, or 0.
 #[inline(always)]
 pub(crate) fn bound_of<N, B: TubeBus<N>>(
     bus: &B,
@@ -80,10 +81,10 @@ pub(crate) fn bound_of<N, B: TubeBus<N>>(
     until.min(sure).min(next_break)
 }
 
-/// How many cycles an instruction may have that is done whole.
+/// The most cycles of an instruction that is done whole.
 pub(crate) const LONGEST: u64 = 8;
 
-// Closes the devices behind instructions from tick `from` to `due`, if there were any.
+// Closes the devices after instructions from tick `from` to `due`, if there were any.
 #[inline(always)]
 fn close_behind<N, B: TubeBus<N>>(bus: &mut B, from: u64, due: u64)
     requires low { from < due → (B.wiring).closed (B.state bus.old) ≤ due }
@@ -96,9 +97,10 @@ fn close_behind<N, B: TubeBus<N>>(bus: &mut B, from: u64, due: u64)
     }
 }
 
-// Instructions one after another, each done whole with the look behind it, from the first cycle of one at tick `from` on. Each ends at tick `end` at
-// the latest: up to there a look is plain, sees these lines and asks for nothing, and no break is pending. It gives the tick of the next step. The loop
-// has its registers to itself.
+// Does instructions one after another, each whole with the look after it, from a first cycle at
+// tick `from` on. Each ends at tick `end` at the latest: up to there looks are plain, see these
+// lines and ask for nothing, and no break is pending. Returns the tick of the next step, and the
+// registers. Not inlined, so that the loop has its registers to itself.
 #[inline(never)]
 fn go_whole<N, P: Processor, B: TubeBus<N>>(
     cpu: &P,
@@ -134,7 +136,7 @@ fn go_whole<N, P: Processor, B: TubeBus<N>>(
         s: at.s,
         p: at.p,
     };
-    // An instruction that begins before this tick surely ends in time.
+    // An instruction that begins before this tick is guaranteed to end by `end`.
     let late = (end + 1).saturating_sub(LONGEST * cycle);
     let mut due = from;
     while due < late {
@@ -148,7 +150,7 @@ fn go_whole<N, P: Processor, B: TubeBus<N>>(
     (due, regs)
 }
 
-// How many times more what takes a period fits, where it fits once.
+// Returns the number of further periods between `from` and `end`, after the one that fits.
 #[inline(always)]
 fn times_more(from: u64, period: u64, end: u64) -> u64
     requires some { 0 < period }
@@ -158,8 +160,10 @@ fn times_more(from: u64, period: u64, end: u64) -> u64
     (end - from) / period - 1
 }
 
-// An instruction whose first cycle is at tick `from` and whose last access the desk answers, whole with the look behind it. Where a branch leads back to
-// it with the registers as they were, the same again and again, as often as the desk answers the same. Else nothing is done.
+// Does the instruction whose first cycle is at tick `from`, whole with the look after it, if the
+// port answers its last access. If a branch leads back to it with unchanged registers, repeats both
+// as often as the port repeats its answer. Returns the tick of the next step: `from`, with nothing
+// done, if the port does not answer.
 #[inline(never)]
 fn ask_whole<N, P: Processor, B: TubeBus<N>, D: Desk>(
     cpu: &P,
@@ -211,7 +215,8 @@ fn ask_whole<N, P: Processor, B: TubeBus<N>, D: Desk>(
     due
 }
 
-// Whole instructions from the first cycle of one on, and among them those whose last access is the Tube's and is answered by the desk.
+// Does whole instructions from the first cycle of one on, and among them those whose last access is
+// the Tube's and is answered by the port. Returns the tick of the next step.
 #[inline(never)]
 fn serve<N, P: Processor, B: TubeBus<N>, D: Desk>(
     cpu: &mut P,
@@ -253,7 +258,8 @@ fn serve<N, P: Processor, B: TubeBus<N>, D: Desk>(
     due
 }
 
-// The same, where the next cycle is the first of an instruction that surely ends in time; else nothing is done.
+// Does what `serve` does, if the next cycle is the first of an instruction that is guaranteed to
+// end by the bound; otherwise nothing.
 #[inline(always)]
 fn go_asking<N, P: Processor, B: TubeBus<N>, D: Desk>(
     cpu: &mut P,
@@ -292,8 +298,8 @@ fn go_asking<N, P: Processor, B: TubeBus<N>, D: Desk>(
     serve::<N, P, B, D>(cpu, bus, notes, from, end, lines, desk)
 }
 
-/// Goes on from a step at tick `from`, and gives the tick of the step at which it leaves off. It does no look at which a break is pending, and no
-/// access whose cycle could end at one.
+/// Runs from a step at tick `from`, and returns the tick of the step at which it stops. It stops
+/// before a look at which a break is pending, and before an access whose cycle could end at one.
 #[inline(always)]
 pub(crate) fn go_quick<N, P: Processor, B: TubeBus<N>, D: Desk>(
     cpu: &mut P,
@@ -331,7 +337,7 @@ pub(crate) fn go_quick<N, P: Processor, B: TubeBus<N>, D: Desk>(
         see::<N, P, B>(cpu, bus, due, lines);
         due = go_asking::<N, P, B, D>(cpu, bus, notes, due + 1, bound, lines, desk);
     }
-    // No access from this tick on has left device steps for later.
+    // No access from tick `caught_up` on has left device steps for later.
     let mut caught_up = due;
     while due < end {
         match bus.quick(due, cpu.want(), notes) {

@@ -1,4 +1,5 @@
-//! What a machine does as a party, over its parts: the processor, the bus, and the tick of the next step.
+//! The steps of a machine as a party, over its parts: the processor, the bus, and the tick of the
+//! next step.
 ghost use Rattle.std.specs.Prelude.{◌≡◌, ◌≤◌, ◌<◌, ◌+◌, ◌-◌, ◌*◌, ◌^◌, ◌&&◌, nat_lt, not, ℕ, length, IsSome, None, Some, Err, true, false};
 ghost use Rattle.op_table.specs.declared.Part.TheVariants.{Cmos};
 ghost use Rattle.cpu_core.specs.Sequences.{next_cycle, after_byte, halted};
@@ -14,18 +15,18 @@ use beeb_bits::Tick;
 use tube_chip::{Answer, Lines, Op};
 use tube_party::{Ask, Closed, Desk};
 
-/// Where a run leaves off.
+/// Where a run stops.
 #[derive(Clone, Copy, Debug, PartialEq, Eq)]
 pub enum Left {
-    /// At what is asked.
+    /// At an ask.
     Asked(Ask),
-    /// At a look, which may be sure or not, or at a break in place of it.
+    /// At a look, below `safe_until` or not, or at a break in place of it.
     Look,
     /// At a write that cannot be noted.
     Full,
 }
 
-// Whether a break is pending at tick `t`.
+// Returns `true` if a break is pending at tick `t`.
 #[inline(always)]
 fn is_pending<N, B: TubeBus<N>>(bus: &B, t: u64) -> bool
     requires { t < 2 ^ 63 }
@@ -34,7 +35,7 @@ fn is_pending<N, B: TubeBus<N>>(bus: &B, t: u64) -> bool
     bus.break_tick() <= t
 }
 
-// Whether tick `t` is the last of a cycle of so many ticks.
+// Returns `true` if tick `t` is the last of a cycle of `cycle` ticks.
 #[inline(always)]
 fn is_last_tick(cycle: u64, t: u64) -> bool
     requires { 0 < cycle }
@@ -43,7 +44,7 @@ fn is_last_tick(cycle: u64, t: u64) -> bool
     t % cycle == cycle - 1
 }
 
-// Whether the next step is a break step.
+// Returns `true` if the next step is a break step.
 #[inline(always)]
 fn is_break<N, P: Processor, B: TubeBus<N>>(cpu: &P, bus: &B, due: u64) -> bool
     requires { due < 2 ^ 63 }
@@ -52,7 +53,8 @@ fn is_break<N, P: Processor, B: TubeBus<N>>(cpu: &P, bus: &B, due: u64) -> bool
     is_pending::<N, B>(bus, due) && (cpu.last() || cpu.halted() && is_last_tick(bus.cycle(), due))
 }
 
-// Closes the bus at a tick that is not above the next step's, or leaves it closed as far as it is.
+// Closes the bus at tick `until`, which is not above the next step's, unless it is closed further
+// already.
 #[inline(always)]
 fn shut<N, P: Processor, B: TubeBus<N>>(cpu: &P, bus: &mut B, due: u64, until: Tick)
     requires room { until.0 < 2 ^ 40 }
@@ -68,7 +70,8 @@ fn shut<N, P: Processor, B: TubeBus<N>>(cpu: &P, bus: &mut B, due: u64, until: T
     }
 }
 
-/// The look of the next step or the break in place of it, or none where its tick is not below `until`.
+/// Returns the look of the next step or the break in place of it, or `Nothing` if its tick is not
+/// below `until`.
 #[inline(always)]
 pub fn look<N, P: Processor, B: TubeBus<N>>(cpu: &P, bus: &mut B, due: u64, until: Tick) -> Ask
     requires room { until.0 < 2 ^ 40 }
@@ -91,8 +94,9 @@ pub fn look<N, P: Processor, B: TubeBus<N>>(cpu: &P, bus: &mut B, due: u64, unti
     Ask::Nothing
 }
 
-// Ends the cycle of an access, of so many ticks, with the byte that was read. A processor that was halted before it has a break step at the
-// last of them, where a break is pending there. It gives the tick of the next step.
+// Ends the cycle of an access, of `ticks` ticks, with the byte that was read. A processor that was
+// halted before it has a break step at the last of the ticks, if a break is pending there. Returns
+// the tick of the next step.
 #[inline(always)]
 fn end_cycle<N, P: Processor, B: TubeBus<N>>(
     cpu: &mut P,
@@ -121,7 +125,7 @@ fn end_cycle<N, P: Processor, B: TubeBus<N>>(
     }
 }
 
-// The break step, behind the Tube's reset if there is a Tube.
+// Does the break step, after the Tube's reset if there is a Tube.
 #[inline(never)]
 fn take_break<N, P: Processor, B: TubeBus<N>>(cpu: &mut P, bus: &mut B, due: &mut u64)
     requires room { due.old < 2 ^ 40 }
@@ -138,7 +142,8 @@ fn take_break<N, P: Processor, B: TubeBus<N>>(cpu: &mut P, bus: &mut B, due: &mu
     *due += 1;
 }
 
-// Whether the next step is a break step below `until` that asks nothing, since there is no Tube.
+// Returns `true` if the next step is a break step below `until` that asks nothing, since there is
+// no Tube.
 #[inline(always)]
 fn breaks_alone<N, P: Processor, B: TubeBus<N>>(cpu: &P, bus: &B, due: u64, until: Tick) -> bool
     requires { until.0 ≤ 2 ^ 30 }
@@ -148,7 +153,7 @@ fn breaks_alone<N, P: Processor, B: TubeBus<N>>(cpu: &P, bus: &B, due: u64, unti
     due < until.0 && is_break::<N, P, B>(cpu, bus, due) && !bus.has_tube()
 }
 
-// The Tube's answer to an access that leaves the bus as it is.
+// Takes the Tube's answer to an access that does not change the bus.
 #[inline(never)]
 fn pass_byte<N, P: Processor, B: TubeBus<N>>(cpu: &mut P, bus: &mut B, due: &mut u64, byte: u8)
     requires room { due.old < 2 ^ 32 }
@@ -166,8 +171,8 @@ fn pass_byte<N, P: Processor, B: TubeBus<N>>(cpu: &mut P, bus: &mut B, due: &mut
     *due = end_cycle::<N, P, B>(cpu, bus, *due, byte, cycle);
 }
 
-// The access of the next step, or its break, if it asks nothing or the desk answers it; else what it asks. Kept out of the loop, whose frame has no room
-// for it.
+// Does the access of the next step, or its break, if it asks nothing or the port answers it;
+// otherwise returns what it asks. Kept out of the loop, whose frame has no room for it.
 #[inline(never)]
 fn access<N, P: Processor, B: TubeBus<N>, D: Desk>(
     cpu: &mut P,
@@ -208,7 +213,7 @@ fn access<N, P: Processor, B: TubeBus<N>, D: Desk>(
     Ok(())
 }
 
-/// The steps in a row, with the accesses that the desk answers, and where they leave off.
+/// Does steps in a row, with the accesses that the port answers, and returns where they stop.
 #[inline(always)]
 pub fn carry_on<N, P: Processor, B: TubeBus<N>, D: Desk>(
     cpu: &mut P,
@@ -251,7 +256,7 @@ pub fn carry_on<N, P: Processor, B: TubeBus<N>, D: Desk>(
     }
 }
 
-// The Tube's answer to an access.
+// Takes the Tube's answer to an access.
 #[inline(never)]
 fn take_byte<N, P: Processor, B: TubeBus<N>>(cpu: &mut P, bus: &mut B, due: &mut u64, byte: u8)
     requires room { due.old < 2 ^ 32 }
@@ -269,7 +274,7 @@ fn take_byte<N, P: Processor, B: TubeBus<N>>(cpu: &mut P, bus: &mut B, due: &mut
     *due = end_cycle::<N, P, B>(cpu, bus, *due, byte, cycle);
 }
 
-/// The Tube's lines at a look.
+/// Takes the Tube's lines at a look.
 #[inline(always)]
 pub fn take_lines<N, P: Processor, B: TubeBus<N>>(
     cpu: &mut P,
@@ -304,8 +309,8 @@ pub fn take_lines<N, P: Processor, B: TubeBus<N>>(
     *due += 1;
 }
 
-/// Does the steps below `until` that ask nothing, and with them each look below tick `sure`, which sees these lines; up to the first step that asks
-/// for more.
+/// Does the steps below `until` that ask nothing, and the looks below `safe_until`, which see
+/// `lines`, up to the first step that asks for more.
 #[inline(always)]
 pub fn advance_seeing<N, P: Processor, B: TubeBus<N>>(
     cpu: &mut P,
@@ -327,7 +332,7 @@ pub fn advance_seeing<N, P: Processor, B: TubeBus<N>>(
     advance_at::<N, P, B, Closed>(cpu, bus, due, notes, until, lines, sure, &mut Closed)
 }
 
-/// The same, but with the accesses that the desk answers.
+/// Does what `advance_seeing` does, and the accesses that the port answers.
 #[inline(always)]
 pub fn advance_at<N, P: Processor, B: TubeBus<N>, D: Desk>(
     cpu: &mut P,

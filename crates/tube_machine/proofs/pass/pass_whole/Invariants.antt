@@ -9,7 +9,7 @@ use Rattle.tube_machine.specs.Passing.{Passes, over_at}
 use Rattle.tube_machine.proofs.UnderWay.{IsUnderWay}
 use Rattle.tube_machine.proofs.pass.pass_whole.Given as goal
 
--- an instruction begins, and all starts so far were passed over
+-- an instruction begins, and all starts until here were skipped
 abbrev pub invariant-loop-due : goal.invariant-loop-due
 invariant-loop-due g l = record {
   way : IsUnderWay g.P.Processor.part g.B.TubeBus.wiring g.B.TubeBus.plain l.bound l.cycle l.bound l.lines l.bound

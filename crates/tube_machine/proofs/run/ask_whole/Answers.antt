@@ -12,7 +12,7 @@ use Rattle.tube_machine.proofs.run.ask_whole.Goals.{then-back-gt0+then-from-peri
 pub take_in-requires : goal.take_in-requires
 take_in-requires g c = (c.last_access-last.ensures.outside 0 (omega (arith, c.if-last-eq0.false))).kind
 
--- so many periods fit as were asked for at most
+-- the further periods, at most `most`, fit
 fits-more : (p from : ℕ) {due end j most : ℕ} → due ≡ from + p * (1 + j) → j ≤ most → from + p * (most + 1) ≤ end → due ≤ end
 fits-more p from {j = j} {most} is few fits = let more : p * (1 + j) ≤ p * (most + 1) = mul-le-mul_left p (omega (arith, few)) in omega (arith, is, more, fits)
 

@@ -6,7 +6,7 @@ use Rattle.tube_machine.proofs.Ways.{IsTalking}
 use Rattle.tube_machine.specs.Exchange.{HasSpent, ready}
 use Rattle.tube_machine.proofs.run.go_quick.Given as goal
 
--- the steps so far asked nothing or saw the lines, and the next one is an access
+-- the steps until here asked nothing or saw the lines, and the next one is an access
 abbrev pub invariant-loop-due : goal.invariant-loop-due
 invariant-loop-due g l = record {
   at : IsTalking g.P.Processor.part g.B.TubeBus.wiring g.B.TubeBus.plain g.D.Desk.answers l.next_break l.cycle l.until l.lines l.sure

@@ -10,7 +10,8 @@ use Rattle.tube_machine.specs.Whole.{IsResting}
 use Rattle.tube_machine.proofs.UnderWay.{IsUnderWay, IsFree}
 use Rattle.tube_machine.proofs.run.go_whole.Given as goal
 
--- an instruction begins, and all so far asked for nothing; the devices need not be closed yet as far as they count
+-- an instruction begins, and all until here asked for nothing; the devices need not be closed yet
+-- as far as they count
 abbrev pub invariant-loop-due : goal.invariant-loop-due
 invariant-loop-due g l = record {
   way : (far until sure : ℕ) → l.end ≤ far → l.end ≤ until → l.end ≤ sure

@@ -7,7 +7,7 @@ use Rattle.tube_machine.specs.Exchange.{spent, HasSpent}
 use Rattle.tube_machine.specs.Whole.{IsServed, IsResting}
 use Rattle.tube_machine.proofs.run.serve.Given as goal
 
--- whole instructions and answered accesses so far
+-- whole instructions and answered accesses until here
 abbrev pub invariant-loop-due : goal.invariant-loop-due
 invariant-loop-due g l = record {
   served : IsServed g.P.Processor.part g.B.TubeBus.wiring g.B.TubeBus.plain g.D.Desk.answers l.lines l.end

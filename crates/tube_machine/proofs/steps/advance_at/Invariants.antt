@@ -4,7 +4,7 @@ use Rattle.tube_machine.specs.Step.{at_of, moves_of}
 use Rattle.tube_machine.proofs.Ways.{Way}
 use Rattle.tube_machine.proofs.steps.advance_at.Given as goal
 
--- the steps so far asked nothing or saw the lines
+-- the steps until here asked nothing or saw the lines
 abbrev pub invariant-loop-ask : goal.invariant-loop-ask
 invariant-loop-ask g l = record {
   went : Way (moves_of g.P.Processor.part g.B.TubeBus.wiring) g.D.Desk.answers l.until.0 (shown_lines l.lines l.sure.0)

@@ -6,7 +6,7 @@ use Rattle.tube_machine.specs.Exchange.{spent, HasSpent, ready}
 use Rattle.tube_machine.proofs.Ways.{Way}
 use Rattle.tube_machine.proofs.steps.carry_on.Given as goal
 
--- the steps so far, and notes cost no more than a cycle each
+-- the steps until here, and notes cost no more than a cycle each
 abbrev pub invariant-loop-cpu : goal.invariant-loop-cpu
 invariant-loop-cpu g l = record {
   went : Way (moves_of g.P.Processor.part g.B.TubeBus.wiring) g.D.Desk.answers l.until.0 (shown_lines l.lines l.sure.0)
