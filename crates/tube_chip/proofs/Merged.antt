@@ -17,7 +17,7 @@ AllFrom-lower : (m n : ℕ) (events : List Event) → m ≤ n → AllFrom n even
 AllFrom-lower m n [] h all = tt
 AllFrom-lower m n (e ∷ events) h all = (let t : n ≤ e.tick = all.0 in omega arith, AllFrom-lower m n events h all.1)
 
--- what comes after a host's event lies at its tick or above, and after a parasite's above
+-- what follows a host's event lies at its tick or above, and what follows a parasite's above
 abbrev first_tick : Side → ℕ → ℕ
 first_tick Host tick = tick
 first_tick Para tick = tick + 1
@@ -46,7 +46,7 @@ AllFrom-side n side (e ∷ events) all =
       | false ↦ AllFrom-side n side events all.1
     ]
 
--- a host's event that no parasite's precedes stands first
+-- a host's event that no parasite's precedes comes first
 put_in-first : (a : Event) (rest : List Event → List Event) (para : List Event) → AllFrom a.tick para → put_in a rest para ≡ a ∷ rest para
 put_in-first a rest [] all = refl
 put_in-first a rest (b ∷ para) all = rw (le-ltb b.tick a.tick all.0)

@@ -122,7 +122,7 @@ places_back r first well = bytes_8 (places r first) refl (b _, (b _, (b _, (b _,
     b : (i : ℕ) → place r i < 256
     b i = place-byte 24 r i well
 
--- the bytes of registers 2 to 4, and what their counts are bounded by
+-- the bytes of registers 2 to 4, and the bounds by their counts
 record Short (bank : Bank) : Type 0 where
   second : place bank.r2 0 < 256
   third : place bank.r3 0 < 256
@@ -180,7 +180,7 @@ para_bank c well =
     let others = short_back bank (count bank.r1) (omega arith) well.to_para in
     λ i. record { r1 = r1 i; r2 = others.0 i; r3 = others.1 i; r4 = others.2 i }
 
--- the state of the lists of bytes that stand in the words
+-- the lists of bytes in the words
 from_bytes : ℕ → List ℕ → List ℕ → List ℕ → List ℕ → List ℕ → State
 from_bytes both b1 b2 b3 b4 b5 = record {
   flags = flags_from (slice_index b4 0);

@@ -41,7 +41,7 @@ is_not_full side k c = nat_lt (count (register k (outgoing_bank side c))) (capac
 abbrev pub status : Side → ℕ → State → ℕ
 status side k c = weight 128 (is_available side k c) + weight 64 (is_not_full side k c) + (if k == 1 then flags_byte c.flags else 63)
 
--- What an operation answers: 00 for a write and for the reset.
+-- The answer to an operation: 00 for a write and for the reset.
 abbrev pub answer_of : State → Side → Op → ℕ
 answer_of c side (Read number) =
     if is_status number then status side (register_number number) c
@@ -49,11 +49,12 @@ answer_of c side (Read number) =
 answer_of c side (Write number byte) = 0
 answer_of c side Reset = 0
 
--- a flag, set to `set` where its bit of the byte marks it
+-- a flag: `set` if bit n of the byte marks it, otherwise as it was
 abbrev pub flag_after : ℕ → ℕ → Bool → Bool → Bool
 flag_after byte n set flag = if bit byte n then set else flag
 
--- The flags after a write to the control register: those marked become set where S (bit 7) is, else clear.
+-- The flags after a write to the control register: the marked ones become set if S (bit 7) is set,
+-- otherwise clear.
 abbrev pub flags_after : ℕ → Flags → Flags
 flags_after byte f = record {
   p = flag_after byte 5 (bit byte 7) f.p;
@@ -64,45 +65,47 @@ flags_after byte f = record {
   q = flag_after byte 0 (bit byte 7) f.q;
 }
 
--- A write to the control register. T (bit 6) clears the registers where S is set. (That T acts once, and only then, is this project's profile.)
+-- A write to the control register. T (bit 6) clears the registers if S is set. (That T acts once,
+-- and only then, is this project's profile.)
 abbrev pub control_leaves : ℕ → State → State
 control_leaves byte c =
     if bit byte 7 && bit byte 6 then clear_leaves (record c { flags = flags_after byte c.flags })
     else record c { flags = flags_after byte c.flags }
 
--- The byte of a register read by a side.
+-- The chip after a side has read the byte of register k.
 abbrev pub read_by : Side → ℕ → State → State
 read_by side k c = with_incoming side (with_register k (take_leaves (register k (incoming_bank side c))) (incoming_bank side c)) c
 
--- The byte of a register written by a side.
+-- The chip after a side has written the byte of register k.
 abbrev pub written_by : Side → ℕ → ℕ → State → State
 written_by side k byte c =
     with_outgoing side (with_register k (write_leaves (capacity side k c.flags) byte (register k (outgoing_bank side c))) (outgoing_bank side c)) c
 
--- a write to a status number: only the host's to number 0 does something
+-- a write to a status number: only the host's to number 0 has an effect
 abbrev pub status_written : Side → ℕ → ℕ → State → State
 status_written Host number byte c = if number == 0 then control_leaves byte c else c
 status_written Para number byte c = c
 
--- What an operation does, but for the counts. (That a reset clears flags and registers is this project's profile.)
+-- The chip after an operation, without the counts. (That a reset clears flags and registers is this
+-- project's profile.)
 abbrev pub op_leaves : State → Side → Op → State
 op_leaves c side (Read number) = if is_status number then c else read_by side (register_number number) c
 op_leaves c side (Write number byte) =
     if is_status number then status_written side number byte c else written_by side (register_number number) byte c
 op_leaves c side Reset = clear_leaves (record c { flags = no_flags })
 
--- one more, where something holds now that did not before; the counts have 32 bits
+-- the count, plus one if something holds now that did not before; the counts have 32 bits
 abbrev pub count_of_rises : Bool → Bool → ℕ → ℕ
 count_of_rises before now n = if not before && now then (n + 1) % 2 ^ 32 else n
 
--- with the two counts, of the rises of "M and N" and of P
+-- the new chip with the two counts, of the rises of "M and N" and of P
 abbrev pub with_counts : State → State → State
 with_counts old new = record new {
   nmis = count_of_rises (asks_nmi old) (asks_nmi new) old.nmis;
   resets = count_of_rises old.flags.p new.flags.p old.resets;
 }
 
--- The chip after an operation. A reset counts as one whatever P was, and leaves the count of NMIs.
+-- The chip after an operation. A reset counts as one for any P, and leaves the count of NMIs.
 abbrev pub chip_after : State → Side → Op → State
 chip_after c side (Read number) = with_counts c (op_leaves c side (Read number))
 chip_after c side (Write number byte) = with_counts c (op_leaves c side (Write number byte))
@@ -118,14 +121,15 @@ abbrev pub act : State → Side → Query → State × Answer
 act c side (access op) = (chip_after c side op, Byte (answer_of c side op))
 act c side look = (c, Seen (lines_of c))
 
--- The side may do this operation, and the lines and the flags are as they were behind it.
+-- The side may do this operation, and it leaves the lines and the flags unchanged.
 abbrev pub LeavesLines : State → Side → Op → Type 0
 LeavesLines c side op = MayDo side op × (lines_of (chip_after c side op) ≡ lines_of c) × ((chip_after c side op).flags ≡ c.flags)
 
--- What a side reads of its status registers is the same.
+-- A side reads equal bytes of its status registers at both chips.
 abbrev pub ShowsAlike : Side → State → State → Type 0
 ShowsAlike side c d = (number : ℕ) → is_status number ≡ true → answer_of d side (Read number) ≡ answer_of c side (Read number)
 
--- An operation of the host leaves all that the parasite may see without an access that changes something: the lines, and its status registers.
+-- An operation of the host leaves all that the parasite can observe without changing the chip: the
+-- lines, and its status registers.
 abbrev pub LeavesSeen : State → Op → Type 0
 LeavesSeen c op = LeavesLines c Host op × ShowsAlike Para c (chip_after c Host op)

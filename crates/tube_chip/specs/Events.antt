@@ -1,4 +1,4 @@
--- Events, their order, their merge, and which lists of them the chip gives.
+-- Events, their order, their merge, and the lists of them that the chip yields.
 use Rattle.std.specs.Prelude.{ℕ, ◌≡◌, List, [], ◌∷◌, Bool, true, false, IsTrue, nat_lt, if◌then◌else◌}
 use Rattle.beeb_bits.specs.Order.{before}
 use Rattle.beeb_bits.specs.declared.Side.{Side}
@@ -32,12 +32,12 @@ abbrev pub IsAnsweredFrom : State → List Event → Type 0
 IsAnsweredFrom c [] = Unit {0}
 IsAnsweredFrom c (e ∷ events) = ((act c e.side e.query).1 ≡ e.answer) × IsAnsweredFrom (act c e.side e.query).0 events
 
--- the chip that the events leave, from chip c on
+-- the chip after the events, from chip c on
 abbrev pub after_from : State → List Event → State
 after_from c [] = c
 after_from c (e ∷ events) = after_from (act c e.side e.query).0 events
 
--- the chip that the events leave from power-on
+-- the chip after the events, from power-on
 abbrev pub after : List Event → State
 after events = after_from power_on events
 
@@ -46,12 +46,13 @@ pub record IsLegal (events : List Event) : Type 0 where
   pub rises : Rises events
   pub answered : IsAnsweredFrom power_on events
 
--- a host's event before those of the parasite's that it precedes, and then what `rest` makes of the others
+-- a host's event in front of those of the parasite's that it precedes; `rest` merges the others
 abbrev pub put_in : Event → (List Event → List Event) → List Event → List Event
 put_in a rest [] = a ∷ rest []
 put_in a rest (b ∷ para) = if nat_lt b.tick a.tick then b ∷ put_in a rest para else a ∷ rest (b ∷ para)
 
--- The events of a host's list and a parasite's list in their order: by tick, and at equal ticks the host's first.
+-- The events of a host's list and a parasite's list in their order: by tick, and at equal ticks the
+-- host's first.
 abbrev pub merge : List Event → List Event → List Event
 merge [] para = para
 merge (a ∷ host) para = put_in a (merge host) para

@@ -1,4 +1,4 @@
--- How a chip is written into six words of 64 bits. (The form of the words is this project's profile.)
+-- The form of a chip as six words of 64 bits. (It is this project's profile.)
 use Rattle.std.specs.Prelude.{ℕ, ◌≡◌, ◌+◌, ◌*◌, ◌/◌, ◌%◌, ◌^◌, ◌<◌, ◌≤◌, List, [], ◌∷◌, ◌++◌, map, take, get_or, slice_index}
 use Rattle.std.specs.List.{All, range_with_len}
 use Rattle.std.specs.Int.{w64, from_le_bytes, to_le_bytes}
@@ -12,26 +12,27 @@ abbrev pub shown_bytes : Register → List ℕ
 shown_bytes (empty remembered) = remembered ∷ []
 shown_bytes (holds front rest) = front ∷ rest
 
--- It holds no more bytes than it has room for, and each is one of 256.
+-- It holds no more bytes than it has room for, and each is below 256.
 pub record IsRegister (room : ℕ) (r : Register) : Type 0 where
   pub fits : count r ≤ room
   pub bytes : All (λ b. b < 256) (shown_bytes r)
 
--- four registers, of which registers 2 to 4 have room for 1, 2 and 1 bytes
+-- four registers; registers 2 to 4 have room for 1, 2 and 1 bytes
 pub record IsBank (room : ℕ) (bank : Bank) : Type 0 where
   pub first : IsRegister room bank.r1
   pub second : IsRegister 1 bank.r2
   pub third : IsRegister 2 bank.r3
   pub fourth : IsRegister 1 bank.r4
 
--- What a state has to be to be a chip: the lengths of its lists, its bytes and its counts are bounded.
+-- A state is a chip if the lengths of its lists, its bytes and its counts are within their bounds.
 pub record IsChip (c : State) : Type 0 where
   pub to_host : IsBank 24 c.to_host
   pub to_para : IsBank 1 c.to_para
   pub nmis : c.nmis < 2 ^ 32
   pub resets : c.resets < 2 ^ 32
 
--- The byte in a place of a register: the oldest stands at place 0, as does the remembered one of an empty register, and 00 stands behind them.
+-- The byte in a place of a register: the oldest is at place 0, as is the remembered one of an empty
+-- register, and 00 follows them.
 abbrev pub place : Register → ℕ → ℕ
 place r i = get_or (shown_bytes r) i 0
 
@@ -43,11 +44,12 @@ places r first = map (place r) (range_with_len first 8)
 abbrev pub word : List ℕ → ℕ
 word bytes = from_le_bytes w64 bytes
 
--- how many bytes registers 1 to 4 hold, in two bits each
+-- the numbers of bytes in registers 1 to 4, in two bits each
 abbrev pub counts : ℕ → ℕ → ℕ → ℕ → ℕ
 counts r1 r2 r3 r4 = r1 + 4 * r2 + 16 * r3 + 64 * r4
 
--- the flags, and the registers to the host: the count of the first, the counts of the others, and the bytes of these
+-- the flags, and the registers to the host: the count of the first, the counts of the others, and
+-- the bytes of these
 abbrev pub host_bytes : Flags → Bank → List ℕ
 host_bytes flags bank =
     flags_byte flags ∷ count bank.r1 ∷ counts 0 (count bank.r2) (count bank.r3) (count bank.r4)
@@ -75,7 +77,7 @@ PackingIsOneToOne = (c d : State) → IsChip c → IsChip d → packed_words c �
 abbrev pub flags_from : ℕ → Flags
 flags_from byte = record { p = bit byte 5; v = bit byte 4; m = bit byte 3; j = bit byte 2; i = bit byte 1; q = bit byte 0 }
 
--- a register of these places, of which it holds the first so many
+-- a register of these places, of which it holds the first `held`
 abbrev pub register_from : List ℕ → ℕ → Register
 register_from bytes held = register_of (take held bytes) (slice_index bytes 0)
 

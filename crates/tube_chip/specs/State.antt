@@ -31,16 +31,16 @@ pub record State : Type 0 where
   pub flags : Flags
   pub to_host : Bank
   pub to_para : Bank
-  -- how often the NMI condition rose, below 2^32
+  -- the number of rises of the NMI condition, modulo 2^32
   pub nmis : ℕ
-  -- how often a reset operation was done or P rose by another, below 2^32
+  -- the number of reset operations and of other rises of P, modulo 2^32
   pub resets : ℕ
 
--- the register of a number from 1 to 4
+-- register k of a bank, from 1 to 4
 abbrev pub register : ℕ → Bank → Register
 register k bank = if k == 1 then bank.r1 else if k == 2 then bank.r2 else if k == 3 then bank.r3 else bank.r4
 
--- the bank with that register changed
+-- the bank with register k changed
 abbrev pub with_register : ℕ → Register → Bank → Bank
 with_register k r bank =
     if k == 1 then record bank { r1 = r }
@@ -66,7 +66,8 @@ abbrev pub with_outgoing : Side → Bank → State → State
 with_outgoing Host bank c = record c { to_para = bank }
 with_outgoing Para bank c = record c { to_host = bank }
 
--- How many bytes a register takes from a side: 24 in register 1 from the parasite, in register 3 two where V is set, else one.
+-- The number of bytes that a register takes from a side: 24 in register 1 from the parasite, two in
+-- register 3 if V is set, and otherwise one.
 abbrev pub capacity : Side → ℕ → Flags → ℕ
 capacity Host k flags = if k == 3 && flags.v then 2 else 1
 capacity Para k flags = if k == 1 then 24 else if k == 3 && flags.v then 2 else 1
@@ -74,12 +75,12 @@ capacity Para k flags = if k == 1 then 24 else if k == 3 && flags.v then 2 else 
 abbrev pub is_empty : Register → Bool
 is_empty r = count r == 0
 
--- register 3 has what its reader waits for: two bytes where V is set, else one
+-- register 3 has what its reader waits for: two bytes if V is set, otherwise any
 abbrev pub is_ready : Bool → Register → Bool
 is_ready v r = if v then count r == 2 else not (is_empty r)
 
--- N, the condition of the parasite's NMI: register 3 has what the parasite waits for, or room for what it sends.
--- (This project's profile.)
+-- N, the condition of the parasite's NMI: register 3 has what the parasite waits for, or room for
+-- what it sends. (This project's profile.)
 abbrev pub wants_service : State → Bool
 wants_service c = is_ready c.flags.v c.to_para.r3 || is_empty c.to_host.r3
 
@@ -101,8 +102,8 @@ lines_of c = record {
 abbrev pub clear_bank : Bank
 clear_bank = record { r1 = empty 0; r2 = empty 0; r3 = empty 0; r4 = empty 0 }
 
--- Clearing the registers: all are emptied, and register 3 to the host gets one byte 00; flags and counts stay.
--- (That byte, and the remembered ones, are this project's profile.)
+-- The registers cleared: all are emptied, and register 3 to the host gets one byte 00; flags and
+-- counts stay. (That byte, and the remembered ones, are this project's profile.)
 abbrev pub clear_leaves : State → State
 clear_leaves c = record c { to_host = record clear_bank { r3 = holds 0 [] }; to_para = clear_bank }
 

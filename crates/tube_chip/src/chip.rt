@@ -56,7 +56,7 @@ impl Model for Chip {
     } };
 }
 
-// Empty registers to the host, but for the one byte 00 in register 3.
+// Returns empty registers to the host, but for the one byte 00 in register 3.
 fn clear_to_host() -> ToHost
     ensures { result ≡ record { r1 = power_on.to_host.r1; r2 = power_on.to_host.r2; r3 = power_on.to_host.r3; r4 = power_on.to_host.r4 } }
 {
@@ -70,7 +70,7 @@ fn clear_to_host() -> ToHost
     }
 }
 
-// Empty registers to the parasite.
+// Returns empty registers to the parasite.
 fn clear_to_para() -> ToPara
     ensures { result ≡ record { r1 = power_on.to_para.r1; r2 = power_on.to_para.r2; r3 = power_on.to_para.r3; r4 = power_on.to_para.r4 } }
 {
@@ -82,21 +82,22 @@ fn clear_to_para() -> ToPara
     }
 }
 
-// Register 3 has what its reader waits for.
+// Returns `true` if register 3 has what its reader waits for.
 fn is_ready(v: bool, r3: &Register<2>) -> bool
     ensures { result ≡ is_ready v r3.now }
 {
     if v { r3.count() == 2 } else { !r3.is_empty() }
 }
 
-// Register 3 has room: for a second byte where V is set, else only where it is empty.
+// Returns `true` if register 3 has room: for a second byte if V is set, and otherwise only if it is
+// empty.
 fn has_room(v: bool, r3: &Register<2>) -> bool
     ensures { result ≡ nat_lt (count r3.now) (if v then 2 else 1) }
 {
     if v { r3.count() < 2 } else { r3.is_empty() }
 }
 
-// A byte for register 3: added where V is set, else alone.
+// Adds a byte to register 3 if V is set, and otherwise replaces what it holds by the byte.
 fn send(v: bool, byte: u8, r3: &mut Register<2>)
     ensures { r3.new ≡ write_leaves (if v then 2 else 1) byte r3.old }
 {
@@ -114,7 +115,7 @@ fn status_byte(is_available: bool, is_not_full: bool, low: u8) -> u8
     weight(128, is_available) + weight(64, is_not_full) + low
 }
 
-// One more, where something holds now that did not before.
+// Returns the count, plus one if a condition holds now that did not before.
 fn risen(before: bool, now: bool, count: u32) -> u32
     ensures { result ≡ count_of_rises before now count }
 {
@@ -126,8 +127,8 @@ fn risen(before: bool, now: bool, count: u32) -> u32
 }
 
 impl Chip {
-    /// The chip at power-on: no flag set, counts at zero, all registers empty with the byte 00 last taken,
-    /// save that register 3 to the host holds one byte 00.
+    /// Makes the chip at power-on: no flag set, counts at zero, and all registers empty with the
+    /// byte 00 last taken, except that register 3 to the host holds one byte 00.
     pub fn new() -> Chip
         ensures { result ≡ power_on }
     {
@@ -140,7 +141,7 @@ impl Chip {
         }
     }
 
-    // N: register 3 has what the parasite waits for, or room for what it sends.
+    // Returns N: register 3 has what the parasite waits for, or room for what it sends.
     fn wants_service(&self) -> bool
         ensures { result ≡ wants_service self.now }
     {
@@ -153,8 +154,8 @@ impl Chip {
         self.flags.m && self.wants_service()
     }
 
-    /// Does an operation of a side, and answers it: the byte of a read, or 00 (Application Note 004, registers and control).
-    /// A reset is the host's.
+    /// Does an operation of a side, and returns its answer: the byte of a read, or 00 (Application
+    /// Note 004, registers and control). A reset is the host's.
     #[tactic(auto, using(crate::proofs::Rises::status_leaves))]
     pub fn apply(&mut self, side: Side, op: Op) -> u8
         requires { MayDo side op }
@@ -172,7 +173,8 @@ impl Chip {
         }
     }
 
-    /// Whether an operation of a side surely leaves the lines, and what enables them: those that it can move are not enabled.
+    /// Returns `true` only if an operation of a side changes no line and no flag: each line that it
+    /// could affect is disabled.
     pub fn leaves_lines(&self, side: Side, op: Op) -> bool
         ensures { result ≡ true → LeavesLines self.now side op }
     {
@@ -237,8 +239,8 @@ impl Chip {
         }
     }
 
-    /// Whether an operation of the host surely leaves the lines, and what the parasite reads of its status registers: a byte is taken of a register 1 that
-    /// was not full, or a status is read.
+    /// Returns `true` only if an operation of the host leaves the lines and the parasite's status
+    /// bytes unchanged: it takes a byte of a register 1 that was not full, or reads a status.
     #[inline(always)]
     pub fn leaves_seen(&self, op: Op) -> bool
         ensures { result ≡ true → LeavesSeen self.now op }
@@ -250,14 +252,15 @@ impl Chip {
         }
     }
 
-    /// Whether the host's interrupt request is enabled: Q (Application Note 004, control).
+    /// Returns `true` if the host's interrupt request is enabled: Q (Application Note 004,
+    /// control).
     pub fn enables_hirq(&self) -> bool
         ensures { result ≡ (self.now).flags.q }
     {
         self.flags.q
     }
 
-    // An operation, with the rises counted.
+    // Does an operation, and counts the rises.
     fn access(&mut self, side: Side, op: Op) -> u8
         requires { MayDo side op }
         ensures chip { self.new ≡ with_counts self.old (op_leaves self.old side op) }
@@ -271,7 +274,7 @@ impl Chip {
         answer
     }
 
-    // An operation but for the counts.
+    // Does an operation, without the counts.
     fn operate(&mut self, side: Side, op: Op) -> u8
         requires { MayDo side op }
         ensures chip { self.new ≡ op_leaves self.old side op }
@@ -295,7 +298,7 @@ impl Chip {
         }
     }
 
-    // The status of a register, as the host reads it.
+    // Returns the status of a register, as the host reads it.
     #[inline(always)]
     fn host_status(&self, number: u8) -> u8
         requires number { number < 8 }
@@ -318,7 +321,7 @@ impl Chip {
         }
     }
 
-    // The same, as the parasite reads it.
+    // Returns the status of a register, as the parasite reads it.
     #[inline(always)]
     fn para_status(&self, number: u8) -> u8
         requires number { number < 8 }
@@ -341,7 +344,7 @@ impl Chip {
         }
     }
 
-    // The status of a register, as a side reads it.
+    // Returns the status of a register, as `side` reads it.
     #[inline(always)]
     fn status_of(&self, side: Side, number: u8) -> u8
         requires number { number < 8 }
@@ -354,7 +357,8 @@ impl Chip {
         }
     }
 
-    /// What a side reads at the status of registers 1 to 4, which leaves the chip (Application Note 004, status).
+    /// Returns the status of registers 1 to 4, as a side reads it without changing the chip
+    /// (Application Note 004, status).
     pub fn status(&self, side: Side) -> [u8; 4]
         ensures { result ≡ status side 1 self.now ∷ status side 2 self.now ∷ status side 3 self.now ∷ status side 4 self.now ∷ [] }
     {
@@ -421,7 +425,7 @@ impl Chip {
         }
     }
 
-    // A reset but for its count.
+    // Does a reset, without its count.
     fn clear(&mut self)
         ensures { self.new ≡ op_leaves self.old Host Reset }
     {
@@ -430,7 +434,7 @@ impl Chip {
         self.to_para = clear_to_para();
     }
 
-    // A write to the control register.
+    // Does a write to the control register.
     fn control(&mut self, byte: u8)
         ensures { self.new ≡ control_leaves byte self.old }
     {
@@ -441,7 +445,8 @@ impl Chip {
         }
     }
 
-    /// The lines and the counts, as a look sees them (Application Note 004, interrupts and reset).
+    /// Returns the lines and the counts, as a look sees them (Application Note 004, interrupts and
+    /// reset).
     pub fn lines(&self) -> Lines
         ensures { result ≡ lines_of self.now }
     {

@@ -30,7 +30,7 @@ pub(crate) fn no_flags() -> Flags
     }
 }
 
-// A flag, set to `set` where bit `n` of the byte marks it.
+// Returns `set` if bit `n` of the byte marks the flag, and otherwise the flag as it was.
 fn marked(byte: u8, n: u8, set: bool, flag: bool) -> bool
     requires { n ≤ 7 }
     ensures { result ≡ flag_after byte n set flag }
@@ -38,7 +38,7 @@ fn marked(byte: u8, n: u8, set: bool, flag: bool) -> bool
     if bit(byte, n) { set } else { flag }
 }
 
-/// The low six bits of the status of register 1.
+/// Returns the low six bits of the status of register 1.
 #[inline(always)]
 pub(crate) fn flags_byte(flags: Flags) -> u8
     ensures value { result ≡ flags_byte (flags_of flags) }
@@ -52,7 +52,7 @@ pub(crate) fn flags_byte(flags: Flags) -> u8
         + weight(1, flags.q)
 }
 
-/// The flags after a write of this byte to the control register.
+/// Returns the flags after a write of this byte to the control register.
 pub(crate) fn flags_after(byte: u8, flags: Flags) -> Flags
     ensures { flags_of result ≡ flags_after byte (flags_of flags) }
 {

@@ -2,7 +2,8 @@
 ghost use Rattle.tube_chip.specs.Laws.{RisingListIsMerge};
 ghost use Rattle.tube_chip.specs.Packing.{PackingIsOneToOne};
 
-/// A list of events that rises by tick, the host's first at equal ticks, is the merge of its host's and its parasite's events.
+/// A list of events that rises by tick, with the host's first at equal ticks, is the merge of its
+/// host's and its parasite's events.
 pub fn rising_list_is_merge()
     ensures { RisingListIsMerge }
 {}

@@ -1,4 +1,5 @@
-//! The Tube chip, which joins the host and the parasite (Acorn Application Note 004), and the order of what is done at it.
+//! The Tube chip, which joins the host and the parasite (Acorn Application Note 004), and the order
+//! of events at it.
 #![tactic(auto)]
 
 mod chip;
@@ -10,7 +11,8 @@ mod register;
 pub use chip::Chip;
 pub use law::{packing_is_one_to_one, rising_list_is_merge};
 
-/// An operation of a side: an access to one of its eight Tube addresses, by the low three address bits, or the host's reset.
+/// An operation of a side: an access to one of its eight Tube addresses, by the low three address
+/// bits, or the host's reset.
 #[derive(Clone, Copy, Debug, PartialEq, Eq)]
 pub enum Op {
     /// A read of a number below 8.
@@ -21,14 +23,14 @@ pub enum Op {
     Reset,
 }
 
-/// The lines that the chip drives, and the counts of two of them, as a machine sees them when it looks.
+/// The lines that the chip drives, and the counts of two of them, as a machine's look sees them.
 #[derive(Clone, Copy, Debug, PartialEq, Eq)]
 pub struct Lines {
     /// The parasite's reset line, PRST, is active.
     pub prst: bool,
-    /// How often it became active, modulo 2^32.
+    /// The number of times it became active, modulo 2^32.
     pub resets: u32,
-    /// How often the parasite's NMI, PNMI, was asked for, modulo 2^32.
+    /// The number of times the parasite's NMI, PNMI, was asked for, modulo 2^32.
     pub nmis: u32,
     /// The parasite's IRQ, PIRQ.
     pub pirq: bool,
@@ -36,7 +38,7 @@ pub struct Lines {
     pub hirq: bool,
 }
 
-/// What the chip answers: a byte to an operation, the lines to a look.
+/// An answer of the chip: a byte to an operation, the lines to a look.
 #[derive(Clone, Copy, Debug, PartialEq, Eq)]
 pub enum Answer {
     Byte(u8),

@@ -1,8 +1,9 @@
-//! A chip as six words of 64 bits, for a place that is read and exchanged whole.
+//! A chip as six words of 64 bits, for a cell that is loaded and exchanged as a whole.
 //!
-//! Word 0 has the count of NMIs in its low half and that of resets in its high half. Words 1 to 3 have the 24 places of
-//! register 1 to the host. Word 4 has the flags and the registers to the host, word 5 those to the parasite: first how many bytes
-//! each holds, then their places. In each word the first byte stands in the lowest bits.
+//! Word 0 has the count of NMIs in its low half and that of resets in its high half. Words 1 to 3
+//! have the 24 places of register 1 to the host. Word 4 has the flags and the registers to the
+//! host, word 5 those to the parasite: first the number of bytes in each, then their places. In
+//! each word the first byte is in the lowest bits.
 ghost use Rattle.std.specs.Prelude.{◌≡◌, ◌<◌, ◌≤◌, ◌+◌, ◌*◌, ◌^◌, IfSome, Some, ◌++◌};
 ghost use Rattle.std.specs.Int.{w64, to_le_bytes};
 ghost use Rattle.tube_chip.specs.Code.{flags_of};
@@ -14,7 +15,7 @@ use crate::flags::{Flags, flags_byte};
 use crate::register::Register;
 use beeb_bits::bit;
 
-// How many bytes registers 1 to 4 hold, in two bits each.
+// Returns the numbers of bytes in registers 1 to 4, in two bits each.
 fn counts(r1: u8, r2: u8, r3: u8, r4: u8) -> u8
     requires { (r1 ≤ 3) × (r2 ≤ 3) × (r3 ≤ 3) × (r4 ≤ 3) }
     ensures { result ≡ counts r1 r2 r3 r4 }
@@ -22,7 +23,7 @@ fn counts(r1: u8, r2: u8, r3: u8, r4: u8) -> u8
     r1 + 4 * r2 + 16 * r3 + 64 * r4
 }
 
-// The count of NMIs in the low half, that of resets in the high half.
+// Returns a word with the count of NMIs in the low half and that of resets in the high half.
 fn counts_word(nmis: u32, resets: u32) -> u64
     ensures word { result ≡ nmis + 2 ^ 32 * resets }
     ensures bounds { (nmis < 2 ^ 32) × (resets < 2 ^ 32) }
@@ -85,7 +86,7 @@ fn flags_from(byte: u8) -> Flags
     }
 }
 
-// The 24 places of three words.
+// Returns the 24 places in three words.
 fn queue_from(a: u64, b: u64, c: u64) -> [u8; 24]
     ensures { result ≡ to_le_bytes w64 a ++ to_le_bytes w64 b ++ to_le_bytes w64 c }
 {
@@ -120,7 +121,7 @@ fn para_from(bytes: [u8; 8]) -> ToPara
     }
 }
 
-// Some chip of any six words: of those of a chip, that chip.
+// Returns some chip for any six words: for those of a chip, that chip.
 #[tactic(auto, unfolding(crate::specs::Packing::unpacked_chip))]
 fn read_back(words: &[u64; 6]) -> Chip
     ensures { result ≡ unpacked_chip words.now }
@@ -137,7 +138,7 @@ fn read_back(words: &[u64; 6]) -> Chip
 }
 
 impl Chip {
-    /// The six words of the chip. Two chips with the same words are the same.
+    /// Returns the six words of the chip. Two chips with the same words are the same.
     #[tactic(auto, unfolding(crate::specs::Packing::packed_words))]
     pub fn pack(&self) -> [u64; 6]
         ensures words { result ≡ packed_words self.now }
@@ -153,7 +154,7 @@ impl Chip {
         ]
     }
 
-    /// The chip of these words: `None` where they are those of no chip.
+    /// Returns the chip of these words, or `None` if they are those of no chip.
     pub fn unpack(words: [u64; 6]) -> Option<Chip>
         ensures packed { IfSome result (λ c. IsChip c × (words ≡ packed_words c)) }
         ensures each { (c : State) → IsChip c → words ≡ packed_words c → result ≡ Some c }

@@ -7,7 +7,8 @@ ghost use Rattle.tube_chip.specs.Packing.{IsRegister, place, places, word, regis
 
 use std::marker::Model;
 
-/// A list of at most `ROOM` bytes, the oldest at place 0. Where none is held, place 0 has the byte last taken.
+/// A list of at most `ROOM` bytes, the oldest at place 0. If it is empty, place 0 has the byte last
+/// taken.
 #[derive(Drop)]
 pub(crate) struct Register<const ROOM: usize> {
     bytes: [u8; ROOM],
@@ -25,7 +26,7 @@ impl<const ROOM: usize> Model for Register<ROOM> {
     ghost invariant = { λ r. (0 < ROOM) × (r.held ≤ ROOM) };
 }
 
-// A count of bytes as a byte.
+// Returns a count of bytes as a byte.
 fn short(_bytes: &[u8], held: usize) -> u8
     requires { held < 256 }
     ensures count { result ≡ held }
@@ -51,7 +52,7 @@ impl<const ROOM: usize> Register<ROOM> {
         self.held
     }
 
-    /// How many bytes it holds, as a byte. Tells its bounds, too.
+    /// Returns the number of bytes held, as a byte. Its contract also states the register's bounds.
     pub(crate) fn short_count(&self) -> u8
         requires { ROOM < 256 }
         ensures count { result ≡ count self.now }
@@ -60,7 +61,7 @@ impl<const ROOM: usize> Register<ROOM> {
         short(&self.bytes, self.held)
     }
 
-    /// The byte in a place: 00 behind those that it holds, or behind the one that it remembers.
+    /// Returns the byte at a place: 00 after those held, or after the remembered one.
     pub(crate) fn place(&self, index: usize) -> u8
         requires { index < ROOM }
         ensures { result ≡ place self.now index }
@@ -72,7 +73,7 @@ impl<const ROOM: usize> Register<ROOM> {
         }
     }
 
-    /// Eight places as a word, the first in its lowest bits.
+    /// Returns eight places as a word, the first in its lowest bits.
     pub(crate) fn word(&self, first: usize) -> u64
         requires { first + 8 ≤ ROOM }
         ensures { result ≡ word (places self.now first) }
@@ -89,7 +90,7 @@ impl<const ROOM: usize> Register<ROOM> {
         ])
     }
 
-    /// The register with these places, of which it holds the first so many.
+    /// Returns the register with these places, of which it holds the first `held`.
     pub(crate) fn of(bytes: [u8; ROOM], held: u8) -> Register<ROOM>
         requires { 0 < ROOM }
         ensures { result ≡ register_from bytes.entry held }
@@ -106,7 +107,7 @@ impl<const ROOM: usize> Register<ROOM> {
         self.held == 0
     }
 
-    /// Takes the front byte, or answers the one last taken.
+    /// Takes the front byte and returns it, or returns the byte last taken if there is none.
     pub(crate) fn take(&mut self) -> u8
         ensures byte { result ≡ front_of self.old }
         ensures rest { self.new ≡ take_leaves self.old }
@@ -121,7 +122,7 @@ impl<const ROOM: usize> Register<ROOM> {
         byte
     }
 
-    /// Makes the list this one byte.
+    /// Replaces the list by this one byte.
     pub(crate) fn replace(&mut self, byte: u8)
         ensures { self.new ≡ holds byte [] }
     {
@@ -129,7 +130,7 @@ impl<const ROOM: usize> Register<ROOM> {
         self.held = 1;
     }
 
-    /// Adds a byte at the end, where there is room.
+    /// Adds a byte at the end, if there is room.
     pub(crate) fn add(&mut self, byte: u8)
         ensures { self.new ≡ add_leaves ROOM byte self.old }
     {
