@@ -1,4 +1,5 @@
--- The text of a clock and rising entries is read as that clock and those entries, and no other text is.
+-- The text of a clock and rising entries is read as that clock and those entries, and no other text
+-- is.
 use Rattle.std.proofs.Common.{◌≡◌, sym, refl, ℕ, Bool, drop, List, ◌++◌, true, false, Result, Ok, Err, arith}
 use Rattle.std.specs.Prelude.{nat_eq}
 use Rattle.std.specs.List.{starts_with}
@@ -18,7 +19,7 @@ use Rattle.tube_trace.proofs.TextLaws.{lines_back, only_lines}
 abbrev is_four : List ℕ → Bool
 is_four text = starts_with nat_eq text (beginning Four)
 
--- a text that begins so is its beginning and what is behind
+-- a text that begins so is its beginning and what follows it
 begins : (text : List ℕ) → is_four text ≡ true → text ≡ beginning Four ++ drop 3 text
 begins text h = (starts_is Decides-eqb text (beginning Four) true (sym h)).0 refl
 

@@ -40,7 +40,7 @@ VALUES_is = refl
 pub VALUES-at : (b d : ℕ) → b < 256 → slice_index_or VALUES b d ≡ value b
 VALUES-at b d h = ap (λ (t : List ℕ). slice_index_or t b d) VALUES_is ∙ get_or-map-range_with_len value 0 256 b b d h (omega arith)
 
--- what is summed up over bytes that stand behind those of a number
+-- what is summed up over bytes that follow those of a number
 abbrev pub sum_after : ℕ → List ℕ → ℕ
 sum_after n [] = n
 sum_after n (b ∷ bytes) = sum_after (16 * n + value b) bytes
@@ -79,7 +79,7 @@ sum_step bytes n i h = rw (drop_more bytes i 0 h) refl
 pub sum_end : (bytes : List ℕ) (n i : ℕ) → length bytes ≤ i → sum_after 0 bytes ≡ sum_after n (drop i bytes) → sum_after 0 bytes ≡ n
 sum_end bytes n i h so_far = rw (drop_of_length-le bytes h) at so_far
 
--- what a sum of at most five bytes tells
+-- what a sum of at most five bytes says
 pub record Summed (bytes : List ℕ) (n : ℕ) : Type 0 where
   pub all : list_all is_hex bytes ≡ true
   pub is : hex_number bytes ≡ n

@@ -46,7 +46,7 @@ line_read e has byte =
 
 -- ---- read and written
 
--- what an entry tells of the letters and numbers that it was made of
+-- what an entry says of the letters and numbers that it was made of
 record IsMadeOf (e : Entry) (tick byte side letter number : ℕ) : Type 0 where
   tick_is : (e.tick).0 ≡ tick
   side_is : side_letter e.side ≡ side

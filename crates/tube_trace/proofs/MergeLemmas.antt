@@ -30,7 +30,7 @@ next_lines host para {x} {h} {p} is all_host all_para =
       | inr e ↦ let all = rw e.1 at all_para in (All-head HasLine x p all, rw e.0 at all_host, All-tail HasLine x p all)
     ]
 
--- what is merged so far, with the first of what is left of both lists, is the first of all
+-- what is merged until here, with the first of what is left of both lists, is the first of all
 pub record MergedSoFar (host para : List Entry) (keep : ℕ) (entries host_left para_left : List Entry) : Type 0 where
   pub whole : events_of entries ++ take (keep - length entries) (merge (events_of host_left) (events_of para_left)) ≡ take keep (merge (events_of host) (events_of para))
   pub lines : All HasLine host → All HasLine para → All HasLine entries × All HasLine host_left × All HasLine para_left
@@ -81,7 +81,7 @@ before-para a b x y h = grind (arith, nat_tests)
 abbrev IsOf : Side → Entry → Type 0
 IsOf side e = e.side ≡ side
 
--- what is made of others rises behind an event, as these do
+-- what is made of others rises after an event, as these do
 abbrev Goes : (List Event → List Event) → List Event → Type 0
 Goes rest host = (x : Event) (para : List Entry) → All (IsOf Para) para → RisesAfter x host → RisesAfter x (events_of para) → RisesAfter x (rest (events_of para))
 

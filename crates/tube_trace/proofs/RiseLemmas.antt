@@ -5,7 +5,7 @@ use Rattle.tube_trace.specs.declared.Entry.{Entry}
 use Rattle.tube_trace.specs.Trace.{follows, entries_behind}
 use Rattle.tube_trace.specs.Entries.{event_of, events_of}
 
--- the events rise, behind an entry if there is one
+-- the events rise, after an entry if there is one
 abbrev pub RisesBehind : Option Entry → List Entry → Type 0
 RisesBehind None entries = Rises (events_of entries)
 RisesBehind (Some e) entries = RisesAfter (event_of e) (events_of entries)
@@ -23,7 +23,7 @@ pub follows_behind : (last : Option Entry) (e : Entry) (entries : List Entry) �
 follows_behind None e entries rises = (refl, rises)
 follows_behind (Some d) e entries rises = rises
 
--- what entries that were read of a line and others tell
+-- what the entries that were read of a line and others say
 taken_apart : (line : ℕ) (last : Option Entry) (e : Entry) (lines : List (Option Entry)) (entries : List Entry) → entries_behind line last (Some e ∷ lines) ≡ Ok entries →
     (more : List Entry) × (follows last e ≡ true) × (entries_behind (line + 1) (Some e) lines ≡ Ok more) × (e ∷ more ≡ entries)
 taken_apart line last e lines entries h = grind arith

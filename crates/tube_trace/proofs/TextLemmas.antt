@@ -56,7 +56,7 @@ line_reads text {e} is =
     let split : text_lines text ≡ take 20 text ∷ text_lines (drop 20 text) = rw (← line, take-append-drop 20 text) at (line_first e (drop 20 text)) in
     rw (split, is)
 
--- where they have none, the first line has none
+-- if they have none, the first line has none
 stops_at : (line rest : List ℕ) → entry_of (take 20 (line ++ rest)) ≡ None → (o : Option Entry) → entry_of line ≡ o → o ≡ None
 stops_at line rest none None e = refl
 stops_at line rest none (Some entry) e = let here : entry_of line ≡ None = rw (take_at line rest 20 (long_line line e)) at none in cc

@@ -28,7 +28,7 @@ wrong_here c entries place answer d h is differs = grind (arith, nat_tests, drop
 pub wrong_past : (c : State) (entries : List Entry) (place : ℕ) → length entries ≤ place → wrong_from c place (drop place entries) ≡ None
 wrong_past c entries place h = rw (drop_of_length-le entries h)
 
--- where no place is wrong, each answer is the chip's
+-- if no place is wrong, each answer is the chip's
 none_answered : (c : State) (i : ℕ) (entries : List Entry) → wrong_from c i entries ≡ None → IsAnsweredFrom c (events_of entries)
 none_answered c i [] none = tt
 none_answered c i (e ∷ entries) none = grind (arith, nat_tests, none_answered (chip_after c e.side e.op) (i + 1) entries)

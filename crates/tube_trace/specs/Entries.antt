@@ -7,7 +7,7 @@ use Rattle.tube_chip.specs.Act.{Query, MayDo, access, look}
 use Rattle.tube_chip.specs.Events.{Event}
 use Rattle.tube_trace.specs.declared.Entry.{Entry}
 
--- the access that an entry tells of
+-- the access that an entry records
 abbrev pub event_of : Entry → Event
 event_of e = record { tick = (e.tick).0; side = e.side; query = access e.op; answer = Byte e.answer }
 

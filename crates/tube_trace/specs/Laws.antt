@@ -8,7 +8,7 @@ use Rattle.tube_trace.specs.Line.{entry_of}
 use Rattle.tube_trace.specs.Trace.{trace}
 use Rattle.tube_trace.specs.Text.{line_byte, line_text, text_of, HasLine}
 
--- the byte of an entry's line is one
+-- the byte of an entry's line is below 256
 abbrev pub IsOfByte : Entry → Type 0
 IsOfByte e = line_byte e.op e.answer < 256
 

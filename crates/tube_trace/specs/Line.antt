@@ -48,8 +48,9 @@ abbrev pub entry_from : ℕ → Option Side → ℕ → ℕ → ℕ → Option E
 entry_from tick (Some side) letter number byte = entry_by tick side byte (op_of side letter number byte)
 entry_from tick None letter number byte = None
 
--- What stands at which place of the twenty bytes: 0 to 9 the tick's digits, 11 the side's letter, 13 the operation's letter,
--- 15 the number's digit, 17 and 18 the byte's digits, spaces between them, and 19 the line feed.
+-- The twenty bytes by their places: 0 to 9 the tick's digits, 11 the side's letter, 13 the
+-- operation's letter, 15 the number's digit, 17 and 18 the byte's digits, spaces between them, and
+-- 19 the line feed.
 abbrev pub is_formed : List ℕ → Bool
 is_formed line =
     list_all is_hex (slice_range line 0 10)
@@ -63,6 +64,6 @@ entry_in line =
     entry_from (hex_number (slice_range line 0 10)) (side_of (slice_index line 11))
     (slice_index line 13) (slice_index line 15 - 48) (hex_number (slice_range line 17 19))
 
--- The entry of a line with its line feed, or none where the bytes are outside the form.
+-- The entry of a line with its line feed, or none if the bytes are outside the form.
 unfoldable pub entry_of : List ℕ → Option Entry
 entry_of line = if length line == 20 && is_formed line then entry_in line else None

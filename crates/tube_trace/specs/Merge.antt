@@ -17,6 +17,6 @@ next_of (a ∷ host) [] = Some (a, host, [])
 next_of [] (b ∷ para) = Some (b, [], para)
 next_of (a ∷ host) (b ∷ para) = if nat_lt (b.tick).0 (a.tick).0 then Some (b, a ∷ host, para) else Some (a, host, b ∷ para)
 
--- the first so many entries of both lists in one, by tick, and at equal ticks the host's first
+-- the first `keep` entries of both lists in one, by tick, and at equal ticks the host's first
 abbrev pub of_both : ℕ → List Entry → List Entry → List Entry
 of_both keep host para = accesses (take keep (merge (events_of host) (events_of para)))

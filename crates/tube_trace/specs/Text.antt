@@ -28,12 +28,14 @@ number_of (Read number) = number
 number_of (Write number byte) = number
 number_of Reset = 0
 
--- An access in a line's form: the tick in ten digits, the letters of its side and its operation, the number, and a text for the byte.
+-- An access in a line's form: the tick in ten digits, the letters of its side and its operation,
+-- the number, and a text for the byte.
 unfoldable pub access_text : ℕ → Side → Op → List ℕ → List ℕ
 access_text tick side op byte =
     hex_digits 10 tick ++ (32 ∷ side_letter side ∷ 32 ∷ op_letter op ∷ 32 ∷ (48 + number_of op % 8) ∷ 32 ∷ byte)
 
--- The text for the byte of an access that has no answer yet: `--` for a read, the byte that is written, and `00` for a reset.
+-- The text for the byte of an access that has no answer yet: `--` for a read, the byte that is
+-- written, and `00` for a reset.
 abbrev pub asked_byte : Op → List ℕ
 asked_byte (Read number) = codes "--"
 asked_byte (Write number byte) = hex_digits 2 byte
@@ -63,7 +65,7 @@ IsAnswer (Read number) answer = Unit {0}
 IsAnswer (Write number byte) answer = answer ≡ 0
 IsAnswer Reset answer = answer ≡ 0
 
--- An entry that a line tells whole.
+-- An entry that a line represents completely.
 pub record HasLine (e : Entry) : Type 0 where
   pub may : IsEntry e
   pub tick : (e.tick).0 < 2 ^ 40

@@ -1,4 +1,4 @@
--- The text of a trace: the clock of the machines that it tells of, and its entries, or its first offending line.
+-- The text of a trace: the clock of the machines and the entries, or the first offending line.
 use Rattle.std.specs.Prelude.{ℕ, ◌+◌, nat_eq, Bool, true, List, [], ◌∷◌, ◌++◌, map, drop, length, codes, Option, Some, None, Result, Ok, Err, if◌then◌else◌}
 use Rattle.std.specs.List.{starts_with}
 use Rattle.digits.specs.Lines.{text_lines}
@@ -20,19 +20,20 @@ abbrev pub in_front : List Entry → Result (List Entry) TraceError → Result (
 in_front front (Ok entries) = Ok (front ++ entries)
 in_front front (Err e) = Err e
 
--- What lines mean that count from a number, behind an entry: their entries, or the first line that is outside the form or not after
--- the one before it. The last line of a text without its line feed is outside the form, as any line that lacks something.
+-- The meaning of lines that count from `line`, after entry `last`: their entries, or the first line
+-- that is outside the form or not after the one before it. The last line of a text without its line
+-- feed is outside the form, as is any incomplete line.
 abbrev pub entries_behind : ℕ → Option Entry → List (Option Entry) → Result (List Entry) TraceError
 entries_behind line last [] = Ok []
 entries_behind line last (None ∷ lines) = Err (BadLine line)
 entries_behind line last (Some e ∷ lines) =
     if follows last e then in_front (e ∷ []) (entries_behind (line + 1) (Some e) lines) else Err (BadOrder line)
 
--- What a text of lines means. Lines count from 1.
+-- The meaning of a text of lines. Lines count from 1.
 unfoldable pub lines_read : List ℕ → Result (List Entry) TraceError
 lines_read text = entries_behind 1 None (map entry_of (text_lines text))
 
--- what stands in front of the lines: `T2` and a line feed at clock Four
+-- the text before the lines: `T2` and a line feed at clock Four
 abbrev pub beginning : Clock → List ℕ
 beginning Three = []
 beginning Four = codes "T2\n"
@@ -41,7 +42,7 @@ beginning Four = codes "T2\n"
 abbrev pub clock_of : List ℕ → Clock
 clock_of text = if starts_with nat_eq text (beginning Four) then Four else Three
 
--- the rest of it, behind its beginning
+-- the rest of it, after its beginning
 abbrev pub rest_of : List ℕ → List ℕ
 rest_of text = drop (length (beginning (clock_of text))) text
 
@@ -50,6 +51,6 @@ abbrev pub at_clock : Clock → Result (List Entry) TraceError → Result (Clock
 at_clock clock (Ok entries) = Ok (clock, entries)
 at_clock clock (Err e) = Err e
 
--- What a text means as a trace: its clock, and what the lines of its rest mean.
+-- The meaning of a text as a trace: its clock, and the meaning of the lines of its rest.
 unfoldable pub trace : List ℕ → Result (Clock × List Entry) TraceError
 trace text = at_clock (clock_of text) (lines_read (rest_of text))

@@ -1,4 +1,4 @@
-//! Hexadecimal digits by tables, which take the place of a test and a sum for each.
+//! Hexadecimal digits by tables, in place of a test and a sum for each.
 ghost use Rattle.std.specs.Prelude.{◌≡◌, ◌≤◌, ◌<◌, ◌/◌, ◌^◌, length, IfSome, if◌then◌else◌};
 ghost use Rattle.std.specs.List.{list_all};
 ghost use Rattle.digits.specs.Hexadecimal.{hex_digits, is_hex, hex_value, hex_number};
@@ -32,7 +32,7 @@ static PAIRS: [[u8; 2]; 256] = [
 // A number that five digits do not reach.
 const X: u64 = 0x10_0000;
 
-// The value of each digit, and X for what is none.
+// The value of each digit, and X for any other byte.
 static VALUES: [u64; 256] = [
     X, X, X, X, X, X, X, X, X, X, X, X, X, X, X, X, X, X, X, X, X, X, X, X, X, X, X, X, X, X, X, X,
     X, X, X, X, X, X, X, X, X, X, X, X, X, X, X, X, 0, 1, 2, 3, 4, 5, 6, 7, 8, 9, X, X, X, X, X, X,
@@ -45,7 +45,7 @@ static VALUES: [u64; 256] = [
     X, X,
 ];
 
-/// A byte in two digits.
+/// Returns the two digits of a byte.
 #[inline]
 pub(crate) fn pair(byte: u8) -> [u8; 2]
     ensures { result ≡ hex_digits 2 byte }
@@ -53,7 +53,7 @@ pub(crate) fn pair(byte: u8) -> [u8; 2]
     PAIRS[byte as usize]
 }
 
-/// The two digits of `n` of which the lower counts this much.
+/// Returns two digits of `n`, the lower of which has weight `weight`.
 #[inline]
 pub(crate) fn pair_at(n: u64, weight: u64) -> [u8; 2]
     requires { 0 < weight }
@@ -70,7 +70,7 @@ fn value(b: u8) -> u64
     VALUES[b as usize]
 }
 
-/// The number of at most five digits, the highest first, if all bytes are digits.
+/// Returns the number of at most five digits, the highest first, if all bytes are digits.
 #[inline]
 #[tactic(auto, using(crate::proofs::HexTables::five))]
 pub(crate) fn number(digits: &[u8]) -> Option<u64>

@@ -3,7 +3,8 @@ ghost use Rattle.tube_trace.specs.Laws.{LineReadsBack, OnlyLineReads, TextReadsB
 
 use digits::hex_reads_back;
 
-/// The line of an entry is read as that entry, and no other bytes are. So it is with the text of a clock and of entries that rise.
+/// The line of an entry is read as that entry, and no other bytes are. Likewise the text of a clock
+/// and of entries that rise.
 pub fn text_reads_back()
     ensures line { LineReadsBack }
     ensures only_line { OnlyLineReads }

@@ -1,4 +1,4 @@
-//! The text of a list of Tube accesses, and whether the chip would give its answers.
+//! The text of a list of Tube accesses, and the test of its answers by the chip.
 #![tactic(auto)]
 
 mod beginning;
@@ -30,14 +30,14 @@ pub struct Entry {
     pub answer: u8,
 }
 
-/// A trace: the clock of the machines that it tells of, and their accesses to the Tube in order.
+/// A trace: the clock of the machines, and their accesses to the Tube in order.
 #[derive(Debug, Drop)]
 pub struct Trace {
     pub clock: Clock,
     pub entries: Vec<Entry>,
 }
 
-/// Why a text is no trace. Lines count from 1, behind the beginning of its clock.
+/// The reason why a text is no trace. Lines count from 1, after the beginning of its clock.
 #[derive(Clone, Copy, Debug, PartialEq, Eq, Error)]
 pub enum TraceError {
     #[error("line {line} is outside the form of a trace")]

@@ -13,7 +13,7 @@ use beeb_bits::{Side, Tick};
 use std::alloc::AllocError;
 use tube_chip::Op;
 
-/// How many bytes a line has, with its line feed.
+/// The length of a line, with its line feed.
 pub(crate) const LENGTH: usize = 20;
 
 fn side_of(letter: u8) -> Option<Side>
@@ -73,7 +73,8 @@ fn are_spaces(a: u8, b: u8, c: u8, d: u8) -> bool
     a == b' ' && b == b' ' && c == b' ' && d == b' '
 }
 
-// The bytes between the letters and the hexadecimal digits stand where the form wants them.
+// Returns `true` if the bytes between the letters and the hexadecimal digits are as the form
+// requires.
 fn is_parted(line: &[u8]) -> bool
     requires { length line.now ≡ LENGTH }
     ensures { result ≡ (list_all is_space (slice_index line.now 10 ∷ slice_index line.now 12 ∷ slice_index line.now 14 ∷ slice_index line.now 16 ∷ [])
@@ -82,7 +83,7 @@ fn is_parted(line: &[u8]) -> bool
     are_spaces(line[10], line[12], line[14], line[16]) && is_octal(line[15]) && line[19] == b'\n'
 }
 
-// The tick and the byte of a line, if their digits are.
+// Returns the tick and the byte of a line, if their digits are hexadecimal.
 fn numbers_in(line: &[u8]) -> Option<(u64, u8)>
     requires { length line.now ≡ LENGTH }
     ensures { result ≡ (if list_all is_hex (slice_range line.now 0 10) && list_all is_hex (slice_range line.now 17 19)
@@ -107,7 +108,7 @@ fn entry_from(tick: u64, side: u8, letter: u8, number: u8, byte: u8) -> Option<E
     })
 }
 
-/// The entry of a line with its line feed, or none where the bytes are outside the form.
+/// Returns the entry of a line with its line feed, or `None` if the bytes are outside the form.
 #[tactic(auto, unfolding(crate::specs::Line::entry_of))]
 pub(crate) fn entry_of(line: &[u8]) -> Option<Entry>
     ensures value { result ≡ entry_of line.now }
@@ -139,7 +140,7 @@ fn asked_byte(op: Op) -> [u8; 2]
     }
 }
 
-// The letter and the number of an operation, and the byte answered or written.
+// Returns the letter and the number of an operation, and the byte answered or written.
 fn parts_of(op: Op, answer: u8) -> (u8, u8, u8)
     ensures letter { result.0 ≡ op_letter op }
     ensures number { result.1 ≡ number_of op }
@@ -152,7 +153,7 @@ fn parts_of(op: Op, answer: u8) -> (u8, u8, u8)
     }
 }
 
-// The line of these parts, with its line feed.
+// Returns the line of these parts, with its line feed.
 fn line_of(tick: Tick, side: Side, letter: u8, number: u8, byte: [u8; 2]) -> [u8; LENGTH]
     ensures { result ≡ (hex_digits 10 tick.0 ++ (32 ∷ side_letter side ∷ 32 ∷ letter ∷ 32 ∷ (48 + number % 8) ∷ 32 ∷ byte)) ++ codes "\n" }
 {
@@ -169,10 +170,11 @@ fn line_of(tick: Tick, side: Side, letter: u8, number: u8, byte: [u8; 2]) -> [u8
     ]
 }
 
-/// Appends an access in the form of a trace's line, without the line feed. A read, whose answer is not known, has `--` for its byte.
+/// Appends an access in the form of a trace's line, without the line feed. A read, whose answer is
+/// not known, has `--` for its byte.
 ///
 /// # Errors
-/// Memory for the text can be wanting. It then has its old bytes.
+/// Out of memory: the text then has its old bytes.
 pub fn push_access(text: &mut Vec<u8>, tick: Tick, side: Side, op: Op) -> Result<(), AllocError>
     ensures ok { OnOk result (text.new.items ≡ text.old.items ++ access_text tick.0 side op (asked_byte op)) }
     ensures err { OnErr result (text.new.items ≡ text.old.items) }

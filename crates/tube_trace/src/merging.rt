@@ -10,7 +10,7 @@ use crate::Entry;
 use beeb_bits::NoMemory;
 use std::alloc::{AllocError, Global};
 
-// The entry that comes first, and what is left of both lists.
+// Returns the entry that comes first, and what is left of both lists.
 #[inline(always)]
 pub(crate) fn split_first<'a, 'b>(
     host: &'a [Entry],
@@ -54,10 +54,11 @@ fn merged(
     Ok(entries)
 }
 
-/// The first `keep` entries of both lists in one, by tick, and at equal ticks the host's first.
+/// Returns the first `keep` entries of both lists in one, by tick, and at equal ticks the host's
+/// first.
 ///
 /// # Errors
-/// Memory for the list can be wanting.
+/// Out of memory.
 pub fn merge(
     alloc: Global,
     host: &[Entry],

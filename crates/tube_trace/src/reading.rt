@@ -22,7 +22,7 @@ fn follows(last: Option<Entry>, entry: Entry) -> bool
     }
 }
 
-// The entries of a text of lines.
+// Returns the entries of a text of lines.
 #[tactic(auto, unfolding(crate::specs::Trace::lines_read))]
 fn read_lines(alloc: Global, bytes: &[u8]) -> Result<Vec<Entry>, TraceError>
     ensures value { MatchResult result (λ v. lines_read bytes.now ≡ Ok v.items)
@@ -52,14 +52,17 @@ fn read_lines(alloc: Global, bytes: &[u8]) -> Result<Vec<Entry>, TraceError>
     Ok(entries)
 }
 
-/// The clock and the entries of a trace's text. A text that begins with `T2` and a line feed is of clock Four, and its lines are
-/// those behind this beginning; every other is of clock Three, and all its lines count. Each line is the tick in ten upper-case
-/// hexadecimal digits, `H` or `P`, `R` or `W`, the number from 0 to 7 and a byte in two digits, parted by spaces and ended by a
-/// line feed; lines rise by tick, the host's first. A write's byte is the one written, and its answer is 00.
+/// Returns the clock and the entries of a trace's text. A text that begins with `T2` and a line
+/// feed is of clock Four, and its lines are those after this beginning. Every other text is of
+/// clock Three, and all its lines count. Each line is the tick in ten upper-case hexadecimal
+/// digits, `H` or `P`, `R`, `W` or `X`, the number from 0 to 7 and a byte in two digits, separated
+/// by spaces and ended by a line feed. Lines rise by tick, with the host's first at equal ticks. A
+/// write's byte is the one written, and its answer is 00. `X` is a reset, by `H` alone, with number
+/// 0, byte 00 and answer 00.
 ///
 /// # Errors
-/// The first line that is outside this form, or not after the one before it; a last line without its line feed is outside it.
-/// Lines count from 1, the first of clock Four behind its beginning.
+/// The first line that is outside this form, or not after the one before it. A last line without
+/// its line feed is outside it. Lines count from 1; those of clock Four count after the beginning.
 #[tactic(auto, unfolding(crate::specs::Trace::trace))]
 pub fn read(alloc: Global, bytes: &[u8]) -> Result<Trace, TraceError>
     ensures value { MatchResult result (λ t. trace bytes.now ≡ Ok (t.clock, t.entries.items))

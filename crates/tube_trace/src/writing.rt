@@ -41,26 +41,28 @@ fn text_of(
     Ok(text)
 }
 
-/// The text of a trace: the beginning of its clock and a line for each entry, in the form that `read` takes.
+/// Returns the text of a trace: the beginning of its clock and a line for each entry, in the form
+/// that `read` takes.
 ///
 /// # Errors
-/// Memory for the text can be wanting.
+/// Out of memory.
 pub fn write(alloc: Global, clock: Clock, entries: &[Entry]) -> Result<Vec<u8>, NoMemory>
     requires rises { Rises (events_of entries.now) }
     requires lines { All HasLine entries.now }
     ensures text { IfOk result (λ v. v.items ≡ text_of clock entries.now) }
-    // In words: `read` gives this clock and these entries of it.
+    // In words: `read` returns this clock and these entries.
     ensures back { IfOk result (λ v. trace v.items ≡ Ok (clock, entries.now)) }
 {
     text_reads_back();
     Ok(text_of(alloc, clock, entries, &[], entries.len())?)
 }
 
-/// The text of a trace of the first `keep` entries of both lists in one, by tick, and at equal ticks the host's first: what `write` makes of what
-/// `merge` makes of them, without that list.
+/// Returns the text of a trace of the first `keep` entries of both lists in one, by tick, and at
+/// equal ticks the host's first. It is what `write` makes of the result of `merge`, without that
+/// list.
 ///
 /// # Errors
-/// Memory for the text can be wanting.
+/// Out of memory.
 pub fn write_both(
     alloc: Global,
     clock: Clock,
@@ -69,7 +71,7 @@ pub fn write_both(
     keep: u32,
 ) -> Result<Vec<u8>, NoMemory>
     ensures text { IfOk result (λ v. v.items ≡ text_of clock (of_both keep host.now para.now)) }
-    // In words: where these entries rise and have lines, `read` gives this clock and these entries.
+    // In words: if these entries rise and have lines, `read` returns this clock and these entries.
     ensures back { let entries = of_both keep host.now para.now in
         IfOk result (λ v. Rises (events_of entries) → All HasLine entries → trace v.items ≡ Ok (clock, entries)) }
 {

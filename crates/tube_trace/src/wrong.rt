@@ -1,4 +1,4 @@
-//! Whether the chip would give the answers of a trace.
+//! The test of a trace's answers by the chip.
 ghost use Rattle.std.specs.Prelude.{◌≡◌, ◌<◌, ◌↔◌, length, All, IsNone, IfSome};
 ghost use Rattle.tube_chip.specs.State.{power_on};
 ghost use Rattle.tube_chip.specs.Events.{IsAnsweredFrom};
@@ -8,13 +8,14 @@ ghost use Rattle.tube_trace.specs.FirstWrong.{wrong, IsFirstWrong};
 use crate::Entry;
 use tube_chip::Chip;
 
-/// The place of the first entry whose answer the chip would not give, counted from 0, and the byte that it would give. The
-/// entries are done in their order from power-on, the chip's own answers aside.
+/// Returns the index of the first entry whose answer the chip would not give, and the byte that it
+/// would give. The entries are done in their order from power-on.
 #[tactic(auto, unfolding(crate::specs::FirstWrong::wrong))]
 pub fn first_wrong(entries: &[Entry]) -> Option<(usize, u8)>
     requires { All IsEntry entries.now }
     ensures value { result ≡ wrong entries.now }
-    // In words: none where each answer is the chip's, else the first place whose answer is not, with the chip's byte.
+    // In words: `None` if each answer is the chip's; otherwise the first index whose answer is not,
+    // with the chip's byte.
     ensures none { IsNone result ↔ IsAnsweredFrom power_on (events_of entries.now) }
     ensures first { IfSome result (λ w. IsFirstWrong entries.now w.0 w.1) }
 {
