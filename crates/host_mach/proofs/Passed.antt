@@ -1,4 +1,4 @@
--- Starts that are passed over, as they are seen.
+-- Starts that are skipped, as they are seen.
 use Rattle.std.proofs.Common.{ℕ, zero, suc}
 use Rattle.tube_party.specs.Moves.{Shown}
 use Rattle.tube_machine.specs.declared.pass.Passing.{Passing}

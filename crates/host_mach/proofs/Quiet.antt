@@ -48,7 +48,7 @@ record IsIdle (far : ℕ) (s : HostState) : Type 0 where
 idle_asks : (far : ℕ) (s : HostState) → IsIdle far s → asks_by host_wiring s.bus (next_cycle s.cpu) ≡ None
 idle_asks far s idle = rw (halted_next s.cpu idle.halts, idle.apart)
 
--- which leaves it so
+-- which keeps it so
 idle_on : (far : ℕ) (s : HostState) → IsIdle far s → s.due < far → (asks Nmos host_wiring s ≡ None) × IsIdle far (next_state s None)
 idle_on far s idle low =
     let is : next_cycle s.cpu ≡ Some (Read s.cpu.regs.pc) = halted_next s.cpu idle.halts in

@@ -71,7 +71,7 @@ resets_by Para plays = absurd (cc)
 pub host_permitted : IsPermitted host_moves (is_side Host)
 host_permitted = may_play Nmos host_wiring (is_side Host) (λ b t side plays pending. resets_by side plays)
 
--- Of the lines its looks see the host's interrupt request alone.
+-- Of the lines, its looks see the host's interrupt request alone.
 pub host_sees : SeesHirqAlone host_moves
 host_sees s a b same = by (is_break s) (next_cycle Nmos s.cpu)
   where

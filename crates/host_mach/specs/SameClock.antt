@@ -1,4 +1,4 @@
--- No step of the host changes how long ticks are.
+-- No step of the host changes the clock of its ticks.
 use Rattle.std.specs.Prelude.{◌≡◌, ◌+◌, Bool, true, false, if◌then◌else◌, Option, Some, None, refl}
 use Rattle.cpu_alu.specs.declared.Cycle.{Cycle}
 use Rattle.cpu_alu.specs.declared.Cycle.TheVariants.{Read, Write}

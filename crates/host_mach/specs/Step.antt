@@ -1,6 +1,8 @@
--- How the host is wired: its addresses of the Tube, if it has one, the 1 MHz bus, the lines to its processor, and BREAK. Without a Tube its addresses
--- are the memory map's, where nothing answers. Its steps are those of a processor at
--- this bus. (Acorn, BBC Microcomputer Advanced User Guide, the 1 MHz bus and the BREAK key; the ticks, and what BREAK leaves, are this project's.)
+-- The model of the host's bus: its addresses of the Tube, if it has one, the 1 MHz bus, the lines
+-- to its processor, and BREAK. Without a Tube these addresses are the memory map's, and nothing
+-- answers there. The host's steps are those of a processor at this bus. (Acorn, BBC Microcomputer
+-- Advanced User Guide, the 1 MHz bus and the BREAK key; the ticks, and what BREAK leaves, are this
+-- project's.)
 use Rattle.std.specs.Prelude.{ℕ, ◌*◌, ◌/◌, ◌==◌, ◌&&◌, ◌||◌, nat_le, Bool, false, not, Option}
 use Rattle.beeb_bits.specs.declared.clock.Clock.{Clock}
 use Rattle.beeb_bits.specs.Clock.{host}
@@ -28,16 +30,17 @@ abbrev pub address : Cycle → ℕ
 address (Read at) = at
 address (Write at byte) = at
 
--- How many ticks an access at tick t takes: a cycle for each that it is stretched to.
+-- The number of ticks of an access at tick t: those of a cycle for each cycle that it is stretched
+-- to.
 abbrev pub cycle_ticks : Clock → ℕ → Cycle → ℕ
 cycle_ticks clock t c = host clock * stretch (address c) (t / host clock)
 
--- this bus, the rises of whose NMI line so far count as taken
+-- this bus, with all rises of its NMI line counted as taken
 abbrev pub taken_with_nmis : HostBusState → BusState → HostBusState
 taken_with_nmis h b = record h { bus = b; nmis = bus_nmis b }
 
--- An NMI is asked for where the count of its line's rises is not the one taken, an IRQ by the lines of the bus and of the Tube. The Tube's
--- reset line does not reach the host.
+-- An NMI is asked for if the count of its line's rises is not the one taken; an IRQ by the lines of
+-- the bus and of the Tube. The Tube's reset line does not reach the host.
 abbrev pub host_wiring : Wiring HostBusState
 host_wiring = record {
   cycle = λ b. host (clock_of b.bus);

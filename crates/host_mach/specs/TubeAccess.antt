@@ -1,4 +1,4 @@
--- An access of the Tube leaves the bus, and is not stretched.
+-- An access of the Tube does not change the bus, and is not stretched.
 use Rattle.std.proofs.Common.{ℕ, ◌≡◌, ◌≤◌, ◌∙◌, ◌*◌, ◌/◌, ◌&&◌, ap, Bool, true, false, Some, arith}
 use Rattle.std.proofs.lemmas.Grind.{common_steps}
 use Rattle.std.proofs.Math.Nat.{mul-one}
@@ -44,7 +44,7 @@ tube-ticks h t c is =
 asked_at : (h : HostBusState) (c : Cycle) (o : Op) → asks_by host_wiring h (Some c) ≡ Some (access o) → (t : ℕ) → IsAtTube host_wiring (host_wiring.close h t) c
 asked_at h c o asks t = grind arith
 
--- so that it may be answered in passing
+-- so a port may answer it
 pub tube-passing : (h : HostBusState) (c : Cycle) (o : Op) → asks_by host_wiring h (Some c) ≡ Some (access o) → IsPassing host_wiring h c o
 tube-passing h c o asks = record {
   asks = asks;

@@ -1,4 +1,4 @@
--- What a host is, by what its plugged devices are.
+-- The state of a host, given those of its plugged devices.
 use Rattle.bus_plug.specs.Plug.{Plug}
 use Rattle.host_bus.specs.View.{bus_seen, bus_stepped}
 use Rattle.tube_machine.specs.Step.{at_of}

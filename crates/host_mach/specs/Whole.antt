@@ -1,4 +1,4 @@
--- Which of the host's addresses are plain memory.
+-- The host's addresses that are plain memory.
 use Rattle.std.specs.Prelude.{ℕ, zero, suc, length, Option, None, Some, MatchOption, ◌≡◌, ◌≤◌, ◌<◌, ◌+◌, ◌*◌, ◌/◌}
 use Rattle.std.specs.Prelude.{max, nat_lt, ◌&&◌, ◌||◌, not, Bool, true, false, slice_index, slice_set, if◌then◌else◌}
 use Rattle.std.proofs.Common.{arith, ap, ◌∙◌, sym, subst, inl, inr}
@@ -34,7 +34,7 @@ plain_write at = nat_lt at 0x8000
 abbrev reach : Reach HostBusState
 reach = reach_of host_wiring plain_read plain_write
 
--- where memory is
+-- the place of an address of memory
 abbrev memory_place : Bool → Bool → Place
 memory_place ram paged = if ram then Ram else if paged then PagedRom else OsRom
 
@@ -63,7 +63,7 @@ stored b at v = record b { board = record b.board { ram = slice_set b.board.ram 
 writes-store : (b : BusState) (at v : ℕ) → at < 0x8000 → bus_after_write b at v ≡ stored b at v
 writes-store b at v low = rw (is-ram at low)
 
--- the byte that stands there
+-- the byte stored there
 stands : (b : BusState) (at : ℕ) → at < 0x8000 → bus_answer b 0 at ≡ slice_index b.board.ram at
 stands b at low = rw (is-ram at low)
 
@@ -101,8 +101,9 @@ host_memory = record {
   write_closed = λ b at byte low. ap (λ (x : BusState). x.board.closed) (writes-store b.bus at byte (ltb-true at 0x8000 low));
 }
 
--- A look asks for nothing where the count of NMIs is the one taken, and no line for an IRQ is on or the flag I holds it back. Looks up to a tick do
--- so where this holds however far the bus is closed, up to there.
+-- A look asks for nothing if the count of NMIs is the one taken, and no line for an IRQ is on or
+-- the flag I masks it. Looks up to a tick ask for nothing if this holds for the bus closed at each
+-- tick up to there.
 abbrev pub AsksNothing : BusState → ℕ → Lines → Bool → Type 0
 AsksNothing b nmis l masks = (bus_nmis b ≡ nmis) × (((bus_irq b || l.hirq) && not masks) ≡ false)
 
@@ -133,11 +134,11 @@ host_rests = record {
   tube = λ b l masks far c rest at some u near. rw (tube-leaves b c at) (rest some u near);
 }
 
--- behind an instruction the bus is closed no further than its cycles go
+-- after an instruction the bus is closed no further than the instruction's cycles
 pub comes_behind : (c t n closed : ℕ) → 1 < c → 0 < n → closed ≤ t + max 1 (c * n) → closed ≤ t + c * n
 comes_behind c t n closed h more low = grind arith
 
--- no access changes how long ticks are
+-- no access changes the clock
 pub carried-clock : (part : Part) (t k : ℕ) (s : State) (m : HostBusState) (last : State) (there : HostBusState) → Carried reach t part k s m last there → clock_of there.bus ≡ clock_of m.bus
 carried-clock part t zero s m last there h = ap (λ (x : HostBusState). clock_of x.bus) (sym h.1)
 carried-clock part t (suc k) s m last there h = by (λ on b more. carried-clock part t k on b last there more) (next_cycle part s) h

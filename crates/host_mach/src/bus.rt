@@ -1,4 +1,4 @@
-//! The bus, with what its processor has taken of the NMI line.
+//! The bus, with the count of NMIs that its processor has taken.
 ghost use Rattle.std.specs.Prelude.{◌≡◌, ◌≤◌, ◌*◌, ◌/◌, ◌&&◌};
 ghost use Rattle.beeb_bits.specs.Clock.{host};
 ghost use Rattle.host_devices.specs.Map.{stretch};
@@ -14,17 +14,17 @@ use op_table::Part;
 use tube_chip::{Lines, Op};
 use tube_machine::{Done, Interrupts, TubeBus, Unable};
 
-/// The bus, with what its processor has taken of the NMI line.
+/// The bus, with the count of NMIs that its processor has taken.
 #[derive(Drop)]
 pub(crate) struct HostBus<D> {
     pub(crate) bus: Bus<D>,
-    // How many rises of it.
+    // The rises of the NMI line that were taken.
     pub(crate) nmis: u64,
-    // Whether there is a Tube.
+    // There is a Tube.
     pub(crate) tube: bool,
 }
 
-/// FEE0 to FEFF.
+/// Returns `true` for FEE0 to FEFF.
 #[inline(always)]
 fn is_tube(at: u16) -> bool
     ensures { result ≡ is_tube at }
@@ -32,7 +32,7 @@ fn is_tube(at: u16) -> bool
     0xfee0 <= at && at <= 0xfeff
 }
 
-// How many ticks an access to this address takes that begins at tick `t`.
+// Returns the number of ticks of an access to address `at` that begins at tick `t`.
 fn ticks_of(clock: Clock, t: u64, at: u16) -> u64
     ensures value { result ≡ host clock * stretch at (t / host clock) }
     ensures some { host clock ≤ result }
@@ -43,7 +43,7 @@ fn ticks_of(clock: Clock, t: u64, at: u16) -> u64
 }
 
 impl<D: BusDevice> HostBus<D> {
-    /// Whether the Tube answers at this address.
+    /// Returns `true` if the Tube answers at this address.
     #[inline(always)]
     pub(crate) fn answers(&self, at: u16) -> bool
         ensures { result ≡ (self.now.tube && is_tube at) }
@@ -164,7 +164,8 @@ impl<D: BusDevice> TubeBus<()> for HostBus<D> {
     #[inline(always)]
     fn answered(&mut self, _cycle: Cycle) {}
 
-    /// An access of the memory. A read leaves the bus as far as it is closed: no device step changes what it gives.
+    /// Does an access to memory. A read does not close the devices: no device step changes what it
+    /// yields.
     #[inline(always)]
     fn quick(&mut self, t: u64, cycle: Cycle, _notes: &mut ()) -> Option<u8> {
         match cycle {

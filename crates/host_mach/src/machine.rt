@@ -26,10 +26,12 @@ use tube_chip::{Answer, Lines};
 use tube_machine::{Passing, advance_at, advance_seeing, answer, pass_over};
 use tube_party::{Ask, Desk, MOST, NO_LINES, Party};
 
-/// The BBC Micro: a 6502 at 2 MHz and its bus, with the Tube at FEE0 to FEFF, unless it is made without one. The key BREAK, which the script
-/// presses, resets the processor, the user VIA, the disc controller, and by the Tube's reset the second processor. The system VIA and its latch,
-/// the picture, the ROM latch, the memory and the plugged devices stay as they are. It is heard at the end of an instruction, of a reset or of an
-/// interrupt, in place of an NMI or IRQ; a processor that an opcode has halted hears it at the end of any later cycle.
+/// The BBC Micro: a 6502 at 2 MHz and its bus, with the Tube at FEE0 to FEFF, unless it is made
+/// without one. The key BREAK, which the script presses, resets the processor, the user VIA, the
+/// disc controller, and by the Tube's reset the second processor. The system VIA and its latch, the
+/// picture, the ROM latch, the memory and the plugged devices stay as they are. BREAK takes effect
+/// at the end of an instruction, of a reset or of an interrupt, in place of an NMI or IRQ. If an
+/// opcode has halted the processor, it takes effect at the end of any later cycle.
 #[derive(Drop)]
 pub struct HostMachine<D = Box<dyn BusDevice + Send>> {
     cpu: Cpu,
@@ -39,14 +41,15 @@ pub struct HostMachine<D = Box<dyn BusDevice + Send>> {
     ghost before: { (board_closed bus.bus.board bus.bus.closed).closed ≤ due + 1 },
 }
 
-// Where its plugged devices can, as boxed ones.
+// It can be sent to a thread if its plugged devices can, as boxed ones can.
 impl<D: BusDevice + Send> Crosses for HostMachine<D> {}
 
 impl<D: BusDevice> HostMachine<D> {
     ghost use Rattle.host_mach.specs.View.{host_seen, host_stepped};
 
-    /// The machine at power-on, at this clock, before the first cycle of a reset. It takes the memory of all shots of the script, and of
-    /// all sound writes. Where memory is wanting, all is dropped.
+    /// Makes the machine at power-on, at this clock, before the first cycle of a reset. It takes
+    /// the memory of all shots of the script, and of all sound writes. If memory runs out, all is
+    /// dropped.
     pub fn make(
         alloc: Global,
         clock: Clock,
@@ -71,8 +74,8 @@ impl<D: BusDevice> HostMachine<D> {
         })
     }
 
-    /// The same machine with a Tube at FEE0 to FEFF, as it is made, or with nothing there: a read gives FE, a write does nothing, and BREAK asks for no
-    /// reset of the Tube.
+    /// Returns the machine with a Tube at FEE0 to FEFF, as it is made, or with nothing there: a
+    /// read yields FE, a write does nothing, and BREAK asks for no reset of the Tube.
     pub fn with_tube(self, there: bool) -> HostMachine<D>
         ensures { host_seen D.plug result ≡ with_tube there (host_seen D.plug self) }
     {
@@ -81,21 +84,23 @@ impl<D: BusDevice> HostMachine<D> {
         machine
     }
 
-    /// The registers at the start of the instruction, or of the reset or interrupt, to which the next step belongs.
+    /// Returns the registers at the start of the instruction, reset or interrupt that the next step
+    /// belongs to.
     pub fn regs(&self) -> Regs
         ensures { result ≡ (host_seen D.plug self.now).cpu.regs }
     {
         self.cpu.at_start()
     }
 
-    /// Whether an opcode without an instruction has halted the processor, until a break.
+    /// Returns `true` if an opcode without an instruction has halted the processor, until a break.
     pub fn halted(&self) -> bool
         ensures { result ≡ halted (host_seen D.plug self.now).cpu }
     {
         self.cpu.halted()
     }
 
-    /// Whether the next step is the first cycle of an instruction: not of a reset or an interrupt, nor one in which the processor stays halted.
+    /// Returns `true` if the next step is the first cycle of an instruction: not of a reset or an
+    /// interrupt, and not one while the processor stays halted.
     #[inline]
     pub fn starting(&self) -> bool
         ensures { result ≡ starting (host_seen D.plug self.now).cpu }
@@ -103,8 +108,9 @@ impl<D: BusDevice> HostMachine<D> {
         self.cpu.starting()
     }
 
-    /// The byte that a read of this address would give now: of the RAM, the ROM in the latch's slot, or the operating system. None exactly from
-    /// FC00 to FEFF, where devices answer. Nothing changes.
+    /// Returns the byte that a read of address `at` would yield now: of the RAM, the ROM in the
+    /// latch's slot, or the operating system. Returns `None` exactly from FC00 to FEFF, where
+    /// devices answer.
     pub fn peek(&self, at: u16) -> Option<u8>
         ensures value { result ≡ host_peek (host_seen D.plug self.now) at }
         ensures read { IfSome result (λ byte. (t : ℕ) → byte ≡ host_wiring.answer (host_seen D.plug self.now).bus t at) }
@@ -113,8 +119,9 @@ impl<D: BusDevice> HostMachine<D> {
         self.bus.bus.peek(at)
     }
 
-    /// Skips instructions whose starts `passing` passes over. Their looks see these lines, and come before `until` and `sure`. It may stop at any start;
-    /// within an instruction it does nothing.
+    /// Skips instructions whose starts `passing` names. Their looks see these lines, and come
+    /// before `until` and `safe_until`. It may stop at any start. In the middle of an instruction
+    /// it does nothing.
     #[inline(always)]
     pub fn pass(&mut self, until: Tick, lines: &Lines, sure: Tick, passing: Passing)
         requires { until.0 ≤ 2 ^ 30 }
@@ -134,15 +141,15 @@ impl<D: BusDevice> HostMachine<D> {
         );
     }
 
-    /// The 32,768 bytes of the RAM.
+    /// Returns the 32,768 bytes of the RAM.
     pub fn ram(&self) -> &[u8]
         ensures { result.now ≡ (host_seen D.plug self.now).bus.bus.board.ram }
     {
         self.bus.bus.ram()
     }
 
-    /// The same machine, whose devices are stepped as far as its bus is closed. They may lag behind, which is seen nowhere but in `frames` and
-    /// `disc`.
+    /// Returns the machine with its devices stepped as far as its bus is closed. Otherwise the
+    /// devices may lag, which only `frames` and `disc` show.
     pub fn settled(self) -> HostMachine<D>
         ensures same { host_seen D.plug result ≡ host_seen D.plug self }
         ensures stepped { host_stepped D.plug result ≡ host_seen D.plug self }
@@ -152,16 +159,17 @@ impl<D: BusDevice> HostMachine<D> {
         machine
     }
 
-    /// The frames that shots took so far, the oldest first, as far as the devices are stepped. A shot takes the last frame that was finished, or a
-    /// black one, before the device step at its tick.
+    /// Returns the frames that shots took, the oldest first, as far as the devices are stepped. A
+    /// shot takes the last frame that was finished, or a black one, before the device step at its
+    /// tick.
     pub fn frames(&self) -> &[Frame]
         ensures { result.now ≡ (host_stepped D.plug self.now).bus.bus.board.shots }
     {
         self.bus.bus.frames()
     }
 
-    /// The writes to the sound chip, in their order: the first 1,048,576 of them, for it takes no later one. The moment of a write is the number
-    /// of the microsecond after it.
+    /// Returns the writes to the sound chip, in their order: the first 1,048,576 of them, since no
+    /// later one is stored. The moment of a write is the number of the microsecond after it.
     pub fn sound(&self) -> &[SoundWrite]
         ensures value { result.now ≡ (host_seen D.plug self.now).bus.bus.board.sound }
         ensures order { NeverFallFrom 0 result.now }
@@ -170,7 +178,8 @@ impl<D: BusDevice> HostMachine<D> {
         self.bus.bus.sound()
     }
 
-    /// The disc in drive 0 or 1, as far as the devices are stepped. None where the drive has none, and for any other number.
+    /// Returns the disc in drive 0 or 1, as far as the devices are stepped, or `None` if the drive
+    /// has none or for any other number.
     pub fn disc(&self, drive: u8) -> Option<&Disc>
         ensures { let there = bus_disc drive (host_stepped D.plug self.now).bus.bus in
             MatchOption result (there ≡ None) (λ disc. there ≡ Some disc.now) }
@@ -178,14 +187,14 @@ impl<D: BusDevice> HostMachine<D> {
         self.bus.bus.disc(drive)
     }
 
-    /// The plugged devices.
+    /// Returns the plugged devices.
     pub fn plugs(&self) -> &[D]
         ensures { map D.plug result.now ≡ (host_seen D.plug self.now).bus.bus.plugs }
     {
         self.bus.bus.plugs()
     }
 
-    // The tick of the next break, or the end of the longest run.
+    // Returns the tick of the next break, or the end of the longest run.
     fn next_break(&self) -> u64
         ensures none { (t : ℕ) → t < result → bus_break_pending (host_seen D.plug self.now).bus.bus t ≡ false }
         ensures value { let next = bus_next_break (host_seen D.plug self.now).bus.bus in
@@ -240,7 +249,7 @@ impl<D: BusDevice> Party for HostMachine<D> {
 
     #[inline(always)]
     fn advance(&mut self, until: Tick) -> Ask {
-        // No look is below tick 0, so that none sees these lines.
+        // No look is below tick 0, so none sees these lines.
         self.advance_seeing(until, &NO_LINES, Tick(0))
     }
 

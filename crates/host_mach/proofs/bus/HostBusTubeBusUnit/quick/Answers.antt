@@ -7,7 +7,7 @@ use Rattle.host_mach.specs.View.{host_bus_seen}
 use Rattle.host_mach.specs.Whole.{host_memory}
 use Rattle.host_mach.proofs.bus.HostBusTubeBusUnit.quick.Goals as goal
 
--- a read is done without closing: no device step changes what it gives
+-- a read is done without closing: no device step changes what it yields
 pub returns-else-at-ge64512-clause-done : goal.returns-else-at-ge64512-clause-done
 returns-else-at-ge64512-clause-done g c =
     let b : HostBusState = host_bus_seen g.D.BusDevice.plug c.args.self.now in
