@@ -1,4 +1,4 @@
--- What is written reads back, and nothing else reads so.
+-- What is written reads back, and no other bytes are read so.
 use Rattle.std.specs.Prelude.{ℕ, ◌≡◌, ◌<◌, List, All, Some, Ok}
 use Rattle.beeb_bits.specs.declared.clock.Clock.{Clock}
 use Rattle.tube_chip.specs.Events.{Rises}

@@ -1,5 +1,6 @@
--- One line of a trace: `TTTTTTTTTT S O N BB` and a line feed, with the tick in ten digits, the side H or P, the operation
--- R, W or X, the number from 0 to 7, and the byte answered or written in two digits. (This project's own format.)
+-- One line of a trace: `TTTTTTTTTT S O N BB` and a line feed, with the tick in ten digits, the side
+-- H or P, the operation R, W or X, the number from 0 to 7, and the byte answered or written in two
+-- digits. (This project's own format.)
 use Rattle.std.specs.Prelude.{ℕ, ◌-◌, ◌==◌, ◌&&◌, nat_le, Bool, List, [], ◌∷◌, length, slice_index, slice_range, Option, Some, None, if◌then◌else◌}
 use Rattle.std.specs.List.{list_all}
 use Rattle.beeb_bits.specs.declared.Side.{Side}

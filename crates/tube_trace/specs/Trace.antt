@@ -38,7 +38,8 @@ abbrev pub beginning : Clock → List ℕ
 beginning Three = []
 beginning Four = codes "T2\n"
 
--- A text that begins with `T2` and a line feed is of clock Four. Every other text is of clock Three.
+-- A text that begins with `T2` and a line feed is of clock Four. Every other text is of clock
+-- Three.
 abbrev pub clock_of : List ℕ → Clock
 clock_of text = if starts_with nat_eq text (beginning Four) then Four else Three
 
