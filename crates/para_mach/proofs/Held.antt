@@ -1,4 +1,5 @@
--- A machine that is held stands at a look, and goes past looks there; one that starts an instruction is not.
+-- A machine that is held is at a look, and goes past looks there; one that starts an instruction is
+-- not held.
 use Rattle.std.proofs.Common.{◌≡◌, ◌∙◌, refl, sym, ap, subst, ℕ, zero, suc, ◌+◌, ◌<◌, ◌≤◌, ◌==◌, not, Bool, true, false, is_none, Option, None, Some, List, [], if◌then◌else◌}
 use Rattle.std.proofs.lemmas.Bool.{ne_eqb}
 use Rattle.op_table.specs.declared.names.Part.TheVariants.{Cmos}
@@ -72,12 +73,12 @@ module _ {n : ℕ} {lines : Lines} {sure : ℕ} {old new : ParaState} {ask : Ask
 
 -- ---- Held
 
--- the reset line stands for one more reset
+-- the reset line is on for one more reset
 held_look : (s : ParaState) (l : Lines) → next_cycle s.cpu ≡ None → l.prst ≡ true → (l.resets ≡ s.bus.resets → ⊥)
     → next_state s (Some (Seen l)) ≡ after_held_cycle Cmos para_wiring (closed_to para_wiring s (s.due + 1))
 held_look s l over stands other = rw (over, ne_eqb l.resets s.bus.resets other, stands)
 
--- so far a machine passed looks at that line
+-- until here a machine passed looks at that line
 pub record IsHeldOn (n : ℕ) (lines : Lines) (sure : ℕ) (start s : ParaState) : Type 0 where
   pub came : (k : ℕ) × Looks para_moves n (shown_lines lines sure) k start s
   pub over : next_cycle s.cpu ≡ None
@@ -101,7 +102,7 @@ held_more {n} {lines} {sure} {start} {s} {new} so_far stands other low early is 
 
 -- ---- Room
 
--- the steps of a run, and what is asked then; its looks may be nearer than they need be
+-- the steps of a run, and the next ask; its looks may be nearer than they need be
 module _ (n : ℕ) (lines : Lines) {near sure : ℕ} {D : Type 0} (answers : D → ℕ → Op → ℕ → D → Type 0) (low : near ≤ sure) where
   talks_wider : (j : ℕ) (s last : ParaState) (d e : D) → Talks para_moves answers n (shown_lines lines near) j s d last e → Talks para_moves answers n (shown_lines lines sure) j s d last e
   talks_wider zero s last d e h = (h.0, (h.1.0, looks_wider para_moves n lines near sure h.1.0 s last low h.1.1))
@@ -117,13 +118,13 @@ module _ {n : ℕ} {lines : Lines} {near sure : ℕ} {D : Type 0} {answers : D �
       let all = talks_on para_moves answers n lines sure came.0 0 old last goes.last d e e (talks_wider n lines answers low came.0 old last d e came.1) (refl, (goes.steps, goes.looks)) in
       record { accesses = all.0; last = goes.last; talks = all.1; asked = goes.asked }
 
--- ---- Taken back
+-- ---- Rolled back
 
--- what is kept of a bus, as it was
+-- what notes restore of a bus, as it was
 pub back : (ram : List ℕ) (b old : ParaBusState) → part_kept ram b ≡ part_kept old.ram old → record b { ram = ram; is_held = old.is_held; closed = old.closed } ≡ old
 back ram b old is = ap (λ (x : ParaBusState). record x { is_held = old.is_held; closed = old.closed }) is
 
--- ---- Starts that are passed over
+-- ---- Starts that are skipped
 
 goes_on : (c : cpu.State) → starting c ≡ true → is_none (next_cycle c) ≡ false
 goes_on c is = by c.seen c.sequence is

@@ -1,4 +1,4 @@
--- What an access to the memory comes to.
+-- The result of an access to the memory.
 use Rattle.std.specs.Prelude.{ℕ, List, Bool, true, false, ◌≡◌, ◌%◌, if◌then◌else◌, Some, None, Result, Ok, Err}
 use Rattle.cpu_alu.specs.declared.Cycle.{Cycle}
 use Rattle.cpu_alu.specs.declared.Cycle.TheVariants.{Read, Write}
@@ -10,7 +10,7 @@ use Rattle.tube_machine.specs.Step.{asks_by}
 use Rattle.para_mach.specs.State.{ParaBusState}
 use Rattle.para_mach.specs.Step.{para_wiring, is_tube, memory, ram_after, rom_in_after}
 
--- a read gives the byte of its address, or asks the Tube for it
+-- a read yields the byte of its address, or asks the Tube for it
 abbrev pub IsRead : List ℕ → List ℕ → Bool → ℕ → Result ℕ Unable → Type 0
 IsRead ram rom rom_in at (Ok byte) = (is_tube at ≡ false) × (byte ≡ memory ram rom rom_in at)
 IsRead ram rom rom_in at (Err (Tube o)) = (is_tube at ≡ true) × (o ≡ op.Read (at % 8))

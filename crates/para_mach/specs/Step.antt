@@ -1,5 +1,6 @@
--- How the second processor is wired: its memory, the Tube, and the Tube's lines to its processor. Its steps are those of a processor at this bus.
--- (Acorn 6502 Second Processor; the ticks are this project's.)
+-- The model of the second processor's bus: its memory, the Tube, and the Tube's lines to its
+-- processor. Its steps are those of a processor at this bus. (Acorn 6502 Second Processor; the
+-- ticks are this project's.)
 use Rattle.std.specs.Prelude.{ℕ, List, ◌-◌, ◌==◌, ◌&&◌, max, nat_le, Bool, true, false, not, Option, slice_index, slice_set, if◌then◌else◌}
 use Rattle.beeb_bits.specs.Clock.{para}
 use Rattle.op_table.specs.declared.names.Part.TheVariants.{Cmos}
@@ -15,22 +16,24 @@ use Rattle.para_mach.specs.State.{ParaBusState, ParaState}
 abbrev pub is_tube : ℕ → Bool
 is_tube at = nat_le 0xFEF8 at && nat_le at 0xFEFF
 
--- the byte of an address that is not the Tube's: the boot ROM lies over the top while it is switched in
+-- the byte of an address that is not the Tube's: the boot ROM lies over the top while it is
+-- switched in
 abbrev pub memory : List ℕ → List ℕ → Bool → ℕ → ℕ
 memory ram rom rom_in at = if rom_in && nat_le 0xF800 at then slice_index rom (at - 0xF800) else slice_index ram at
 
--- the RAM after an access: a write over the boot ROM goes to it
+-- the RAM after an access; a write over the boot ROM goes to the RAM
 abbrev pub ram_after : List ℕ → Cycle → List ℕ
 ram_after ram (Read at) = ram
 ram_after ram (Write at byte) = if is_tube at then ram else slice_set ram at byte
 
--- the first access at a Tube address, of whatever kind, switches the boot ROM out
+-- the first access at a Tube address, a read or a write, switches the boot ROM out
 abbrev pub rom_in_after : Bool → Cycle → Bool
 rom_in_after rom_in (Read at) = rom_in && not (is_tube at)
 rom_in_after rom_in (Write at byte) = rom_in && not (is_tube at)
 
--- A reset is to be taken where the Tube's count of them is not the one taken, an NMI by its count, an IRQ by its line. A reset switches the boot ROM
--- in, and takes the count of NMIs too. No break comes, and an access takes one cycle.
+-- A reset is to be taken if the Tube's count of resets is not the one taken, an NMI by its count,
+-- an IRQ by its line. A reset switches the boot ROM in, and takes the count of NMIs too. No break
+-- comes, and an access takes one cycle.
 abbrev pub para_wiring : Wiring ParaBusState
 para_wiring = record {
   cycle = λ b. para b.clock;

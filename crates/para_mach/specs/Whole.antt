@@ -1,4 +1,4 @@
--- Which of the second processor's addresses are plain memory, and which of its looks ask for nothing.
+-- The second processor's addresses that are plain memory, and its looks that ask for nothing.
 use Rattle.std.specs.Prelude.{ℕ, suc, ◌≡◌, ◌≤◌, ◌<◌, ◌+◌, ◌*◌, ◌&&◌, max, nat_lt, Bool, true, false, not, refl, slice_set, if◌then◌else◌}
 use Rattle.std.proofs.Common.{arith}
 use Rattle.std.proofs.lemmas.Bool.{lt-ltb}
@@ -17,7 +17,8 @@ plain_read at = nat_lt at 0xFEF8
 abbrev pub plain_write : ℕ → Bool
 plain_write at = nat_lt at 0xF800
 
--- Looks ask for nothing where the count of NMIs is the one taken, and the line for an IRQ is off or the flag I holds it back.
+-- Looks ask for nothing if the count of NMIs is the one taken, the processor is not held, and the
+-- line for an IRQ is off or the flag I masks it.
 abbrev pub rests : ParaBusState → Lines → Bool → ℕ → Type 0
 rests b l masks far = 0 < far → (l.nmis ≡ b.nmis) × (b.is_held ≡ false) × ((l.pirq && not masks) ≡ false)
 
@@ -31,7 +32,7 @@ and-true : (b : Bool) → (b && true) ≡ b
 and-true true = refl
 and-true false = refl
 
--- a write, by whether the address is the Tube's
+-- a write, to the Tube or to another address
 abbrev written_by : Bool → ParaBusState → ℕ → ℕ → ParaBusState
 written_by tube b at x = record b { ram = (if tube then b.ram else slice_set b.ram at x); rom_in = b.rom_in && not tube }
 

@@ -1,4 +1,5 @@
-//! The second processor's bus: its memory and the Tube, and what is taken of the counts of the Tube's lines.
+//! The second processor's bus: its memory and the Tube, and the counts of the Tube's lines that it
+//! has taken.
 ghost use Rattle.std.specs.Prelude.{◌≡◌, true};
 
 use crate::memory::{Memory, ROM_START, TUBE, asked};
@@ -11,16 +12,16 @@ use std::marker::Model;
 use tube_chip::{Lines, Op};
 use tube_machine::{Done, Interrupts, TubeBus, Unable};
 
-/// The memory and the Tube, with what is taken of the counts of its lines.
+/// The memory and the Tube, with the counts of the Tube's lines that were taken.
 #[derive(Drop)]
 pub(crate) struct ParaBus {
     pub(crate) clock: Clock,
     pub(crate) memory: Memory,
-    // The Tube's counts as far as they were taken.
+    // The Tube's counts as last taken.
     pub(crate) resets: u32,
     pub(crate) nmis: u32,
     pub(crate) is_held: bool,
-    // It counts as closed at this tick.
+    // The tick at which it counts as closed.
     pub(crate) closed: u64,
 }
 
@@ -189,7 +190,8 @@ impl<N: Notes> TubeBus<N> for ParaBus {
         last_access::<N, ParaBus, L>(part, regs, self)
     }
 
-    // The boot ROM is switched out by an access to the Tube.
+    // While the boot ROM is in, an access to the Tube changes the bus: it switches the boot ROM
+    // out.
     #[inline(always)]
     fn asked(&self, cycle: Cycle) -> Option<Op> {
         if self.memory.rom_in() {

@@ -24,7 +24,7 @@ use tube_machine::{
 };
 use tube_party::{Ask, Desk, NO_LINES, Party, Rewinds};
 
-/// Why no second processor can be made.
+/// The reason why no second processor can be made.
 #[derive(Clone, Copy, Debug, PartialEq, Eq, Error)]
 pub enum ParaError {
     /// The boot ROM has another length than 2,048 bytes.
@@ -34,8 +34,8 @@ pub enum ParaError {
     NoMemory,
 }
 
-/// The 6502 Second Processor: a 65C02 at 3 or 4 MHz, 65,536 bytes of RAM, a boot ROM of 2,048 bytes over F800 to FFFF until the first
-/// access to the Tube, and the Tube at FEF8 to FEFF.
+/// The 6502 Second Processor: a 65C02 at 3 or 4 MHz, 65,536 bytes of RAM, a boot ROM of 2,048 bytes
+/// over F800 to FFFF until the first access to the Tube, and the Tube at FEF8 to FEFF.
 #[derive(Drop)]
 pub struct ParaMachine {
     cpu: Cpu,
@@ -44,10 +44,10 @@ pub struct ParaMachine {
     due: u64,
 }
 
-/// With room for fewer notes than this no stride begins.
+/// With room for fewer notes than `FEWEST` no further stride begins.
 const FEWEST: u64 = 1_024;
 
-/// Where a second processor was when it began to note, and what it has written since.
+/// The state of a second processor at the start of its notes, and what it has written since.
 #[derive(Drop)]
 pub struct Past {
     cpu: Cpu,
@@ -75,10 +75,10 @@ impl Model for ParaMachine {
 impl Crosses for ParaMachine {}
 
 impl ParaMachine {
-    /// The machine at power-on and at this speed, before the first cycle of a reset sequence.
+    /// Makes the machine at power-on and at this speed, before the first cycle of a reset sequence.
     ///
     /// # Errors
-    /// `BadTubeRom` exactly where the boot ROM is not 2,048 bytes long.
+    /// `BadTubeRom` exactly if the boot ROM is not 2,048 bytes long; `NoMemory`.
     pub fn make(alloc: Global, clock: Clock, rom: Vec<u8>) -> Result<ParaMachine, ParaError>
         ensures made { IfOk result (λ machine. machine ≡ power_on clock rom.items) }
         ensures length { IfOk result (λ _. length rom.items ≡ ROM_SIZE) }
@@ -107,8 +107,8 @@ impl ParaMachine {
         })
     }
 
-    /// The registers at the start of the instruction, or of the reset or interrupt, to which the next step belongs. While the
-    /// processor is held they are those after the one before.
+    /// Returns the registers at the start of the instruction, reset or interrupt that the next step
+    /// belongs to. While the processor is held they are those after the one before.
     pub fn regs(&self) -> Regs
         ensures { result ≡ shown_regs self.now }
     {
@@ -119,21 +119,22 @@ impl ParaMachine {
         }
     }
 
-    /// The processor is held by the Tube's reset line.
+    /// Returns `true` if the Tube's reset line holds the processor.
     pub fn held(&self) -> bool
         ensures { result ≡ self.now.bus.is_held }
     {
         self.bus.is_held
     }
 
-    /// The 65,536 bytes of the RAM.
+    /// Returns the 65,536 bytes of the RAM.
     pub fn ram(&self) -> &[u8]
         ensures { result.now ≡ self.now.bus.ram }
     {
         self.bus.memory.ram()
     }
 
-    /// Whether the next step is the first cycle of an instruction: not of a reset or an interrupt, nor one in which it is held.
+    /// Returns `true` if the next step is the first cycle of an instruction: not of a reset or an
+    /// interrupt, and not one while the processor is held.
     #[inline]
     pub fn starting(&self) -> bool
         ensures { result ≡ starting self.now.cpu }
@@ -141,8 +142,9 @@ impl ParaMachine {
         self.cpu.starting()
     }
 
-    /// The byte that a read of this address would give now: the boot ROM's from F800 to FFFF while it is in, and else the RAM's. None exactly
-    /// from FEF8 to FEFF, where the Tube answers. Nothing changes.
+    /// Returns the byte that a read of address `at` would yield now: the boot ROM's from F800 to
+    /// FFFF while it is switched in, and otherwise the RAM's. Returns `None` exactly from FEF8 to
+    /// FEFF, where the Tube answers.
     pub fn peek(&self, at: u16) -> Option<u8>
         ensures value { result ≡ para_peek self.now at }
         ensures read { IfSome result (λ byte. (t : ℕ) → byte ≡ para_wiring.answer self.now.bus t at) }
@@ -151,8 +153,9 @@ impl ParaMachine {
         self.bus.memory.peek(at)
     }
 
-    /// Skips instructions whose starts `passing` passes over. Their looks see these lines, and come before `until` and `sure`. It may stop at any start;
-    /// within an instruction it does nothing.
+    /// Skips instructions whose starts `passing` names. Their looks see these lines, and come
+    /// before `until` and `safe_until`. It may stop at any start. In the middle of an instruction
+    /// it does nothing.
     #[inline(always)]
     pub fn pass(&mut self, until: Tick, lines: &Lines, sure: Tick, passing: Passing)
         requires { until.0 ≤ 2 ^ 30 }
@@ -171,7 +174,7 @@ impl ParaMachine {
         );
     }
 
-    // Notes where the machine is.
+    // Starts notes at the machine's present state.
     #[inline(always)]
     fn mark(&self, past: &mut Past)
         ensures noted { IsNoted self.now past.new.cpu past.new.was_held past.new.due past.new.closed past.new.undo_log.stood.items }
@@ -184,7 +187,7 @@ impl ParaMachine {
         past.undo_log.clear();
     }
 
-    // A tick, not above `sure`, below which a run from here has room for its notes.
+    // Returns a tick, not above `safe_until`, below which a run from here has room for its notes.
     #[inline(always)]
     fn near(&self, sure: Tick, undo_log: &UndoLog) -> Tick
         ensures { let room = vec_capacity undo_log.now.stood - vec_len undo_log.now.stood in
@@ -194,7 +197,8 @@ impl ParaMachine {
         Tick(sure.0.min(self.due.saturating_add(stride)))
     }
 
-    // Goes past the looks that find the reset line as it stands, and is held. What is asked then is a look too.
+    // Goes past the looks that find the reset line on, with the processor held. Returns the next
+    // ask, which is a look too if there is one.
     #[inline(never)]
     fn hold(&mut self, until: Tick, lines: &Lines, sure: Tick) -> Ask
         requires room { until.0 ≤ 2 ^ 30 }
@@ -216,7 +220,8 @@ impl ParaMachine {
         look::<NoNotes, Cpu, ParaBus>(&self.cpu, &mut self.bus, self.due, until)
     }
 
-    // Goes on from where it is, with the accesses that the desk answers, and notes that. It may leave off at any look.
+    // Runs the machine, with the accesses that the port answers, and notes its steps. It may stop
+    // at any look.
     #[inline(never)]
     fn go_noting<K: Desk>(
         &mut self,
@@ -276,7 +281,7 @@ impl Party for ParaMachine {
 
     #[inline(always)]
     fn advance(&mut self, until: Tick) -> Ask {
-        // No look is below tick 0, so that none sees these lines.
+        // No look is below tick 0, so none sees these lines.
         self.advance_seeing(until, &NO_LINES, Tick(0))
     }
 

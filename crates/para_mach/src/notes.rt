@@ -1,25 +1,25 @@
-//! What is noted of the writes to the RAM, so that they can be rolled back.
+//! Notes of the writes to the RAM, which can then be rolled back.
 ghost use Rattle.std.specs.Prelude.{ℕ, List, [], Bool, ◌≡◌, ◌<◌, ◌≤◌, ◌+◌, ◌-◌, min, length, slice_index, slice_set, vec_len, vec_capacity, true, false, IfOk};
 ghost use Rattle.para_mach.specs.CodeNotes.{put_back};
 
 use std::alloc::{AllocError, Global};
 
-/// What is told of each write to the RAM, before it is done.
+/// Receives each write to the RAM before it is done.
 pub(crate) trait Notes {
-    /// The RAM before the writes, by the RAM after them.
+    /// The RAM before the writes, from the notes and the RAM after them.
     ghost before: { Self → List ℕ → List ℕ };
 
     /// There is always room.
     ghost endless: { Bool };
 
-    /// For how many writes there is room at least.
+    /// The number of further writes for which there is room, at least.
     ghost room: { Self → ℕ };
 
-    /// Whether there is room for two writes.
+    /// Returns `true` only if there is room for two writes.
     fn has_room(&self) -> bool
         ensures { result ≡ true → 2 ≤ room self.now };
 
-    /// Notes the byte that stands at an address. False, and nothing is noted, where there is no room.
+    /// Notes the byte at an address. Returns `false`, with nothing noted, if there is no room.
     fn note(&mut self, at: u16, byte: u8) -> bool
         ensures noted { result ≡ true → (ram : List ℕ) (x : ℕ) → slice_index ram at ≡ byte →
             before self.new (slice_set ram at x) ≡ before self.old ram }
@@ -27,7 +27,7 @@ pub(crate) trait Notes {
         ensures full { result ≡ false → (self.new ≡ self.old) × (endless ≡ false) × (room self.old ≡ 0) };
 }
 
-/// Nothing is noted.
+/// Notes nothing.
 #[derive(Drop)]
 pub(crate) struct NoNotes;
 
@@ -49,17 +49,17 @@ impl Notes for NoNotes {
     }
 }
 
-/// A byte that stood at an address.
+/// The former byte of an address.
 #[derive(Clone, Copy, Drop)]
 pub(crate) struct Stood {
     pub(crate) at: u16,
     pub(crate) byte: u8,
 }
 
-/// How many writes can be noted.
+/// The number of writes that can be noted.
 const ROOM: usize = 65_536;
 
-/// The bytes that stood where the RAM was written, the oldest first.
+/// The former bytes of the addresses that were written, the oldest first.
 #[derive(Drop)]
 pub(crate) struct UndoLog {
     pub(crate) stood: Vec<Stood>,
@@ -67,13 +67,13 @@ pub(crate) struct UndoLog {
 }
 
 impl UndoLog {
-    /// Room for notes.
+    /// Makes room for notes.
     pub(crate) fn new(alloc: Global) -> Result<UndoLog, AllocError> {
         let stood = Vec::with_capacity(alloc, ROOM)?;
         Ok(UndoLog { stood })
     }
 
-    /// Nothing is noted yet.
+    /// Drops all notes.
     #[inline(always)]
     pub(crate) fn clear(&mut self)
         ensures items { self.new.stood.items ≡ [] }
@@ -82,7 +82,7 @@ impl UndoLog {
         self.stood.clear();
     }
 
-    /// For how many writes there is room.
+    /// Returns the number of further writes for which there is room, at most `ROOM`.
     #[inline(always)]
     pub(crate) fn room(&self) -> u64
         ensures { result ≡ min (vec_capacity self.now.stood - vec_len self.now.stood) 65536 }
