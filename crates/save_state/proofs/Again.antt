@@ -1,4 +1,4 @@
--- What is kept of a run below its moment is the run to that moment.
+-- What is stored of a run below its moment is the run to that moment.
 use Rattle.std.proofs.Common.{ℕ, zero, suc, ◌≡◌, ◌-◌, ◌<◌, ◌≤◌, nat_lt, nat_le, refl, sym, ◌∙◌, ap, arith, Bool, true, false, List, [], ◌∷◌, length, map, take, drop}
 use Rattle.std.proofs.Common.{slice_index_or, if◌then◌else◌}
 use Rattle.std.specs.Prelude.{All, IsTrue}
@@ -32,18 +32,18 @@ IsFrom t e = t ≤ (e.tick).0
 abbrev IsBelow : ℕ → Entry → Type 0
 IsBelow n e = (e.tick).0 < n
 
--- all that stand behind an entry are not sooner
+-- all that follow an entry are not sooner
 all_from : {t : ℕ} (x : Entry) (xs : List Entry) → t ≤ (x.tick).0 → RisesAfter (event_of x) (events_of xs) → All (IsFrom t) xs
 all_from {t} x [] low rises = All-nil (IsFrom t)
 all_from {t} x (y ∷ xs) low rises =
     let on : (x.tick).0 ≤ (y.tick).0 = not_sooner x.side y.side rises.0 in
     All-cons (IsFrom t) y xs (omega arith) (all_from y xs (omega arith) rises.1)
 
--- the tick of an entry, 0 where there is none
+-- the tick of an entry, or 0 if there is none
 abbrev tick_at : List Entry → ℕ → ℕ
 tick_at xs i = slice_index_or (map (λ e. (e.tick).0) xs) i 0
 
--- those behind the first `keep` are not sooner than one of these
+-- those after the first `keep` are not sooner than one of these
 behind : (keep : ℕ) (xs : List Entry) (i : ℕ) → Rises (events_of xs) → All (IsFrom (tick_at (take keep xs) i)) (drop keep xs)
 behind zero xs i rises = λ k d lt. omega arith
 behind (suc n) [] i rises = λ k d lt. omega arith
@@ -57,7 +57,7 @@ below_twice : {c at : ℕ} (xs : List Entry) → c ≤ at → entries_below c (e
 below_twice [] le = refl
 below_twice {c} {at} (x ∷ xs) le = grind (arith, nat_tests, below_twice {c = c} {at = at} xs le)
 
--- of the first `keep`, where none behind them is below it
+-- of the first `keep`, if none after them is below it
 below_kept : {c : ℕ} (keep : ℕ) (xs : List Entry) → All (IsFrom c) (drop keep xs) → entries_below c (take keep xs) ≡ entries_below c xs
 below_kept {c} keep xs high =
     sym (rw (take-append-drop keep xs, below_none c (drop keep xs) high, append-nil (entries_below c (take keep xs))) at
@@ -113,7 +113,8 @@ saved_run {h} {p} trace replayed shorter s t n keep =
     let is : IsTraceBelow n all = trace s t n in
     saved_by h p trace replayed shorter s t n keep (moment_of n keep all) (moment_by (nat_le (length all) keep) refl is.rises is.below)
 
--- a session that keeps the rules keeps them with another moment, and with the accesses of a trace below that
+-- a session that keeps the rules keeps them with another moment, and with the accesses of a trace
+-- below it
 pub keeps_rules : {b : Session} {at : ℕ} {entries : List Entry} → IsSession b → at ≤ 1073741824 → length entries ≤ 4194304 → All HasLine entries →
     IsTraceBelow at entries → IsSession (record b { ticks = at; entries = entries })
 keeps_rules begun most few lines trace = record {

@@ -1,4 +1,4 @@
--- An access that is read stands there, and is read where it stands.
+-- An access that is read is in the file, and is read where it is.
 use Rattle.std.proofs.Common.{◌≡◌, ◌∙◌, refl, sym, ap, ℕ, zero, suc, ◌+◌, ◌*◌, ◌/◌, ◌%◌, ◌<◌, ◌≤◌, ◌^◌, true, List, [], ◌∷◌, ◌++◌, length, get_or, drop, Option, None}
 use Rattle.std.proofs.Common.{Some, Ok, All, arith, lt-ltb}
 use Rattle.std.proofs.lemmas.List.{nil_from_length}
@@ -27,7 +27,7 @@ use Rattle.save_state.proofs.Reading.{Reads, then, stop, of_field}
 
 -- ---- the byte of side, operation and register
 
--- What it says of an operation with a byte: its bits, and that the operation tells the byte.
+-- What it says of an operation with a byte: its bits, and that the operation determines the byte.
 record Says (s : Side) (k r y : ℕ) (op : Op) : Type 0 where
   bits : op_bits op + number_of op ≡ 32 * k + r
   may : MayDo s op
@@ -126,7 +126,7 @@ long_entry : (e : Entry) → length (entry_bytes e) ≡ 7
 unfolding entry_bytes
 long_entry e = refl
 
--- ---- an access behind another
+-- ---- an access after another
 
 placed_some : {ticks : ℕ} (last o : Option Entry) {e : Entry} → in_order ticks last o ≡ Some e → (o ≡ Some e) × ((e.tick).0 < ticks) × (follows last e ≡ true)
 placed_some last o is = grind (arith, nat_tests)
@@ -134,13 +134,13 @@ placed_some last o is = grind (arith, nat_tests)
 abbrev pub IsBelow : ℕ → Entry → Type 0
 IsBelow ticks e = (e.tick).0 < ticks
 
--- Accesses that have fields, below a tick, each behind the one before it.
+-- Accesses that have fields, below a tick, each after the one before it.
 pub record Behind (ticks : ℕ) (last : Option Entry) (es : List Entry) : Type 0 where
   pub lines : All HasLine es
   pub below : All (IsBelow ticks) es
   pub rises : RisesBehind last es
 
--- an access that may stand behind another
+-- an access that may follow another
 abbrev Next : ℕ → Option Entry → Entry → Type 0
 Next ticks last e = HasLine e × ((e.tick).0 < ticks) × (follows last e ≡ true)
 

@@ -22,7 +22,7 @@ use Rattle.save_state.proofs.Reading.{Reads, alike, then, last, of_byte, number_
 use Rattle.save_state.proofs.PartLaws.{Part, IsShort, part_short, disc_short, each_short, part_law, disc_law, each_law, as_many}
 use Rattle.save_state.proofs.EntryLaws.{Behind, entries_law}
 
--- ---- what stands in front of the parts
+-- ---- the fields before the parts
 
 clock_again : (clock : Clock) → clock_in (speed_of clock) ≡ Some clock
 clock_again clock = grind arith

@@ -1,4 +1,4 @@
--- What goes on from there is what was played from the start.
+-- What continues from there is what was played from the start.
 use Rattle.std.proofs.Common.{ℕ, ◌≡◌, List, Option, None}
 use Rattle.beeb_bits.specs.declared.Side.{Side}
 use Rattle.beeb_bits.specs.declared.Side.TheVariants.{Host, Para}

@@ -18,7 +18,7 @@ Read A = Result (A × ℕ) StateError
 abbrev pub with_front : {A : Type 0} → List A → Read (List A) → Read (List A)
 with_front front read = read >>= λ x. Ok (front ++ x.0, x.1)
 
--- one thing, and then a list behind it
+-- one thing, and then a list after it
 abbrev step : {A : Type 0} → Read A → (A × ℕ → Read (List A)) → Read (List A)
 step one others = one >>= λ x. others x >>= λ y. Ok (x.0 ∷ y.0, y.1)
 

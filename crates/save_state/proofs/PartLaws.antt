@@ -1,4 +1,4 @@
--- A part that is read stands there, and is read where it stands.
+-- A part that is read is in the file, and is read where it is.
 use Rattle.std.proofs.Common.{◌≡◌, refl, sym, ap, ℕ, ◌<◌, ◌≤◌, ◌^◌, Bool, true, false, cond, List, [], ◌∷◌, ◌++◌, length, get_or, drop, Option, None, Some, Ok, IfSome, All}
 use Rattle.std.proofs.Common.{arith, eqb, leb, le-leb}
 use Rattle.std.proofs.lemmas.Bool.Decides.{nat_tests}
@@ -96,7 +96,7 @@ kind_law len = of_byte (kind_of len) kind_byte to from
     from true short = refl
     from false short = rw (le-leb len 204800 (short refl))
 
--- its kind and its bytes, where it is there
+-- its kind and its bytes, if it is present
 abbrev behind_length : Part → Bool → List ℕ
 behind_length None dsd = []
 behind_length (Some body) dsd = kind_byte dsd ∷ body

@@ -1,4 +1,4 @@
--- What is read of a file, one field after another, and the bytes that stand for it.
+-- What is read of a file, one field after another, and the bytes that represent it.
 use Rattle.std.proofs.Common.{◌≡◌, true, ◌∙◌, refl, sym, ap, ℕ, ◌+◌, ◌<◌, ◌≤◌, ◌^◌, List, [], ◌∷◌, ◌++◌, length, Option, Some, Ok, arith, leb, le-leb, bytes_eq}
 use Rattle.std.specs.Int.{w32, to_be_bytes}
 use Rattle.std.proofs.lemmas.Slice.Eq.{bytes_eq-Decides}
@@ -11,7 +11,7 @@ pub record Reads {A : Type 0} (p : Fields A) (text : A → List ℕ) (Good : A �
   pub reads : (bytes : List ℕ) (at : ℕ) (x : A × ℕ) → AreBytes bytes → at ≤ length bytes → p bytes at ≡ Ok x → Stands bytes at (text x.0) x.1 × Good x.0
   pub again : (bytes : List ℕ) (at : ℕ) (a : A) (next : ℕ) → Good a → Stands bytes at (text a) next → p bytes at ≡ Ok (a, next)
 
--- the same of other words for what is good
+-- as above, with other words for what is good
 pub alike : {A : Type 0} {p : Fields A} {text : A → List ℕ} {Good Fine : A → Type 0} →
     Reads p text Good → ((a : A) → Good a → Fine a) → ((a : A) → Fine a → Good a) → Reads p text Fine
 alike here to from = record {
@@ -21,7 +21,7 @@ alike here to from = record {
 
 -- ---- in order
 
--- one thing and then another, which goes by the first
+-- one thing and then another, which depends on the first
 pub then : {A C : Type 0} {p : Fields A} {text : A → List ℕ} {Good : A → Type 0} (q : A → Fields C) (first : C → A) (rest : C → List ℕ)
     {whole : C → List ℕ} {Whole : C → Type 0} → Reads p text Good → ((c : C) → Whole c → Good (first c) × (whole c ≡ text (first c) ++ rest c)) →
     ((a : A) → Good a → Reads (q a) rest (λ c. Whole c × (first c ≡ a))) → Reads (λ bytes at. p bytes at >>= λ x. q x.0 bytes x.1) whole Whole

@@ -1,4 +1,4 @@
--- Bytes that stand in a file from an offset on, and fields that are read there.
+-- Bytes that a file holds from an offset on, and fields that are read there.
 use Rattle.std.proofs.Common.{◌≡◌, ◌∙◌, refl, sym, ℕ, ◌+◌, ◌-◌, ◌<◌, ◌≤◌, ◌^◌, Bool, true, false, cond, List, [], ◌∷◌, ◌++◌, length, drop, Option, Some, Result}
 use Rattle.std.proofs.Common.{Ok, Err, append_assoc, arith, leb, leb-true, le-leb}
 use Rattle.std.specs.Prelude.{slice_range, slice_index}
@@ -12,7 +12,7 @@ use Rattle.save_state.specs.declared.StateError.TheVariants.{BadField}
 use Rattle.save_state.specs.Fields.{field, value_or_fault, up_to, number, ◌>>=◌}
 use Rattle.save_state.specs.Laws.{AreBytes}
 
--- Bytes stand in a file from one offset to another.
+-- A file holds bytes from one offset to another.
 pub record Stands (bytes : List ℕ) (at : ℕ) (text : List ℕ) (next : ℕ) : Type 0 where
   pub here : drop at bytes ≡ text ++ drop next bytes
   pub to : next ≡ at + length text
@@ -21,7 +21,7 @@ pub record Stands (bytes : List ℕ) (at : ℕ) (text : List ℕ) (next : ℕ) :
 pub stands_then : {bytes : List ℕ} {at : ℕ} {x : List ℕ} {mid : ℕ} {y : List ℕ} {next : ℕ} → Stands bytes at x mid → Stands bytes mid y next → Stands bytes at (x ++ y) next
 stands_then {x} {y} p q = record { here = rw (p.here, q.here, append_assoc); to = omega (arith, length-append x y); within = q.within }
 
--- two that stand behind one another
+-- two parts of a file, one after the other
 pub stands_apart : {bytes : List ℕ} {at : ℕ} (x : List ℕ) {y : List ℕ} {next : ℕ} → Stands bytes at (x ++ y) next →
     Stands bytes at x (at + length x) × Stands bytes (at + length x) y next
 stands_apart {bytes} {at} x {y} {next} s =
@@ -54,7 +54,7 @@ some_is e = cc
 
 -- ---- one field
 
--- What was read of a field: these bytes stand there, and mean this.
+-- What was read of a field: the file holds these bytes there, and they have this meaning.
 pub record Held {A : Type 0} (size : ℕ) (meaning : List ℕ → Option A) (bytes : List ℕ) (at : ℕ) (a : A) (next : ℕ) : Type 0 where
   pub text : List ℕ
   pub stands : Stands bytes at text next

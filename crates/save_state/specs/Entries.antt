@@ -1,5 +1,5 @@
--- The accesses in a session file: each is one field of seven bytes, the tick in five, the side with the operation and the register, and the byte
--- that a line of a trace has.
+-- The accesses in a session file: each is one field of seven bytes, the tick in five, the side with
+-- the operation and the register in one, and the byte that a line of a trace has.
 use Rattle.std.specs.Prelude.{ℕ, zero, suc, ◌+◌, ◌/◌, ◌%◌, ◌==◌, ◌&&◌, nat_lt, nat_le, List, [], ◌∷◌, ◌++◌, take, drop, slice_index, Option, None, Some, Ok, if◌then◌else◌}
 use Rattle.std.specs.Int.{w64, from_be_bytes, to_be_bytes}
 use Rattle.beeb_bits.specs.declared.Side.{Side}
@@ -20,7 +20,8 @@ tick_in bytes = from_be_bytes w64 (0 ∷ 0 ∷ 0 ∷ take 5 bytes)
 abbrev pub side_in : ℕ → Side
 side_in form = if nat_le 128 form then Para else Host
 
--- Bits 6 and 5: 00 a read, 01 a write, 10 a reset, which has register 0 and byte 00 and is the host's.
+-- Bits 6 and 5: 00 a read, 01 a write, 10 a reset, which has register 0 and byte 00 and is the
+-- host's.
 abbrev pub op_by : ℕ → Side → ℕ → ℕ → Option Op
 op_by zero side register byte = Some (Read register)
 op_by (suc zero) side register byte = Some (Write register byte)
@@ -36,7 +37,7 @@ abbrev pub entry_in : List ℕ → Option Entry
 entry_in bytes =
     entry_by (tick_in bytes) (side_in (slice_index bytes 5)) (slice_index bytes 6) (op_in (slice_index bytes 5) (slice_index bytes 6))
 
--- it lies below a tick, and after the one before it
+-- an access is below tick `ticks`, and after the one before it
 abbrev pub in_order : ℕ → Option Entry → Option Entry → Option Entry
 in_order ticks last None = None
 in_order ticks last (Some e) = if nat_lt (e.tick).0 ticks && follows last e then Some e else None
@@ -44,7 +45,7 @@ in_order ticks last (Some e) = if nat_lt (e.tick).0 ticks && follows last e then
 unfoldable pub next_entry : ℕ → Option Entry → List ℕ → Option Entry
 next_entry ticks last bytes = in_order ticks last (entry_in bytes)
 
--- so many accesses behind another
+-- the given number of accesses, after access `last`
 unfoldable pub entries_at : ℕ → ℕ → Option Entry → Fields (List Entry)
 entries_at ticks zero last bytes at = Ok ([], at)
 entries_at ticks (suc count) last bytes at = do
@@ -52,7 +53,7 @@ entries_at ticks (suc count) last bytes at = do
   others ← entries_at ticks count (Some first.0) bytes first.1
   Ok (first.0 ∷ others.0, others.1)
 
--- ---- What stands for them
+-- ---- Their bytes
 
 abbrev pub side_bits : Side → ℕ
 side_bits Host = 0

@@ -20,7 +20,8 @@ use Rattle.save_state.specs.Entries.{entries_at, entry_bytes}
 abbrev pub clock_in : ℕ → Option Clock
 clock_in speed = if speed == 3 then Some Three else if speed == 4 then Some Four else None
 
--- The tick of the moment, and what stands in front of the parts.
+-- The fields before the parts: the clock, the tick of the moment, and the number of plugged
+-- devices.
 pub record Header : Type 0 where
   pub clock : Clock
   pub ticks : ℕ
@@ -68,7 +69,7 @@ speed_of Four = 4
 abbrev pub header_bytes : Clock → ℕ → ℕ → List ℕ
 header_bytes clock ticks plugs = codes "BTUB" ++ 1 ∷ speed_of clock ∷ to_be_bytes w32 ticks ++ plugs ∷ []
 
--- the part at a place
+-- the part at an index
 abbrev pub part : Session → ℕ → Option (List ℕ)
 part s place = slice_index_or s.parts place None
 
@@ -91,12 +92,12 @@ file_of s = header_bytes s.clock s.ticks s.plugs ++ parts_bytes s ++ list_bytes 
 
 -- ---- The rules of a session
 
--- a part of a kind, if it may be absent or is there and of a length of its kind
+-- a part of a kind: absent, if it may be, or of a length of its kind
 abbrev pub IsPart : Kind → Option (List ℕ) → Type 0
 IsPart kind None = IsTrue (may_lack kind)
 IsPart kind (Some body) = IsTrue (fits kind (length body))
 
--- a disc of a kind, where an SSD has at most 204,800 bytes; one that is absent is no DSD
+-- a disc: an SSD has at most 204,800 bytes, and an absent one is no DSD
 abbrev pub IsDisc : Option (List ℕ) → Bool → Type 0
 IsDisc None dsd = dsd ≡ false
 IsDisc (Some body) dsd = IsTrue (fits Disc (length body)) × (dsd ≡ false → length body ≤ 204800)

@@ -1,4 +1,4 @@
--- What is written reads back, and nothing else reads so.
+-- What is written reads back, and no other bytes are read so.
 use Rattle.std.specs.Prelude.{ℕ, ◌≡◌, ◌<◌, List, Ok}
 use Rattle.std.specs.Prelude.{slice_index_or}
 use Rattle.save_state.specs.Saved.{Session}

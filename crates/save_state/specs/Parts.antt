@@ -5,7 +5,7 @@ use Rattle.save_state.specs.declared.parts.Kind.{Kind}
 use Rattle.save_state.specs.declared.parts.Kind.TheVariants.{Os, Tube, Rom, Font, Disc, Keys}
 use Rattle.save_state.specs.Fields.{Fields, field, number, byte, ◌>>=◌}
 
--- how long a part of a kind may be
+-- the lengths that a part of a kind may have
 abbrev pub fits : Kind → ℕ → Bool
 fits Os len = len == 16384
 fits Tube len = len == 2048
@@ -27,7 +27,7 @@ may_lack Keys = true
 abbrev pub length_of : Kind → ℕ → Option (Option ℕ)
 length_of kind len = if fits kind len then Some (Some len) else None
 
--- What a part's length field says: FFFFFFFF of a part that is absent.
+-- The meaning of a part's length field: FFFFFFFF for a part that is absent.
 abbrev pub length_in : Kind → List ℕ → Option (Option ℕ)
 length_in kind bytes =
     if number bytes == 0xFFFFFFFF then (if may_lack kind then Some None else None) else length_of kind (number bytes)
@@ -45,14 +45,15 @@ part_at kind bytes at = do
   len ← field 4 (length_in kind) bytes at
   body_at len.0 bytes len.1
 
--- What the kind field of a disc of this length says: 00 is an SSD, which has at most 204,800 bytes, and 01 a DSD.
+-- The meaning of the kind field of a disc of this length: 00 is an SSD, which has at most 204,800
+-- bytes, and 01 a DSD.
 abbrev pub kind_in : ℕ → List ℕ → Option Bool
 kind_in len bytes =
     if byte bytes == 0 then (if nat_le len 204800 then Some false else None)
     else if byte bytes == 1 then Some true
     else None
 
--- an image, and whether it is of a disc with two sides
+-- an image, with `true` if it is of a disc with two sides
 abbrev pub image_at : Option ℕ → Fields (Option (List ℕ) × Bool)
 image_at None bytes at = Ok ((None, false), at)
 image_at (Some len) bytes at = do
@@ -60,13 +61,13 @@ image_at (Some len) bytes at = do
   body ← field len Some bytes dsd.1
   Ok ((Some body.0, dsd.0), body.1)
 
--- a disc: its kind field stands between its length field and its bytes
+-- a disc: its kind field comes between its length field and its bytes
 unfoldable pub disc_at : Fields (Option (List ℕ) × Bool)
 disc_at bytes at = do
   len ← field 4 (length_in Disc) bytes at
   image_at len.0 bytes len.1
 
--- the parts in front of the discs: both ROMs, those of the sixteen slots, and the font
+-- the parts before the discs: both ROMs, those of the sixteen slots, and the font
 abbrev pub first_kinds : List Kind
 first_kinds = Os ∷ Tube ∷ replicate 16 Rom ++ Font ∷ []
 
@@ -77,7 +78,7 @@ each_at (kind ∷ kinds) bytes at = do
   others ← each_at kinds bytes part.1
   Ok (part.0 ∷ others.0, others.1)
 
--- all parts, and which of the discs have two sides
+-- all parts, with `true` for each disc that has two sides
 pub record Parts : Type 0 where
   pub parts : List (Option (List ℕ))
   pub dsd : List Bool
@@ -90,7 +91,7 @@ parts_at bytes at = do
   keys ← part_at Keys bytes disc1.1
   Ok (record { parts = first.0 ++ disc0.0.0 ∷ disc1.0.0 ∷ keys.0 ∷ []; dsd = disc0.0.1 ∷ disc1.0.1 ∷ [] }, keys.1)
 
--- ---- What stands for them
+-- ---- Their bytes
 
 -- its length, and its bytes
 abbrev pub part_bytes : Option (List ℕ) → List ℕ

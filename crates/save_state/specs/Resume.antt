@@ -1,4 +1,4 @@
--- Going on from the accesses of a session.
+-- A run that continues from the accesses of a session.
 use Rattle.std.specs.Prelude.{ℕ, ◌≡◌, ◌≤◌, ◌-◌, nat_le, List, length, map, take, slice_index_or, Option, None, Some, if◌then◌else◌}
 use Rattle.beeb_bits.specs.declared.Side.TheVariants.{Host, Para}
 use Rattle.tube_trace.specs.declared.Entry.{Entry}
@@ -9,30 +9,33 @@ use Rattle.tube_party.specs.Replay.{replay_of}
 use Rattle.tube_party.specs.Reference.{reference, IsTraceBelow}
 use Rattle.tube_party.specs.GoingOn.{entries_below}
 
--- the host's place, or the parasite's where the host has none
+-- the host's place, or the parasite's if the host has none
 abbrev pub host_first : Option (ℕ × Option Doing) → Option (ℕ × Option Doing) → Option (ℕ × Option Doing)
 host_first None para = para
 host_first (Some place) para = Some place
 
--- The first difference between two parties and these accesses, up to a tick: that of the host's replay, or that of the parasite's where the host's meets none.
+-- The first difference between two parties and these accesses, up to a tick: that of the host's
+-- replay, or of the parasite's if the host's meets none.
 abbrev pub first_difference : {S T : Type 0} → Moves S → Moves T → List Entry → ℕ → S → T → Option (ℕ × Option Doing)
 first_difference h p entries at s t = host_first (replay_of h Host entries at s).place (replay_of p Para entries at t).place
 
--- Accesses that a session has of two parties, up to a moment: they are a trace, and up to no tick that is not past the moment do the parties differ from those below it.
+-- The accesses that a session has of two parties, up to a moment: they are a trace, and up to each
+-- tick that is not past the moment the parties do not differ from the accesses below the tick.
 pub record IsResumed {S T : Type 0} (h : Moves S) (p : Moves T) (s : S) (t : T) (entries : List Entry) (at : ℕ) : Type 0 where
   pub legal : IsTraceBelow at entries
   pub legal_before : (c : ℕ) → c ≤ at → IsTraceBelow c (entries_below c entries)
   pub agree : (c : ℕ) → c ≤ at → first_difference h p (entries_below c entries) c s t ≡ None
 
--- the tick of the last entry, 0 where there is none
+-- the tick of the last entry, or 0 if there is none
 abbrev pub last_tick : List Entry → ℕ
 last_tick entries = slice_index_or (map (λ e. (e.tick).0) entries) (length entries - 1) 0
 
--- The moment of a run of n ticks, of whose accesses the first `keep` are kept: the end of the run, where these are all, and else the tick of the last of them.
+-- The moment of a run of n ticks that stores the first `keep` of its accesses: the end of the run
+-- if these are all, and otherwise the tick of the last of them.
 abbrev pub moment_of : ℕ → ℕ → List Entry → ℕ
 moment_of n keep all = if nat_le (length all) keep then n else last_tick (take keep all)
 
--- The accesses of a run that are kept, those below its moment, are what the parties do again.
+-- The parties repeat the stored accesses of a run that lie below its moment.
 abbrev pub SavedRunIsResumed : {S T : Type 0} → Moves S → Moves T → Type 0
 SavedRunIsResumed {S} {T} h p =
     (s : S) (t : T) (n keep : ℕ) →

@@ -1,11 +1,12 @@
--- What a session file holds.
+-- The contents of a session file.
 use Rattle.std.specs.Prelude.{ℕ, Bool, List, Option}
 use Rattle.beeb_bits.specs.declared.clock.Clock.{Clock}
 use Rattle.tube_trace.specs.declared.Entry.{Entry}
 use Rattle.save_state.specs.declared.Saved.{Saved}
 
--- A session without where it lies in memory: the clock and the tick of the moment, how many devices are plugged, the parts in their order, which
--- of the two discs are double-sided, and the accesses to the Tube up to the moment.
+-- A session as plain values: the clock and the tick of the moment, the number of plugged devices,
+-- the parts in their order, which of the two discs are double-sided, and the accesses to the Tube
+-- below the moment.
 pub record Session : Type 0 where
   pub clock : Clock
   pub ticks : ℕ

@@ -1,4 +1,4 @@
-//! Bytes of a part.
+//! The bytes of a part.
 ghost use Rattle.std.specs.Prelude.{◌≡◌};
 
 use std::marker::Model;
@@ -18,21 +18,21 @@ impl Model for Blob {
 }
 
 impl Blob {
-    /// These bytes.
+    /// Makes a part of these bytes.
     pub fn new(bytes: Vec<u8>) -> Blob
         ensures { result ≡ bytes.items }
     {
         Blob { bytes }
     }
 
-    /// The bytes.
+    /// Returns the bytes.
     pub fn bytes(&self) -> &[u8]
         ensures { result.now ≡ self.now }
     {
         self.bytes.as_slice()
     }
 
-    /// The bytes, handed back.
+    /// Returns the bytes, in place of the part.
     pub fn into_bytes(self) -> Vec<u8>
         ensures { result.items ≡ self }
     {

@@ -18,10 +18,10 @@ const LAST_TICK: u32 = 1_073_741_824;
 /// The most accesses that a session holds.
 const MOST_ENTRIES: u32 = 4_194_304;
 
-/// The most devices that are plugged.
+/// The most devices that can be plugged.
 const MOST_PLUGS: u8 = 8;
 
-// What stands in front of the parts.
+// The fields before the parts.
 #[derive(Clone, Copy)]
 struct Header {
     clock: Clock,
@@ -108,17 +108,17 @@ fn file(alloc: Global, bytes: &[u8]) -> Result<Saved, StateError>
     })
 }
 
-/// The session that a file holds.
+/// Returns the session that a file holds.
 ///
 /// # Errors
-/// `BadField` exactly where the bytes are no session file: its fields are tried in order, and the first at fault tells the offset. Memory can be
-/// wanting.
+/// `BadField` exactly if the bytes are no session file: its fields are tried in order, and the
+/// first at fault gives the offset. `NoMemory`.
 pub fn decode(alloc: Global, bytes: &[u8]) -> Result<Saved, StateError>
-    // Which session it is, or which field is at fault.
+    // The session, or the field at fault.
     ensures exact { Gives session result (file bytes.now) }
     // What is read keeps the rules, and the file is the one of that session.
     ensures found { IfOk result (λ s. IsSession (session s) × (bytes.now ≡ file_of (session s))) }
-    // The file of a session that keeps the rules is read as that session, unless memory is wanting.
+    // The file of a session that keeps the rules is read as that session, unless memory runs out.
     ensures only { (s : Session) → IsSession s → bytes.now ≡ file_of s → Gives session result (Ok s) }
 {
     file(alloc, bytes)

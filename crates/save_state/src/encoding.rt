@@ -23,7 +23,7 @@ fn speed_of(clock: Clock) -> u8
     }
 }
 
-// What stands in front of the parts.
+// Returns the bytes before the parts.
 fn header(clock: Clock, ticks: u32, plugs: u8) -> [u8; 11]
     ensures { result ≡ header_bytes clock ticks plugs }
 {
@@ -107,7 +107,7 @@ fn push_list(file: &mut Vec<u8>, entries: &[Entry]) -> Result<(), AllocError>
     Ok(())
 }
 
-// How many bytes the parts have, with their length fields.
+// Returns the number of bytes of the parts, with their length fields.
 fn parts_room(parts: &[Option<Blob>]) -> usize {
     let mut room: usize = 0;
     for part in parts {
@@ -120,7 +120,8 @@ fn parts_room(parts: &[Option<Blob>]) -> usize {
     room
 }
 
-// How many bytes the file has: what stands in front of the parts, the parts, the kind fields of two discs, and the accesses.
+// Returns the number of bytes of the file: the fields before the parts, the parts, the kind fields
+// of two discs, and the accesses.
 fn room(saved: &Saved) -> usize {
     let list = saved.entries.len().saturating_mul(LENGTH);
     parts_room(&saved.parts)
@@ -140,14 +141,14 @@ fn file_of(alloc: Global, saved: &Saved) -> Result<Vec<u8>, AllocError>
     Ok(file)
 }
 
-/// The one file of a session.
+/// Returns the one file of a session.
 ///
 /// # Errors
-/// Memory can be wanting.
+/// Out of memory.
 pub fn encode(alloc: Global, saved: &Saved) -> Result<Vec<u8>, NoMemory>
     requires { IsSession (session saved.now) }
     ensures file { IfOk result (λ v. v.items ≡ file_of (session saved.now)) }
-    // In words: `decode` gives this session of it.
+    // In words: `decode` returns this session.
     ensures back { IfOk result (λ v. file v.items ≡ Ok (session saved.now)) }
 {
     file_reads_back();

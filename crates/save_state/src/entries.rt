@@ -14,7 +14,7 @@ use std::alloc::{AllocError, Global};
 use tube_chip::Op;
 use tube_trace::Entry;
 
-/// How many bytes the field of an access has.
+/// The number of bytes of the field of an access.
 pub(crate) const LENGTH: usize = 7;
 
 fn tick_in(field: &[u8]) -> Tick
@@ -98,7 +98,8 @@ fn next_entry(ticks: Tick, last: Option<Entry>, field: &[u8]) -> Option<Entry>
     }
 }
 
-// The access of a field behind another, below the moment, and the offset behind it.
+// Reads an access below the moment and after access `last`. Returns the access, and the offset
+// after its field.
 fn entry_at(
     ticks: Tick,
     last: Option<Entry>,
@@ -114,7 +115,8 @@ fn entry_at(
     }
 }
 
-/// So many accesses below the moment, each behind the one before it, and the offset behind them.
+/// Reads `count` accesses below the moment, each after the one before it. Returns the accesses, and
+/// the offset after them.
 pub(crate) fn entries_at(
     alloc: Global,
     ticks: Tick,

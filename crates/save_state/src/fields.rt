@@ -5,7 +5,7 @@ ghost use Rattle.save_state.specs.Fields.{field, exactly, up_to, number, byte, G
 
 use crate::StateError;
 
-/// The bytes of a field, if the file does not end before their end.
+/// Returns the bytes of a field, if the file does not end before their end.
 pub(crate) fn field(bytes: &[u8], at: usize, size: usize) -> Result<&[u8], StateError>
     ensures { MatchResult result
         (λ f. (at + size ≤ length bytes.now) × (f.now ≡ slice_range bytes.now at (at + size)) × (length f.now ≡ size))
@@ -18,7 +18,7 @@ pub(crate) fn field(bytes: &[u8], at: usize, size: usize) -> Result<&[u8], State
     Ok(&bytes[at..at + size])
 }
 
-/// A field that is outside its set.
+/// Returns the fault of a field at offset `at` that is outside its set.
 pub(crate) fn outside(at: usize) -> StateError
     ensures { result ≡ BadField at }
 {
@@ -32,7 +32,7 @@ fn number_in(field: &[u8]) -> u32
     u32::from_be_bytes([field[0], field[1], field[2], field[3]])
 }
 
-/// A field with exactly these bytes, and the offset behind it.
+/// Reads a field with exactly these bytes. Returns the offset after it.
 pub(crate) fn exactly_at(want: &[u8], bytes: &[u8], at: usize) -> Result<usize, StateError>
     ensures { Gives (λ next. (want.now, next)) result (field (length want.now) (exactly want.now) bytes.now at) }
 {
@@ -44,7 +44,7 @@ pub(crate) fn exactly_at(want: &[u8], bytes: &[u8], at: usize) -> Result<usize, 
     }
 }
 
-/// A field of one byte, and the offset behind it.
+/// Reads a field of one byte. Returns the byte, and the offset after it.
 pub(crate) fn byte_at(bytes: &[u8], at: usize) -> Result<(u8, usize), StateError>
     ensures { Gives (λ x. x) result (field 1 (λ b. Some (byte b)) bytes.now at) }
 {
@@ -52,7 +52,7 @@ pub(crate) fn byte_at(bytes: &[u8], at: usize) -> Result<(u8, usize), StateError
     Ok((found[0], at + 1))
 }
 
-/// A number of four bytes, and the offset behind it.
+/// Reads a number of four bytes. Returns the number, and the offset after it.
 pub(crate) fn number_at(bytes: &[u8], at: usize) -> Result<(u32, usize), StateError>
     ensures { Gives (λ x. x) result (field 4 (λ b. Some (number b)) bytes.now at) }
 {
@@ -60,7 +60,7 @@ pub(crate) fn number_at(bytes: &[u8], at: usize) -> Result<(u32, usize), StateEr
     Ok((number_in(found), at + 4))
 }
 
-/// A number of four bytes up to a limit, and the offset behind it.
+/// Reads a number of four bytes, at most `most`. Returns the number, and the offset after it.
 pub(crate) fn number_up_to(most: u32, bytes: &[u8], at: usize) -> Result<(u32, usize), StateError>
     ensures { Gives (λ x. x) result (field 4 (λ b. up_to most (number b)) bytes.now at) }
 {

@@ -1,4 +1,5 @@
-//! Session files: all images, the key script and the accesses to the Tube of a run up to a moment, from which the run can go on.
+//! Session files: all images, the key script and the accesses to the Tube of a run up to a moment,
+//! from which the run can continue.
 #![tactic(auto)]
 
 mod blob;
@@ -24,27 +25,29 @@ use std::alloc::{AllocError, AllocFailed};
 use thiserror::Error;
 use tube_trace::Entry;
 
-/// A run at a moment, as a session file holds it. The parts are the operating system's ROM, that of the second processor, those of the
-/// sixteen slots, the teletext font, both discs and the key script: 22, each with its bytes where it is there.
+/// A run at a moment, as a session file holds it. The parts are the operating system's ROM, that of
+/// the second processor, those of the sixteen slots, the teletext font, both discs and the key
+/// script: 22, each with its bytes if it is present.
 #[derive(Drop)]
 pub struct Saved {
     pub clock: Clock,
-    /// The moment, of which the file tells all steps below.
+    /// The moment: the file covers all steps below it.
     pub ticks: Tick,
-    /// How many devices are plugged.
+    /// The number of plugged devices.
     pub plugs: u8,
     pub parts: Vec<Option<Blob>>,
-    /// Which of both discs have two sides; false of a disc that is absent.
+    /// For each disc, `true` if it has two sides, and `false` if it has one or is absent.
     pub dsd: [bool; 2],
     /// The accesses of both sides below the moment.
     pub entries: Vec<Entry>,
 }
 
-/// Why bytes are no session file.
+/// The reason why bytes are no session file.
 #[derive(Clone, Copy, Debug, PartialEq, Eq, Error)]
 pub enum StateError {
-    /// The first field at fault. It is outside its set, and this is its offset; or the file ends before it or inside it, and this is the file's
-    /// length; or bytes stand behind the last field, and this is the offset of the first of them.
+    /// The first field at fault, by an offset: the field's, if it is outside its set; the file's
+    /// length, if the file ends before the field or inside it; or that of the first byte after the
+    /// last field, if any follows.
     #[error("a field at byte {at} is outside the form of a session file")]
     BadField { at: u64 },
     #[error("no memory")]

@@ -7,7 +7,7 @@ use crate::fields::{byte_at, field, number_at, outside};
 use crate::{Blob, StateError};
 use std::alloc::Global;
 
-/// What a part is of.
+/// The kind of a part.
 #[derive(Clone, Copy)]
 pub enum Kind {
     Os,
@@ -18,10 +18,10 @@ pub enum Kind {
     Keys,
 }
 
-/// How many parts a session has.
+/// The number of parts of a session.
 const COUNT: usize = 22;
 
-/// The parts in front of the discs.
+/// The parts before the discs.
 const FIRST: [Kind; 19] = [
     Kind::Os,
     Kind::Tube,
@@ -82,7 +82,8 @@ fn length_of(kind: Kind, len: u32) -> Option<Option<usize>>
     }
 }
 
-// The length field of a part, and the offset behind it. None of a part that is absent.
+// Reads the length field of a part. Returns the length, or `None` for a part that is absent, and
+// the offset after the field.
 fn length_at(kind: Kind, bytes: &[u8], at: usize) -> Result<(Option<usize>, usize), StateError>
     ensures { Gives (λ x. x) result (field 4 (length_in kind) bytes.now at) }
 {
@@ -115,7 +116,7 @@ fn body_at(
     Ok((Some(Blob::new(body)), at + len))
 }
 
-// A part that is no disc, and the offset behind it.
+// Reads a part that is no disc. Returns the part, and the offset after it.
 #[tactic(auto, unfolding(crate::specs::Parts::part_at))]
 fn part_at(
     alloc: Global,
@@ -129,7 +130,8 @@ fn part_at(
     body_at(alloc, len, bytes, at)
 }
 
-// The kind field of a disc of this length: whether it has two sides.
+// Reads the kind field of a disc of length `len`. Returns `true` if the disc has two sides, and the
+// offset after the field.
 fn kind_at(len: usize, bytes: &[u8], at: usize) -> Result<(bool, usize), StateError>
     ensures { Gives (λ x. x) result (field 1 (kind_in len) bytes.now at) }
 {
@@ -160,7 +162,7 @@ fn image_at(
     Ok(((Some(Blob::new(body)), dsd), at + len))
 }
 
-// A disc with whether it has two sides, and the offset behind it.
+// Reads a disc. Returns the disc, `true` if it has two sides, and the offset after it.
 #[tactic(auto, unfolding(crate::specs::Parts::disc_at))]
 fn disc_at(
     alloc: Global,
@@ -173,7 +175,7 @@ fn disc_at(
     image_at(alloc, len, bytes, at)
 }
 
-// A part of each kind, with room for all parts, and the offset behind them.
+// Reads a part of each kind, with room for all parts. Returns the parts, and the offset after them.
 fn each_at(
     alloc: Global,
     kinds: &[Kind],
@@ -192,7 +194,8 @@ fn each_at(
     Ok((parts, next))
 }
 
-/// All parts, which of both discs have two sides, and the offset behind them.
+/// Reads all parts. Returns the parts, for each disc `true` if it has two sides, and the offset
+/// after the parts.
 #[tactic(auto, unfolding(crate::specs::Parts::parts_at))]
 pub(crate) fn parts_at(
     alloc: Global,

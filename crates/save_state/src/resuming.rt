@@ -1,4 +1,4 @@
-//! A run that goes on from a session.
+//! A run that continues from a session.
 ghost use Rattle.std.specs.Prelude.{◌≡◌, ◌≤◌, ℕ, IfOk, Err, None, Some, Option};
 ghost use Rattle.tube_party.specs.declared.replaying.Doing.{Doing};
 ghost use Rattle.tube_party.specs.OneThread.{IsPlayed, played_of, TakeSides, AreClosedWithin};
@@ -13,21 +13,24 @@ use tube_party::{
 };
 use tube_trace::Entry;
 
-/// Why a run did not go on.
+/// The reason why a run did not continue.
 #[derive(Drop)]
 pub enum ResumeError<H, P> {
-    /// A party and the accesses of the session differ: the line, where accesses count from 1, and what the party does there, if it does something. Both
-    /// parties are dropped.
+    /// A party and the accesses of the session differ: the line, where accesses count from 1, and
+    /// what the party does there, if it does something. Both parties are dropped.
     Differs { line: u64, doing: Option<Doing> },
-    /// There was no memory. No step was done, and both parties are handed back as they were.
+    /// Out of memory. No step was done, and both parties are returned as they were.
     NoMemory { host: H, para: P },
 }
 
-/// Brings two parties back to tick `at`, each by its own replay against the accesses below it, and goes on with both at one chip up to tick `n`. What they
-/// come to is what `solo` gives of the same parties, with the accesses below `at` among those of each side. All memory is taken before the first step.
+/// Brings two parties back to tick `at`, each by its own replay against the accesses below it, and
+/// continues with both at one chip up to tick `n`. The result is that of `solo` for these parties,
+/// with the accesses below `at` among those of each side. All memory is taken before the first
+/// step.
 ///
 /// # Errors
-/// `Differs` where a party makes another access than the next of its side, the host's difference before the parasite's, and `NoMemory` before any step.
+/// `Differs`, if a party and the accesses of its side differ, the host's difference before the
+/// parasite's; `NoMemory`, before any step.
 pub fn resume<H: Party, P: Rewinds>(
     alloc: Global,
     host: H,
