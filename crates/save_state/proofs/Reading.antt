@@ -6,7 +6,7 @@ use Rattle.save_state.specs.Fields.{Fields, field, exactly, up_to, number, byte,
 use Rattle.save_state.specs.Laws.{AreBytes}
 use Rattle.save_state.proofs.Standing.{Stands, stands_then, stands_apart, bind_ok, ok_is, some_is, Held, field_by, field_again, number_text, number_of_text, up_to_some, one_byte}
 
--- It reads the bytes of each value that is good, and nothing else.
+-- It reads the bytes of each value that is good, and no others.
 pub record Reads {A : Type 0} (p : Fields A) (text : A → List ℕ) (Good : A → Type 0) : Type 0 where
   pub reads : (bytes : List ℕ) (at : ℕ) (x : A × ℕ) → AreBytes bytes → at ≤ length bytes → p bytes at ≡ Ok x → Stands bytes at (text x.0) x.1 × Good x.0
   pub again : (bytes : List ℕ) (at : ℕ) (a : A) (next : ℕ) → Good a → Stands bytes at (text a) next → p bytes at ≡ Ok (a, next)

@@ -68,7 +68,7 @@ quiet_is {m} n {s} (Look t) {q} h quiet = let c = quiet_here m s q look quiet h.
 pub seat_on : {p q r : Carried} → SameSeat p q → SameSeat q r → SameSeat p r
 seat_on a b = record { cell = b.cell ∙ a.cell; side = b.side ∙ a.side; trusted = b.trusted }
 
--- what goes on is moved on
+-- a side with `GoneOn` has `MovedOn`
 pub moved : {S : Type 0} {m : Moves S} {n : ℕ} {x y : Station S} {ask : Ask} → x.at.pass.trusted ≡ [] → GoneOn m n x ask y → MovedOn m n x ask y
 moved {x} none g = record {
   added = g.events;
@@ -217,7 +217,7 @@ module _ {S : Type 0} {m : Moves S} (lawful : IsLawful m) {n keep : ℕ} {x0 : P
         counted = t.counted;
       }
 
--- from where it may work it went on
+-- a side that may work, and then has `GoneOn`
 pub sets_out : {S : Type 0} {m : Moves S} (lawful : IsLawful m) {plays : Side → Bool} {cell : TableId} {n : ℕ} {x y : Station S} {ask : Ask} → MayWork m plays cell n x
     → GoneOn m n x ask y → IsUnderWay m n x.log.keep x.at ask y
 sets_out lawful may gone = moves_on lawful (begins may) (moved may.none_trusted gone)

@@ -178,7 +178,7 @@ below_below t a (x ∷ xs) =
     (λ le. rw (nat_lt-false x.tick (min a t) (omega arith)) refl))
     (λ le. rw (nat_lt-false x.tick (min a t) (omega arith)) refl)
 
--- What steps of the host do besides its own list: the parasite's list, and how the words go on.
+-- What steps of the host do besides its own list: to the parasite's list, and to the words.
 pub record HostStep (k n : Known) (host para list : List Event) : Type 0 where
   pub rest : List Event
   pub good : Good n list rest
@@ -258,7 +258,7 @@ host_runs (e ∷ es) {k} {host} {para} from last end good le late h =
     subst (λ l. HostStep k (host_last k (e ∷ es) last end) host para l) (append_assoc host (e ∷ []) es)
     (host_then a b)
 
--- where the words do not admit the host, there is no event
+-- if the words do not admit the host, there is no event
 pub host_idle : (o a from : ℕ) (c : State) (es : List Event) (last : State) (end : ℕ) → Runs Host o a from c es last end → max o a < from → last ≡ c
 host_idle o a from c [] last end h lt = h.0
 host_idle o a from c (e ∷ es) last end h lt = absurd (omega arith)

@@ -97,9 +97,9 @@ after_set F views pass w rest mine j u e =
     (λ (x : (j ≢ pass) × (get_elem? views j ≡ some u)). rest j u x.0 x.1)
     (at_set views pass j w u e)
 
--- while the rule stands so
+-- given that the rule holds
 module _ {words : List ℕ} {views : List View} (k : Kept words views) where
-  -- what holds of a pass while the rule stands so
+  -- what holds of a pass, given that the rule holds
   abbrev FitsIn : Role → ℕ → View → Type 0
   FitsIn r j v = FitsAs k.known k.host k.para k.host_seat k.para_seat r j v
 
@@ -189,7 +189,7 @@ learns s pass v role words views k at =
 
 -- ---- exchanges
 
--- an exchange after which the view is this one where the words were those known
+-- an exchange after which the view is `goal v`, if the words were those known
 exchanges : (s : Side) (pass : ℕ) (v : View) (goal : View → View) (next : List ℕ) → v.role ≡ one_side s
     → ((words : List ℕ) (views : List View) (k : Kept words views) → get_elem? views pass ≡ some v → words ≡ words_of v.known → Kept next (set views pass (goal v)))
     → Turns Kept pass v (λ x. if pointwise nat_eq x (words_of v.known) then next else x) (Exchanged goal)
@@ -207,7 +207,7 @@ exchanges s pass v goal next role hit words views k at = go (pointwise nat_eq wo
 knows_with : (s : Side) {n x : Known} → IsChip n.chip → x ≡ n → Knows s n x
 knows_with s {n} well is = subst (Knows s n) (sym is) (knows_all s n well)
 
--- where the words are those known, the pass knows the words as they are
+-- if the words are those known, the pass knows the words as they are
 known_is : PackingIsOneToOne → (s : Side) {words : List ℕ} {views : List View} (k : Kept words views) (pass : ℕ) (v : View)
     → get_elem? views pass ≡ some v → v.role ≡ one_side s → words ≡ words_of v.known → v.known ≡ k.known
 known_is one s k pass v at role is =
@@ -416,7 +416,7 @@ begins = record {
     one zero v e = subst (λ u. FitsAs new_known [] [] 0 0 u.role 0 u) (some-injective _ _ e) (refl, refl, refl, refl, refl, low_nil, refl)
     one (suc j) v e = absurd (some-ne-none v (sym e))
 
--- what holds of a pass where the parasite's stands at this seat
+-- what holds of a pass if the parasite's is at this seat
 abbrev FitsWith : {words : List ℕ} {views : List View} → Kept words views → ℕ → ℕ → View → Type 0
 FitsWith k ps j u = FitsAs k.known k.host k.para k.host_seat ps u.role j u
 

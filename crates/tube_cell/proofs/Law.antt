@@ -55,7 +55,7 @@ lower xs all le i d lt = let l = all i d lt in omega arith
 
 -- ---- the host's event joins the end of the merge
 
--- behind all of the parasite's, where each lies below it
+-- after all of the parasite's, if each lies below it
 put_in-end : (e : Event) (rest : List Event → List Event) (ys : List Event) → AllBelow e.tick ys → put_in e rest ys ≡ ys ++ e ∷ rest []
 put_in-end e rest [] all = refl
 put_in-end e rest (y ∷ ys) all =
@@ -163,7 +163,7 @@ joins_placed [] ys e all = refl
 joins_placed (x ∷ xs) ys e all =
     placed-in x e (merge xs) (merge (xs ++ e ∷ [])) ys (low_head x xs all) (λ zs. joins_placed xs zs e (low_tail x xs all))
 
--- ---- observations behind it
+-- ---- observations after it
 
 before_le : (a b : ℕ) (x y : Side) → IsTrue (before a x b y) → a ≤ b
 before_le a b x y h = grind (arith, nat_tests)

@@ -79,7 +79,7 @@ runs_on : (s : Side) (v k : Known) (from : ℕ) (c : State) (es : List Event) (l
 runs_on Host v k from c es last end on h = host_more _ k.para _ _ es _ k.trust _ c h on.1 on.2
 runs_on Para v k from c es last end on h = para_more _ k.host _ _ es _ k.trust _ c h on.1
 
--- where there are unpublished events, the known bound admits the own
+-- if there are unpublished events, the known bound admits the own
 runs_admit : (s : Side) (m t a : ℕ) (mine : List Event) (c : State) (es : List Event) (last : State) (end : ℕ) → Runs s t a (horizon m mine) c es last end → es ≢ [] → Admits s (bound_at s t a) m
 runs_admit s m t a mine c [] last end h some = absurd (some refl)
 runs_admit s m t a mine c (e ∷ es) last end h some = omega arith
@@ -137,7 +137,7 @@ horizon_falls s v k mine trusted (e ∷ es) on low bare =
     let d = bound_falls s v k on in
     omega arith
 
--- the local chip, where it was the known one, and where the chip found is
+-- the local chip, if it was the known one, and if the chip found is
 pub local_is : {known old found new : State} → old ≡ known → Local known old found new → new ≡ found
 local_is was (inl t) = t.1 ∙ was ∙ sym t.0
 local_is was (inr t) = t.1
@@ -256,7 +256,7 @@ cut_kept s cut v w is h none' a lt = grind (arith, nat_tests)
 pub cut_fresh : (s : Side) (v : View) → v.ahead ≡ [] → CutIs s 18446744073709551615 v
 cut_fresh s v none a lt = ap (λ l. trust_after s v.known.chip a l) none ∙ (omega arith)
 
--- where events are unpublished, the words found have the same chip
+-- if events are unpublished, the words found have the same chip
 cut_found : {s : Side} {words found : List ℕ} {old : State} (cut : ℕ) {v w : View} → IsPassOf s words old v → CutIs s cut v → Found found v w → CutIs s cut w
 cut_found {s} {old} cut {v} {w} is cuts f a lt =
     ap (λ l. trust_after s w.known.chip a l) (ap (λ u. u.ahead) f.view_is) ∙ go v.ahead is.runs (cuts a lt)

@@ -35,9 +35,9 @@ starts id s = record { cell = id; side = s; events = []; trusted = []; ahead = [
 abbrev pub own_horizon : Carried → ℕ
 own_horizon p = horizon (own_bound p.side p.known) (p.events ++ p.ahead)
 
--- The words found are known, and speculative events that they confirm join the list. Nothing more
--- changed. The own word is unchanged, and the other's has not fallen. In the parasite's pass, a
--- speculative horizon at or below the host's word is unchanged.
+-- The words found are known, and speculative events that they confirm join the list. Otherwise only
+-- `higher` may have changed. The own word is unchanged, and the other's has not fallen. In the
+-- parasite's pass, a speculative horizon at or below the host's word is unchanged.
 pub record Learns (p q : Carried) : Type 0 where
   pub rest : q ≡ record p {
     events = p.events ++ firm q.known p.trusted;

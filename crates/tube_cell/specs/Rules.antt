@@ -44,7 +44,7 @@ pub record Good (k : Known) (host para : List Event) : Type 0 where
   pub host_fine : HostFine k host
   pub para_fine : ParaFine k para
 
--- How the speculative horizon may differ from what a side knows. For the host it may have risen.
+-- The speculative horizon, compared with what a side knows of it. For the host it has not fallen.
 -- For the parasite it is unchanged, or the host lowered it: to a tick at or above the host's word
 -- that the parasite knows, and below the host's word now.
 abbrev pub Trusts : Side → Known → Known → Type 0

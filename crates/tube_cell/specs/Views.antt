@@ -21,7 +21,7 @@ pub record Known : Type 0 where
   -- the parasite's speculative events lie below it
   pub trust : ℕ
 
--- the six words of the chip, the horizons, and the trust
+-- the six words of the chip, both horizons, and the speculative horizon
 abbrev pub words_of : Known → List ℕ
 words_of k = packed_words k.chip ++ k.host ∷ k.para ∷ k.trust ∷ []
 

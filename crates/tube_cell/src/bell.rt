@@ -18,7 +18,8 @@ pub struct Bell {
 
 const RUNG: u64 = u64::MAX;
 
-// The state of a waker armed for a step at tick `t`, with the side awake; plus `ASLEEP` if parked.
+// Returns the state of a waker armed for a step at tick `t`, with the side awake. It is `ASLEEP`
+// more if the side is parked.
 fn hung(t: u64) -> u64 {
     t.saturating_mul(2).saturating_add(2)
 }

@@ -70,7 +70,7 @@ two_back (holds b []) well = refl
 two_back (holds b (x ∷ [])) well = refl
 two_back (holds b (x ∷ y ∷ xs)) well = let f = well.fits in absurd (omega arith)
 
--- a register of so many bytes below 256 is within its bounds
+-- a register of `held` bytes below 256 is within its bounds
 pub sound : (room held : ℕ) (bytes : List ℕ) → 0 < room → held ≤ room → length bytes ≡ room → All IsByte bytes → IsRegister room (register_of (take held bytes) (slice_index bytes 0))
 sound room held [] some le len all = absurd (omega arith)
 sound room zero (b ∷ bs) some le len all =

@@ -51,7 +51,7 @@ module _ {part : Part} {B D : Type 0} {w : Wiring B} {plain : B → Lines → Bo
   served-none : {bound : ℕ} {at : At B} {d : D} → plain at.bus lines ≡ true → w.closed at.bus ≤ at.due + 1 → IsSome (next_cycle part at.cpu) → IsServed part w plain answers lines bound at d at d
   served-none first before on = grind arith
 
-  -- what is served up to a tick is so up to a later one
+  -- steps that are served up to a tick are served up to a later one
   pub served-wider : {end bound : ℕ} {old new : At B} {d e : D} → end ≤ bound → IsServed part w plain answers lines end old d new e → IsServed part w plain answers lines bound old d new e
   served-wider high a = record {
     talks = λ until sure in_run early. a.talks until sure (omega (arith, in_run, high)) (omega (arith, early, high));

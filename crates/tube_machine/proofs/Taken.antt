@@ -55,7 +55,8 @@ module _ (part : Part) {B : Type 0} (w : Wiring B) where
   given-shown s b t byte (Read at) is there = rw there
   given-shown s b t byte (Write at v) is there = after_byte-write part s at v byte is
 
-  -- An access that is done: the bus after it, the byte that it showed and its ticks make the next state.
+  -- An access that is done: the bus after it, the byte that it showed and its ticks make the next
+  -- state.
   pub accessed-next : (wired : IsWired w) (s : At B) (a : Option Answer) (c : Cycle) (b : B) (byte n : ℕ) → next_cycle part s.cpu ≡ Some c → is_break part w s ≡ false →
       after_byte part s.cpu byte ≡ after_byte part s.cpu (byte_of w (w.close s.bus (s.due + 1)) s.due a c) → b ≡ w.after (w.close s.bus (s.due + 1)) c
       → n ≡ w.takes (w.close s.bus (s.due + 1)) s.due c →

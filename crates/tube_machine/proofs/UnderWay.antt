@@ -20,7 +20,7 @@ use Rattle.tube_machine.specs.Lawful.{asked_closed, break_closed, next_closed}
 use Rattle.tube_machine.specs.NoBreak.{no-break, plain-asks, plain-next}
 use Rattle.tube_machine.specs.Exchange.{IsQuick, behind, owed_at}
 
--- up to where the device steps are owed
+-- the tick to which the device steps are owed
 
 pub owed-some : (n since due closed : ℕ) → since < due → owed_at n since due closed ≡ due - (n - 1)
 owed-some n since due closed gone = rw (lt-ltb since due gone) refl
@@ -82,7 +82,8 @@ module _ (part : Part) {B : Type 0} {w : Wiring B} (wired : IsWired w) {plain : 
   none-owed : (s : At B) → closed_to w s (w.closed s.bus) ≡ s
   none-owed s = ap (λ (b : B). record s { bus = b }) (wired.still s.bus (w.closed s.bus) (omega arith))
 
-  -- after a plain look the devices are closed up to the next step, which is an access, and all is as before
+  -- after a plain look the devices are closed up to the next step, which is an access, and nothing
+  -- more changed
   pub record IsLookedAt (lines : Lines) (t : ℕ) (s new : At B) : Type 0 where
     pub goes_on : IsSome (next_cycle part new.cpu)
     pub closed : w.closed new.bus ≡ t

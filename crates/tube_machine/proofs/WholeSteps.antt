@@ -140,7 +140,7 @@ module _ (part : Part) {B : Type 0} {w : Wiring B} (wired : IsWired w) {reads wr
           sym (looked ∙ rw (sequence, rested.taken))
 
       module _ (far until : ℕ) (lines : Lines) (sure n : ℕ) (start : At B) (masks : Bool) (quiet : ℕ) where
-        -- an instruction that began at tick t is under way
+        -- the middle of an instruction that began at tick t
         pub record IsMid (t : ℕ) (s : At B) (since : ℕ) : Type 0 where
           pub way : IsUnderWay part w plain far n until lines sure start s since
           pub tick : s.due ≡ t + n * length s.cpu.seen

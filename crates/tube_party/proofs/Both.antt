@@ -57,7 +57,7 @@ pub in_time : {S : Type 0} (r : Moves S) (n slack sure : ℕ) (s last : S) (ask 
     → x < r.due last + slack
 in_time r n slack sure s last ask is told x low early = grind arith
 
--- what asks is where it asks
+-- the state that asks is the last of the steps
 pub stood : {S : Type 0} (r : Moves S) (n : ℕ) (last new : S) (ask : Ask) → IsAsk r n last ask new → ask ≢ Nothing → new ≡ last
 stood r n last new ask asked some = grind arith
 

@@ -62,7 +62,8 @@ look_moved l more t a b side =
     no_access (l ++ more) t a side ∙ grows side l more
     ∙ sym (grows side (l ++ event t Host look b ∷ []) more ∙ ap (λ x. x ++ accesses (of_side side more)) (no_access l t b side))
 
--- a chip that enables no request of the host makes none, and nothing that the parasite does enables one
+-- a chip that enables no request of the host makes none, and nothing that the parasite does enables
+-- one
 none_asked : (c : State) → c.flags.q ≡ false → (lines_of c).hirq ≡ false
 none_asked c off = ap (λ b. b && not (is_empty c.to_host.r4)) off
 

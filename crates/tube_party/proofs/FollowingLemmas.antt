@@ -1,4 +1,4 @@
--- A replay that meets no difference follows the trace, and the other way round.
+-- A replay that meets no difference follows the trace, and the converse.
 use Rattle.std.proofs.Common.{ℕ, zero, suc, ◌≡◌, ◌+◌, ◌<◌, ◌≤◌, inl, inr, ◌&&◌, nat_lt, refl, sym, ◌∙◌, ap, subst, arith, Bool, true, false, if◌then◌else◌, List, [], ◌∷◌, ◌++◌, length}
 use Rattle.std.proofs.Common.{map, Option, None, Some}
 use Rattle.std.specs.Prelude.{All}
@@ -261,7 +261,7 @@ module _ {S : Type 0} (m : Moves S) (lawful : IsLawful m) (side : Side) (trace :
         differs = difference_by c.last stopped c.left (replay_of m side trace n s) line what c.ends at;
       }
 
-  -- the other way round: the replay takes the entries that agree
+  -- the converse: the replay takes the entries that agree
 
   takes_all : {last s : S} {events : List Event} {own : List Numbered} (agreed left : List Numbered) {whole : Ended S} → Goes m side trace n whole s own
       → own ≡ agreed ++ left → accesses events ≡ entries agreed → Answered events → Steps m side n last s events → Goes m side trace n whole last left

@@ -17,7 +17,7 @@ IsEarlier k side e = IsTrue (before e.tick e.side k side)
 pub before-then : (a b c : ℕ) (x y z : Side) → IsTrue (before a x b y) → IsTrue (before b y c z) → IsTrue (before a x c z)
 before-then a b c x y z one two = grind (arith, nat_tests)
 
--- the list so far, with all of it before what the side does at tick k
+-- a list, with all of it before what the side does at tick k
 pub record Listed (k : ℕ) (side : Side) (c : State) (l : List Event) : Type 0 where
   pub rises : Rises l
   pub answered : IsAnsweredFrom power_on l

@@ -147,7 +147,7 @@ module _ {S : Type 0} {m : Moves S} {side : Side} {trace : List Entry} {n : ℕ}
 asked_for : {S : Type 0} (m : Moves S) (most : ℕ) (s : S) (q : Query) (a : Answer) → m.due s < most → m.asks s ≡ Some q → FitsAnswer q a → IsAskedFor m most s a
 asked_for m most s q a low is fits = record { below = low; kind = rw is fits }
 
--- what follows where it asks
+-- what follows if it asks
 module _ {S : Type 0} {m : Moves S} {side : Side} {trace : List Entry} {n : ℕ} {whole : Ended S} {old new : S} {d e : Owned} {tick : ℕ} where
   -- an access that is not the side's next entry
   pub went_apart : {op : Op} {line : ℕ} → Stands m side trace n whole old new d e tick (access op) → d.lines ≡ length trace → Misses e.left e.lines tick op line

@@ -15,7 +15,8 @@ event t side q a = record { tick = t; side = side; query = q; answer = a }
 abbrev pub IsOf : Side → Event → Type 0
 IsOf side e = e.side ≡ side
 
--- steps to last, each below n, from a state, and their events: as `Runs`, to be taken apart step by step
+-- steps to last, each below n, from a state, and their events: as `Runs`, to be taken apart step by
+-- step
 pub data Steps {S : Type 0} (r : Moves S) (side : Side) (n : ℕ) (last : S) : S → List Event → Type 0 where
   Over : Steps r side n last last []
   Silent : {s : S} {events : List Event} → r.due s < n → r.asks s ≡ None → Steps r side n last (r.next s None) events → Steps r side n last s events
@@ -63,7 +64,8 @@ module _ {S : Type 0} (r : Moves S) (side : Side) (n : ℕ) where
   steps_append k le (Silent low none on) rest = Silent (omega arith) none (steps_append k le on rest)
   steps_append k le (Asking q a low is on) rest = Asking q a (omega arith) is (steps_append k le on rest)
 
--- steps to last, each below n, from a state, that ask nothing or are looks: as `Looks`, to be taken apart step by step
+-- steps to last, each below n, from a state, that ask nothing or are looks: as `Looks`, to be taken
+-- apart step by step
 pub data Glances {S : Type 0} (m : Moves S) (n : ℕ) (v : Shown) (last : S) : S → Type 0 where
   Here : Glances m n v last last
   Past : {s : S} → m.due s < n → m.asks s ≡ None → Glances m n v last (m.next s None) → Glances m n v last s

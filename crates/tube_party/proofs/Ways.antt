@@ -36,7 +36,7 @@ IsIdle c e = IsGlance e.query × ((act c Para e.query).1 ≡ e.answer)
 abbrev pub IsBelow : ℕ → Event → Type 0
 IsBelow t e = e.tick < t
 
--- Steps from t to last, below n, what they ask below `sure`, and these are their accesses.
+-- Steps from t to last, below n, that ask only below `safe_until`, and their accesses.
 pub record IsWay {T : Type 0} (p : Moves T) (n sure : ℕ) (c : State) (t last : T) (entries : List Entry) : Type 0 where
   pub events : List Event
   pub runs : Steps p Para n last t events

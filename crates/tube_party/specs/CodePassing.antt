@@ -1,4 +1,4 @@
--- The accesses that the port answers where both parties are on one thread.
+-- The accesses that the port answers, with both parties on one thread.
 use Rattle.std.specs.Prelude.{ℕ, ◌≡◌, ◌<◌, Bool, true}
 use Rattle.beeb_bits.specs.declared.Side.{Side}
 use Rattle.beeb_bits.specs.declared.Side.TheVariants.{Host, Para}

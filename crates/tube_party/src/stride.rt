@@ -15,7 +15,7 @@ const COST: u64 = 128;
 
 const MOST_CREDIT: u64 = 1_024;
 
-/// The length of the parasite's next speculation, and whether speculation pays. No promise depends
+/// The length of the parasite's next speculation, and the credit of speculation. No promise depends
 /// on them.
 #[derive(Drop)]
 pub(crate) struct Stride {

@@ -1,5 +1,4 @@
-//! One side at the shared cell: how it waits for the other, and how the parasite publishes a
-//! speculation.
+//! One side at the shared cell: its waits for the other side, and the parasite's speculation.
 #![tactic(auto)]
 
 mod at_cell;

@@ -63,7 +63,8 @@ impl Pause {
         self.is_hung = !self.is_hung;
     }
 
-    /// Ends the wait after the step is done. The length of the wait decides how the next ones wait.
+    /// Ends the wait after the step is done. The next waits spin or park by the length of this one
+    /// and the ones before.
     pub fn end(&mut self, cell: &TubeCell, side: Side) {
         if self.is_hung {
             cell.bell(side).take_down();

@@ -10,7 +10,8 @@ invariant-steps g l = record {
   goes : Goes g.M.Party.moves l.side l.trace l.n.0 (replay_of g.M.Party.moves l.side l.trace l.n.0 (g.M.Party.state l.fn.machine)) (g.M.Party.state l.machine) l.own.left;
   own_lines : l.own.lines ≡ length l.trace;
   seen_within : l.seen ≤ length l.trace;
-  -- looks from here on see the lines below a tick, and from there on come after the entries that are done
+  -- looks from here on see the lines below a tick, and from that tick on come after the entries
+  -- that are done
   early : (t : ℕ) → g.M.Party.moves.due (g.M.Party.state l.machine) ≤ t → t < l.sure.0 → lines_of (chip_before l.side t power_on l.trace) ≡ l.lines;
   late : (t : ℕ) → g.M.Party.moves.due (g.M.Party.state l.machine) ≤ t → l.sure.0 ≤ t → t < 1073741824 → chip_before l.side t power_on l.trace ≡ chip_before l.side t l.chip (drop l.seen l.trace);
 }
