@@ -30,8 +30,8 @@ use tube_party::{Ask, Desk, MOST, NO_LINES, Party};
 /// without one. The key BREAK, which the script presses, resets the processor, the user VIA, the
 /// disc controller, and by the Tube's reset the second processor. The system VIA and its latch, the
 /// picture, the ROM latch, the memory and the plugged devices stay as they are. BREAK takes effect
-/// at the end of an instruction, of a reset or of an interrupt, in place of an NMI or IRQ. If an
-/// opcode has halted the processor, it takes effect at the end of any later cycle.
+/// at the end of an instruction, of a reset or of an interrupt, in place of an NMI or IRQ. BREAK
+/// takes effect at the end of any later cycle if an opcode has halted the processor.
 #[derive(Drop)]
 pub struct HostMachine<D = Box<dyn BusDevice + Send>> {
     cpu: Cpu,

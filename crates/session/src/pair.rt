@@ -161,7 +161,7 @@ where
     }
 }
 
-// Makes the job of one side.
+// The work of one side.
 fn job<M>(machine: M, pass: Pass, log: Log, cell: Shared, n: Tick) -> SideJob<M>
     ensures machine { result.half.machine ≡ machine }
     ensures pass { result.half.pass ≡ pass }

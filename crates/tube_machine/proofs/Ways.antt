@@ -64,8 +64,8 @@ module _ (part : Part) {B D : Type 0} {w : Wiring B} (wired : IsWired w) {answer
   pub way-rises : s.due ≤ new.due
   way-rises = talks_rise (moves_of part w) answers n v.lines v.sure way.0 s new d e (lawful part w wired) way.1
 
--- The steps until here, with accesses that the port answered: from a machine after the last of them
--- the steps are as in IsUnderWay.
+-- The steps until here, with accesses that the port answered. After the last of these, device steps
+-- may be owed.
 pub record IsTalking (part : Part) {B D : Type 0} (w : Wiring B) (plain : B → Lines → Bool) (answers : D → ℕ → Op → ℕ → D → Type 0) (far n until : ℕ) (lines : Lines) (sure : ℕ)
     (start : At B) (d : D) (s : At B) (e : D) (since : ℕ) : Type 0 where
   pub mid : At B

@@ -106,8 +106,8 @@ pub record Spent : Type 0 where
 abbrev pub spent : ℕ → ℕ → ℕ → Spent
 spent due room seen = record { due = due; room = room; seen = seen }
 
--- If `counts` holds: at most one note was made for each cycle, and the present sequence began no
--- later than a tick `top` from `safe_until` on, if the one before did.
+-- If `counts` holds: at most one note was made for each cycle. For each tick `top` from
+-- `safe_until` on, the present sequence began by `top` if the one before did.
 pub record HasSpent (counts : Type 0) (cycle sure : ℕ) (old new : Spent) : Type 0 where
   pub room : counts → old.due + cycle * old.room ≤ new.due + cycle * new.room
   pub late : counts → (top : ℕ) → sure ≤ top → old.due ≤ top + cycle * old.seen → new.due ≤ top + cycle * new.seen

@@ -66,10 +66,10 @@ pub trait TubeBus<N>: Drop {
     /// The number of further notes for which there is room, at least.
     ghost room: { N → ℕ };
 
-    /// If the room may end, each access takes one cycle.
+    /// If the room for notes may run out, each access takes one cycle.
     ghost even: { endless ≡ false → (b : State) (t : ℕ) (c : Cycle) → wiring.takes b t c ≡ wiring.cycle b };
 
-    /// And there is a Tube.
+    /// If it may run out, there is a Tube.
     ghost joined: { endless ≡ false → (b : State) → wiring.has_tube b ≡ true };
 
     /// Addresses of plain memory, for reads and for writes.
@@ -119,8 +119,8 @@ pub trait TubeBus<N>: Drop {
     fn closed(&self) -> u64
         ensures { result ≡ wiring.closed (state self.now) };
 
-    /// Takes every break that is pending at tick `t`, if one is, with the devices closed at `t +
-    /// 1`.
+    /// Takes every break that is pending at tick `t`, if one is, after closing the devices at the
+    /// tick after `t`.
     fn take_break(&mut self, t: u64)
         requires low { wiring.closed (state self.old) ≤ t + 1 }
         requires room { t < 2 ^ 40 }

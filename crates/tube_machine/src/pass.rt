@@ -81,9 +81,9 @@ fn whole_if_over<N, B: TubeBus<N>>(
     }
 }
 
-// Does so with instructions one after another, from a start at tick `from` on, and returns the tick
-// of the next step. Before `bound` no break is pending, and looks are plain and see these lines.
-// Before `quiet` they ask for nothing.
+// Does whole instructions with skipped starts one after another, from a start at tick `from` on.
+// Returns the tick of the next step. Before `bound` no break is pending, and looks are plain and
+// see these lines. Before `quiet` they ask for nothing.
 #[inline(never)]
 fn pass_whole<N, P: Processor, B: TubeBus<N>>(
     cpu: &mut P,

@@ -21,8 +21,8 @@ pub trait Desk {
     fn awaits(&self, from: Tick, to: Tick) -> bool;
 
     /// Returns `true` if the port is asked about each access, and `false` if only about those that
-    /// a party makes as part of whole instructions. In the latter case a party stops at each other
-    /// access.
+    /// a party makes as part of whole instructions. In the latter case a party may stop at each
+    /// other access.
     fn is_asked_each(&self) -> bool {
         false
     }
