@@ -199,7 +199,7 @@ module _ {S : Type 0} {m : Moves S} (lawful : IsLawful m) (n : ℕ) (from : Outs
           omega arith
       late w (Look u) h over = omega arith
 
--- it started at the mark, and is where the host's changes allow
+-- after a speculation that was settled the party has moved on
 pub went : {S : Type 0} (m : Moves S) (lawful : IsLawful m) {n t : ℕ} {from : Outset S} (x : Station S) {y : Station S} {ask2 : Ask} {q : Carried}
     → x.at.pass.side ≡ Para → from.state ≡ x.at.state → take from.at.log.len y.log.list.items ≡ x.log.list.items → y.log.keep ≡ x.log.keep → from.at.log.count ≡ x.log.count
     → HasPassed (way_of m n from) t x.at.pass q → t ≤ n → y.at.pass ≡ q → IsSettled m n from q.known.trust ask2 y → MovedOn m n x ask2 y × (y.at.pass.ahead ≡ [])

@@ -71,7 +71,8 @@ other_stays side {tick} {op} {byte} {d} turn x =
 
 -- ---- The parasite reads its status registers at the port
 
--- Some of its steps from t to last read status registers, which left the chip, and were noted.
+-- Among its steps from t to last, `entries` are the reads of status registers: they left the chip
+-- unchanged, and were noted.
 pub record HasRead {T : Type 0} (p : Moves T) (n sure keep : ℕ) (t last : T) (d e : Attended) : Type 0 where
   pub entries : List Entry
   pub way : IsWay p n sure d.chip t last entries

@@ -32,8 +32,7 @@ pub record HasWaited (p q : Carried) : Type 0 where
   pub same : SameSeat p q
   pub events : all_events q ≡ all_events p
 
--- this step of the pass's side, with this answer, was added, and the own horizon is one tick after
--- it
+-- this step of the pass's side, at tick t, was added with this answer, and the own horizon is t + 1
 pub record HasDone (t : ℕ) (query : Query) (answer : Answer) (p q : Carried) : Type 0 where
   pub same : SameSeat p q
   pub events : all_events q ≡ all_events p ++ event_at t p.side query answer ∷ []
