@@ -1,4 +1,4 @@
--- Steps one after the other, up to the end of a conversion and past it.
+-- Steps one after another, up to the end of a conversion and after it.
 use Rattle.std.proofs.Common.{◌≡◌, ◌∙◌, ap, refl, ℕ, zero, suc, ◌+◌, ◌-◌, ◌<◌, ◌≤◌, List, [], ◌∷◌, length, slice_index, arith, inl, inr}
 use Rattle.std.proofs.lemmas.Bool.{cases_eq, eq-eqb, ne_eqb}
 use Rattle.adc7002.specs.State.{State}
@@ -6,7 +6,7 @@ use Rattle.adc7002.specs.Registers.{channel, cb1}
 use Rattle.adc7002.specs.Step.{end_leaves, step, after_steps, steps}
 use Rattle.adc7002.specs.Calm.{KeepsItsLine}
 
--- a step at which no conversion is going on, one inside a conversion, and its last
+-- a step without a conversion, one inside a conversion, and the last one of a conversion
 step_at_rest : (levels : List ℕ) (a : State) → a.left ≡ 0 → step levels a ≡ a
 step_at_rest levels a none = rw (eq-eqb a.left 0 none) refl
 
@@ -16,7 +16,7 @@ step_inside levels a more = rw (ne_eqb a.left 0 (λ e. omega (arith, e)), ne_eqb
 pub step_last : (levels : List ℕ) (a : State) → a.left ≡ 1 → step levels a ≡ end_leaves (slice_index levels (channel a.kept)) a
 step_last levels a last = rw (ne_eqb a.left 0 (λ e. omega (arith, e)), eq-eqb a.left 1 last) refl
 
--- the converter with so many steps left
+-- the converter with this number of steps left
 with_left : ℕ → State → State
 with_left n a = record a { left = n }
 
@@ -50,7 +50,7 @@ steps_to_end levels (suc n) a some enough =
       | inr more ↦ ap (steps levels n) (step_inside levels a (omega arith)) ∙ steps_to_end levels n (record a { left = a.left - 1 }) (omega arith) (omega arith)
     ]
 
--- the line stays while no conversion goes on, and while one does
+-- the line stays without a conversion, and during one
 pub stays_at_rest : (n : ℕ) (a : State) → a.left ≡ 0 → KeepsItsLine n a
 stays_at_rest n a none = λ levels few. ap cb1 (after_at_rest levels a none)
 

@@ -1,15 +1,16 @@
--- The uPD7002, the analogue to digital converter: four channels, of which it converts one at a time, to 8 bits or to 12. (uPD7002 data sheet.)
+-- The uPD7002, the analogue to digital converter: four channels, one conversion at a time, to 8
+-- bits or to 12. (uPD7002 data sheet.)
 use Rattle.std.specs.Prelude.{ℕ, Bool, false}
 
 pub record State : Type 0 where
   -- the low four bits of the last byte that was written to register 0
   pub kept : ℕ
-  -- how many steps the conversion still takes; 0 where none is going on
+  -- the number of steps before the conversion ends; 0 if none is in progress
   pub left : ℕ
   -- the result's two bytes
   pub high : ℕ
   pub low : ℕ
-  -- a conversion has ended since the last write to register 0
+  -- a conversion has ended after the last write to register 0
   pub has_ended : Bool
 
 -- At power-on all is 0.

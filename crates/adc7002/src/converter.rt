@@ -8,7 +8,7 @@ ghost use Rattle.adc7002.specs.Calm.{KeepsItsLine};
 use beeb_bits::bit;
 use std::marker::Model;
 
-/// How many steps a conversion takes to 8 bits, and to 12.
+/// The steps of a conversion to 8 bits, and to 12.
 const SHORT: u16 = 4_000;
 
 const LONG: u16 = 10_000;
@@ -16,14 +16,15 @@ const LONG: u16 = 10_000;
 /// A uPD7002.
 #[derive(Drop)]
 pub struct Adc {
-    // The four bits that the last write to register 0 left: the channel in bits 1 and 0, and 12 bits of result where bit 3 is set.
+    // The low four bits of the last byte written to register 0: bits 1 and 0 are the channel, and
+    // bit 3 selects 12 bits.
     kept: u8,
-    // How many steps the conversion still takes, and 0 where none is going on.
+    // The number of steps before the conversion ends; 0 if none is in progress.
     left: u16,
     // The result's two bytes.
     high: u8,
     low: u8,
-    // A conversion has ended since the last write to register 0.
+    // A conversion has ended after the last write to register 0.
     has_ended: bool,
 }
 
@@ -38,7 +39,7 @@ impl Model for Adc {
     ghost invariant = { λ a. a.kept < 16 };
 }
 
-// The low byte of the result of a conversion of this level.
+// Returns the low byte of the result of a conversion of `level`.
 fn low_byte(kept: u8, level: u16) -> u8
     ensures { result ≡ low_byte kept level }
 {
@@ -50,7 +51,7 @@ fn low_byte(kept: u8, level: u16) -> u8
 }
 
 impl Adc {
-    /// The converter at power-on: all is 0, and no conversion is going on.
+    /// Returns the converter at power-on: all is 0, and no conversion is in progress.
     pub fn new() -> Adc
         ensures { result ≡ power_on }
     {
@@ -63,7 +64,8 @@ impl Adc {
         }
     }
 
-    /// Writes a register. A write to register 0 begins a conversion, and gives one up that is going on; no other one does anything.
+    /// Writes a register. A write to register 0 begins a conversion, and stops one that is in
+    /// progress. Other writes do nothing.
     pub fn write(&mut self, reg: u8, v: u8)
         ensures { self.new ≡ write_leaves reg v self.old }
     {
@@ -74,7 +76,8 @@ impl Adc {
         }
     }
 
-    /// The byte of a register, 0 to 3: the status, the result's high byte, its low byte, and FE.
+    /// Returns the byte of a register, 0 to 3: the status, the result's high byte, its low byte,
+    /// and FE.
     pub fn read(&self, reg: u8) -> u8
         requires { reg < 4 }
         ensures { result ≡ answer_of reg self.now }
@@ -87,7 +90,8 @@ impl Adc {
         }
     }
 
-    // Bit 7 where a conversion is going on, else bit 6; the result's two highest bits; and the bits that were kept.
+    // Returns the status: bit 7 during a conversion, otherwise bit 6; the result's two highest
+    // bits; and the four stored bits.
     fn status(&self) -> u8
         ensures { result ≡ status self.now }
     {
@@ -95,7 +99,7 @@ impl Adc {
         goes_on + 16 * (self.high / 64) + self.kept
     }
 
-    /// Does `n` steps, with these levels on the four channels.
+    /// Does `n` steps, each with `levels` on the four channels.
     #[inline(always)]
     pub fn advance(&mut self, levels: [u16; 4], n: u64)
         ensures { self.new ≡ steps levels n self.old }
@@ -108,7 +112,7 @@ impl Adc {
         }
     }
 
-    // The end of a conversion, at which its channel has this level.
+    // Ends a conversion, with its channel at `level`.
     #[cold]
     #[inline(never)]
     fn end(&mut self, level: u16)
@@ -120,7 +124,8 @@ impl Adc {
         self.has_ended = true;
     }
 
-    /// The end of conversion, EOC, which is the line to the system VIA's CB1: low from a conversion's end to the next write to register 0.
+    /// Returns the level of EOC, end of conversion, the line to the system VIA's CB1. It is low
+    /// from a conversion's end to the next write to register 0.
     #[inline(always)]
     pub fn cb1(&self) -> bool
         ensures { result ≡ cb1 self.now }
@@ -128,7 +133,7 @@ impl Adc {
         !self.has_ended
     }
 
-    /// A number of steps for which the line surely stays what it is, whatever the levels.
+    /// Returns a number of steps during which the line does not change, with any levels.
     #[inline(always)]
     pub fn calm(&self) -> u64
         ensures { KeepsItsLine result self.now }

@@ -1,4 +1,4 @@
-//! The uPD7002, the analogue to digital converter, a microsecond at a time (uPD7002 data sheet).
+//! The uPD7002, the analogue to digital converter, one microsecond at a time (uPD7002 data sheet).
 #![tactic(auto)]
 
 mod converter;

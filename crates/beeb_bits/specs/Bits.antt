@@ -5,6 +5,6 @@ use Rattle.std.specs.Prelude.{ℕ, ◌/◌, ◌%◌, ◌^◌, ◌==◌, Bool, if
 abbrev pub bit : ℕ → ℕ → Bool
 bit v n = v / 2 ^ n % 2 == 1
 
--- a bit of this weight, where it is set
+-- the weight of a set bit, otherwise 0
 abbrev pub weight : ℕ → Bool → ℕ
 weight n b = if b then n else 0

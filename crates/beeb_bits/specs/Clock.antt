@@ -1,5 +1,6 @@
--- The cycles of both machines in ticks. The host runs at 2 MHz; the second processor runs at 3 MHz, and a tick is 1/6 microsecond, or at 4 MHz,
--- and a tick is 1/12 microsecond. (Acorn, 6502 Second Processor User Guide; Application Note 004; the ticks are this project's.)
+-- The cycles of both machines in ticks. The host runs at 2 MHz. The second processor runs at 3 MHz,
+-- and a tick is 1/6 microsecond, or at 4 MHz, and a tick is 1/12 microsecond. (Acorn, 6502 Second
+-- Processor User Guide; Application Note 004; the ticks are this project's.)
 use Rattle.std.specs.Prelude.{ℕ, ◌≡◌, ◌≤◌, ◌*◌, refl}
 use Rattle.std.proofs.Common.{arith}
 use Rattle.beeb_bits.specs.declared.clock.Clock.{Clock}
@@ -25,7 +26,7 @@ pub micro-is-two : (c : Clock) → micro c ≡ 2 * host c
 micro-is-two Three = refl
 micro-is-two Four = refl
 
--- how long and how short they are
+-- bounds of both cycles
 pub some-host : (c : Clock) → 3 ≤ host c
 some-host Three = omega arith
 some-host Four = omega arith

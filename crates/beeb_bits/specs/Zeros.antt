@@ -1,10 +1,10 @@
--- So many bytes, all 00.
+-- n bytes, all 00.
 use Rattle.std.specs.Prelude.{ℕ, ◌≡◌, ◌≤◌, List, length, replicate, slice_index}
 use Rattle.std.proofs.Common.{arith, inl, inr}
 use Rattle.std.proofs.lemmas.Bool.{cases_lt}
 use Rattle.std.proofs.lemmas.List.{length-replicate, get_or-replicate, get_or_past}
 
--- Kept folded, so that no proof writes a long one out.
+-- `zeros` stays folded, so that no proof expands a long list.
 unfoldable pub zeros : ℕ → List ℕ
 zeros n = replicate n 0
 
@@ -16,7 +16,7 @@ pub zeros-long : (n : ℕ) → length (zeros n) ≡ n
 unfolding zeros
 zeros-long n = length-replicate n 0
 
--- each reads 00, and so does what lies past the last
+-- each byte is 00, and so is a byte past the last
 pub zeros-at : (n at : ℕ) → slice_index (zeros n) at ≡ 0
 unfolding zeros
 zeros-at n at =

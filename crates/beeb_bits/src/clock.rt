@@ -1,9 +1,9 @@
-//! How long the cycles of both machines are.
+//! The length of the cycles of both machines.
 ghost use Rattle.std.specs.Prelude.{◌≡◌, ◌≤◌, ◌*◌};
 ghost use Rattle.beeb_bits.specs.Clock.{host, para, micro};
 
-/// How fast the second processor runs, and with it how long a tick is: three or four of its cycles take the time of two of the host's, and
-/// a tick divides both.
+/// The speed of the second processor, and the length of a tick. Three or four cycles of the second
+/// processor take the time of two of the host's, and a tick divides both cycles.
 #[derive(Clone, Copy, Debug, PartialEq, Eq)]
 pub enum Clock {
     /// A second processor at 3 MHz: a tick is 1/6 microsecond.
@@ -13,7 +13,7 @@ pub enum Clock {
 }
 
 impl Clock {
-    /// A cycle of the host, at 2 MHz, in ticks.
+    /// Returns the ticks of a cycle of the host, at 2 MHz.
     #[inline]
     pub fn host(self) -> u64
         ensures value { result ≡ host self }
@@ -26,7 +26,7 @@ impl Clock {
         }
     }
 
-    /// A cycle of the second processor, in ticks.
+    /// Returns the ticks of a cycle of the second processor.
     #[inline]
     pub fn para(self) -> u64
         ensures value { result ≡ para self }
@@ -39,7 +39,7 @@ impl Clock {
         }
     }
 
-    /// A microsecond, in ticks: two cycles of the host.
+    /// Returns the ticks of a microsecond, which is two cycles of the host.
     #[inline]
     pub fn micro(self) -> u64
         ensures value { result ≡ micro self }

@@ -1,4 +1,4 @@
-//! Ticks and cycles, the two sides, the bits of a byte, and want of memory.
+//! Ticks and cycles, the two sides, the bits of a byte, and running out of memory.
 #![tactic(auto)]
 
 ghost use Rattle.std.specs.Prelude.{◌≡◌, ◌≤◌, ◌<◌, ◌⊎◌, ◌↔◌, IsTrue};
@@ -12,7 +12,8 @@ mod memory;
 pub use clock::Clock;
 pub use memory::{NoMemory, zeroed};
 
-/// A moment of the one clock that both machines share, in ticks of 1/6 or 1/12 microsecond from power-on.
+/// A moment of the clock that both machines share, in ticks of 1/6 or 1/12 microsecond from
+/// power-on.
 #[derive(Clone, Copy, Debug, PartialEq, Eq, PartialOrd, Ord)]
 pub struct Tick(pub u64);
 
@@ -25,10 +26,10 @@ pub enum Side {
     Para,
 }
 
-/// What can be sent to a thread of its own.
+/// A type that can be sent to another thread.
 pub trait Crosses: Send {}
 
-/// Bit `n` of `v`, where bit 0 is the lowest.
+/// Returns bit `n` of `v`. Bit 0 is the lowest.
 pub fn bit(v: u8, n: u8) -> bool
     requires { n < 8 }
     ensures { result ≡ bit v n }
@@ -36,7 +37,7 @@ pub fn bit(v: u8, n: u8) -> bool
     (v >> n) % 2 == 1
 }
 
-/// A bit of this weight, where it is set.
+/// Returns the weight of a set bit, otherwise 0.
 pub fn weight(n: u8, is_set: bool) -> u8
     ensures value { result ≡ weight n is_set }
     ensures bound { result ≤ n }
@@ -44,7 +45,7 @@ pub fn weight(n: u8, is_set: bool) -> u8
     if is_set { n } else { 0 }
 }
 
-/// What `x` does at tick `a` comes before what `y` does at tick `b`.
+/// Reports if a step of `x` at tick `a` comes before one of `y` at tick `b`.
 pub fn before(a: Tick, x: Side, b: Tick, y: Side) -> bool
     ensures value { result ≡ before a.0 x b.0 y }
     // In words: at a smaller tick, or at the same tick and the host's before the parasite's.

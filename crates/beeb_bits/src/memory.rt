@@ -1,11 +1,11 @@
-//! Memory, and the want of it.
+//! Memory, and running out of it.
 ghost use Rattle.std.specs.Prelude.{◌≡◌, IfOk, length, slice_index, ℕ};
 ghost use Rattle.beeb_bits.specs.Zeros.{zeros};
 
 use std::alloc::{AllocError, Global};
 use thiserror::Error;
 
-/// Want of memory, as an answer of its own.
+/// Out of memory.
 #[derive(Clone, Copy, Debug, PartialEq, Eq, Error)]
 #[error("no memory")]
 pub struct NoMemory;
@@ -22,10 +22,10 @@ impl From<NoMemory> for AllocError {
     }
 }
 
-/// So many bytes, all 00.
+/// Makes `size` bytes, all 00.
 ///
 /// # Errors
-/// Memory can be wanting.
+/// Out of memory.
 #[tactic(auto, unfolding(crate::specs::Zeros::zeros))]
 pub fn zeroed(alloc: Global, size: usize) -> Result<Vec<u8>, NoMemory>
     ensures items { IfOk result (λ v. v.items ≡ zeros size) }

@@ -1,5 +1,6 @@
--- The RAM card: a page register, and the pages of a memory of 65,536 bytes. (Profile. BBC Microcomputer Advanced User Guide, the 1 MHz bus:
--- JIM is one page, which a register at FCFF selects.)
+-- The RAM card: a page register, and the pages of a memory of 65,536 bytes. (Profile. BBC
+-- Microcomputer Advanced User Guide, the 1 MHz bus: JIM is one page, which a register at FCFF
+-- selects.)
 use Rattle.std.specs.Prelude.{ℕ, ◌+◌, ◌-◌, ◌*◌, ◌==◌, ◌||◌, nat_le, Bool, List, [], ◌∷◌, slice_index, slice_set, if◌then◌else◌}
 use Rattle.beeb_bits.specs.Zeros.{zeros}
 use Rattle.bus_plug.specs.Plug.{Rules, Plug}
@@ -11,11 +12,12 @@ is_page_register at = at == 0xFCFF
 abbrev pub is_in_page : ℕ → Bool
 is_in_page at = nat_le 0xFD00 at
 
--- where in the memory an address from FD00 on is, on a page
+-- the place in the memory of an address from FD00 on, on a page
 abbrev pub card_place : ℕ → ℕ → ℕ
 card_place page at = page * 256 + (at - 0xFD00)
 
--- Its state is the page register, and then the 65,536 bytes. At other addresses, which it does not own, there is nothing: a read is FF.
+-- Its state is the page register, and then the 65,536 bytes. Other addresses are not the card's: a
+-- read there is FF.
 abbrev pub card_answer : List ℕ → ℕ → ℕ
 card_answer [] at = 0xFF
 card_answer (page ∷ bytes) at =

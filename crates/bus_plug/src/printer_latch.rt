@@ -6,24 +6,25 @@ use crate::BusDevice;
 use beeb_bits::NoMemory;
 use std::alloc::Global;
 
-/// How many bytes the latch keeps.
+/// The largest number of stored bytes.
 const ROOM: usize = 65_536;
 
-/// Its address.
+/// The address of the latch.
 const ADDRESS: u16 = 0xfc10;
 
-/// A latch at FC10 for a printer: it keeps what is written to it, up to 65,536 bytes, and a read gives the low byte of their number.
+/// A latch at FC10 for a printer. It stores the bytes written to it, up to 65,536, and a read gives
+/// the low byte of their number.
 ///
-/// Contracts see the bytes kept. It spills them.
+/// Contracts see the stored bytes. The latch spills them.
 #[derive(Drop)]
 pub struct PrinterLatch {
     kept: Vec<u8>,
-    // Room for all of them is taken at the beginning.
+    // Memory for all bytes is taken at power-on.
     ghost room: { 65536 ≤ vec_capacity kept },
 }
 
 impl PrinterLatch {
-    /// A latch at power-on, which has kept nothing.
+    /// Makes a latch at power-on, without a stored byte.
     pub fn make(alloc: Global) -> Result<PrinterLatch, NoMemory>
         ensures { IfOk result (λ latch. ⟦<PrinterLatch as BusDevice>⟧.plug latch ≡ new_latch) }
     {

@@ -6,10 +6,10 @@ use crate::BusDevice;
 use beeb_bits::{NoMemory, zeroed};
 use std::alloc::Global;
 
-/// How many bytes the card has.
+/// The bytes of the card.
 const SIZE: usize = 65_536;
 
-/// How many bytes a page has.
+/// The bytes of a page.
 const PAGE: usize = 256;
 
 /// The address of the page register.
@@ -18,9 +18,9 @@ const PAGE_REGISTER: u16 = 0xfcff;
 /// The first address of the page.
 const FIRST: u16 = 0xfd00;
 
-/// 65,536 bytes of memory, of which FD00 to FDFF show one page: that of the page register at FCFF.
+/// 65,536 bytes of memory. FD00 to FDFF show one page, that of the page register at FCFF.
 ///
-/// Contracts see the page register and then the bytes. It spills the bytes.
+/// Contracts see the page register and then the bytes. The card spills the bytes.
 #[derive(Drop)]
 pub struct RamCard {
     page: u8,
@@ -29,7 +29,7 @@ pub struct RamCard {
 }
 
 impl RamCard {
-    /// A card at power-on, all of it 00.
+    /// Makes a card at power-on, with 00 in the register and all bytes.
     pub fn make(alloc: Global) -> Result<RamCard, NoMemory>
         ensures { IfOk result (λ card. ⟦<RamCard as BusDevice>⟧.plug card ≡ new_card) }
     {
@@ -37,7 +37,7 @@ impl RamCard {
         Ok(RamCard { page: 0, bytes })
     }
 
-    // Where in the memory an address of the page is.
+    // Returns the place in the memory of an address of the page.
     fn place(&self, at: u16) -> usize
         requires { (0xFD00 ≤ at) × (at ≤ 0xFDFF) }
         ensures place { result ≡ card_place self.now.page at }

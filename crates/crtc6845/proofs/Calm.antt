@@ -1,4 +1,4 @@
--- How long vertical sync stays what it is: from one line to the next.
+-- The time during which vertical sync does not change, from one line to the next.
 use Rattle.std.proofs.Common.{◌≡◌, refl, ℕ, ◌+◌, ◌-◌, ◌*◌, ◌%◌, ◌<◌, ◌≤◌, ◌≢◌, ◌==◌, ◌&&◌, ◌||◌, Bool, true, false, Option, Some, None, arith}
 use Rattle.std.specs.Prelude.{if◌then◌else◌, is_none, nat_lt, nat_le, not}
 use Rattle.std.proofs.lemmas.Bool.Decides.{nat_tests}
@@ -31,7 +31,8 @@ step_down a b w h =
     let all : a * w ≤ (b + 1) * w = mul-le-mul_right w h in
     omega arith
 
--- the lines before sync of a row, where so many of it are left, and whether its rasters meet the last
+-- the lines before sync, by the lines that are left of a row, and by its rasters if they reach the
+-- last
 abbrev before : (v total w at left : ℕ) → Bool → ℕ
 before v total w at left met =
     if nat_lt at v then left + (v - at - 1) * w
@@ -59,7 +60,7 @@ last_before v total w at last =
     let most : (v - at - 1) * w ≤ v * w = mul-le-mul_right w (omega arith) in
     grind (arith, nat_tests)
 
--- a line's end leads no nearer to vertical sync than by one
+-- the end of a line lowers the number of lines before sync by at most one
 abbrev pub MovesTo : ℕ → Registers → Option ℕ → ℕ → ℕ → Type 0
 MovesTo n r adjust row raster =
     ((is_none adjust && row == r.vertical_sync_position && raster == 0) ≡ false) × (n ≤ lines_before_sync_in r adjust row raster + 1)

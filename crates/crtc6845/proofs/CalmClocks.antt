@@ -1,4 +1,4 @@
--- How long vertical sync stays what it is: from one clock to the next.
+-- The time during which vertical sync does not change, from one clock to the next.
 use Rattle.std.proofs.Common.{◌≡◌, ◌∙◌, sym, ap, subst, refl, ℕ, zero, suc, ◌+◌, ◌-◌, ◌*◌, ◌%◌, ◌<◌, ◌≤◌, ◌≢◌, ◌==◌, false, arith, inl, inr}
 use Rattle.std.specs.Prelude.{if◌then◌else◌, nat_lt}
 use Rattle.std.proofs.lemmas.Bool.{cases_lt}
@@ -12,7 +12,7 @@ use Rattle.crtc6845.proofs.Lines.{clock_in, clock_leaves-registers, clock_leaves
 use Rattle.crtc6845.proofs.SyncLines.{count_leaves-sync}
 use Rattle.crtc6845.proofs.Calm.{Moves, line_moves, step_down}
 
--- one clock takes no more than one from the number, and leaves sync
+-- one clock lowers the number by at most one, and does not change sync
 pub record Calms (c d : State) : Type 0 where
   pub sync : is_in_sync d ≡ is_in_sync c
   pub calm : calm_of c ≤ calm_of d + 1
@@ -20,7 +20,7 @@ pub record Calms (c d : State) : Type 0 where
 abbrev lines_of : State → ℕ
 lines_of c = quiet_lines_by (is_in_sync c) c
 
--- a clock that neither starts nor ends a line
+-- a clock that does not start or end a line
 inner : (c : State) → c.character < 256 → c.registers.horizontal_total < 256 → c.character ≢ 0 → c.character ≢ c.registers.horizontal_total →
     calm_of c ≤ calm_of (record c { character = (c.character + 1) % 256 }) + 1
 inner c fits wide apart end = grind (arith, nat_tests)
@@ -52,7 +52,7 @@ starting c start wide some =
     let there : clocks_to_line d + 1 ≡ line_characters c.registers = grind (arith, nat_tests) in
     record { sync = grind (arith, nat_tests); calm = omega arith }
 
--- a clock that ends a line: so many lines are left of s lines of sync, or q lines without it
+-- a clock that ends a line: the lines that are left of s lines of sync, or of q lines without it
 abbrev left : ℕ → ℕ → ℕ
 left s q = if nat_lt 0 s then s - 1 else q
 

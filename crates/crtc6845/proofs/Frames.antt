@@ -12,7 +12,7 @@ use Rattle.crtc6845.proofs.Lines.{start_leaves-kept, start_leaves-registers, clo
 pub mul_more : (a b : ℕ) → (a + 1) * b ≡ a * b + b
 mul_more a b = grind arith
 
--- line l is of a row, or one of adjust
+-- line l is of a row, or an adjust line
 pub record InRow (r : Registers) (l row raster : ℕ) : Type 0 where
   pub even : raster % raster_step r ≡ 0
   pub within : raster ≤ last_raster r

@@ -7,7 +7,7 @@ use Rattle.crtc6845.specs.State.{Registers, State}
 use Rattle.crtc6845.specs.Clock.{start_leaves, ends_line, is_last_line, ends_frame, line_ended, clock_leaves}
 use Rattle.crtc6845.specs.Laws.{clocks}
 
--- the start of a line changes the count of sync lines and of fields alone
+-- the start of a line changes only the counts of sync lines and of fields
 pub start_leaves-kept : (c : State) → start_leaves c ≡ record c { sync_lines = (start_leaves c).sync_lines; fields = (start_leaves c).fields }
 start_leaves-kept c = grind arith
 
@@ -17,7 +17,7 @@ start_leaves-registers c = grind arith
 pub clock_leaves-registers : (c : State) → (clock_leaves c).registers ≡ c.registers
 clock_leaves-registers c = grind arith
 
--- a clock that neither starts nor ends a line
+-- a clock that does not start or end a line
 pub clock_in : (c : State) → c.character ≢ 0 → c.character ≢ c.registers.horizontal_total → clock_leaves c ≡ record c { character = (c.character + 1) % 256 }
 clock_in c start end = grind (arith, nat_tests)
 

@@ -1,4 +1,4 @@
--- Where n clocks lead in a frame, with what holds at each clock of it.
+-- The place after n clocks in a frame, and an invariant at each clock.
 use Rattle.std.proofs.Common.{◌≡◌, ◌∙◌, sym, ap, ℕ, zero, suc, ◌+◌, ◌*◌, ◌/◌, ◌%◌, ◌<◌, ◌≤◌, ◌==◌, true, false, arith, inl, inr}
 use Rattle.std.proofs.lemmas.Bool.{cases_lt}
 use Rattle.std.proofs.lemmas.Bool.Decides.{nat_tests}
@@ -20,13 +20,13 @@ pub same_place : (r : Registers) (l h m g : ℕ) → h ≤ r.horizontal_total �
     line_characters r * l + h ≡ line_characters r * m + g → (l ≡ m) × (h ≡ g)
 same_place r l h m g p q e = same_from_place l h m g (line_characters r) (omega arith) (omega arith) (omega (arith, e))
 
--- what holds at character h of line l, and is kept by each clock
+-- an invariant at character h of line l, which each clock preserves
 pub record IsKeptOn (r : Registers) (P : ℕ → ℕ → State → Type 0) : Type 0 where
   pub inner : (l h : ℕ) (c : State) → IsClock r l h c → P l h c → h < r.horizontal_total → P l (h + 1) (clock_leaves c)
   pub line : (l h : ℕ) (c : State) → IsClock r l h c → P l h c → h ≡ r.horizontal_total → l + 1 < frame_lines r → P (l + 1) 0 (clock_leaves c)
   pub frame : (l h : ℕ) (c : State) → IsClock r l h c → P l h c → h ≡ r.horizontal_total → l + 1 ≡ frame_lines r → P 0 0 (clock_leaves c)
 
--- it is clock j of a frame, counted from 0, or as many more as whole frames have
+-- it is clock j of a frame, counted from 0, plus the clocks of whole frames
 pub record Place (r : Registers) (P : ℕ → ℕ → State → Type 0) (j : ℕ) (c : State) : Type 0 where
   pub l : ℕ
   pub h : ℕ
@@ -95,7 +95,7 @@ walk_frames c P bits begins kept n holds =
     let e : n + 0 ≡ n = omega arith in
     rw e at (walk c.registers P n 0 c bits kept (record { l = 0; h = 0; place = omega (arith, mod-eq_of_lt whole); at = first; holds = holds }))
 
--- the line and the character that clock n is of
+-- the line and the character of clock n
 pub place_is : (r : Registers) (P : ℕ → ℕ → State → Type 0) (n : ℕ) (c : State) (p : Place r P n c) → (n / line_characters r % frame_lines r ≡ p.l) × (n % line_characters r ≡ p.h)
 place_is r P n c p =
     let w = line_characters r in
@@ -109,7 +109,7 @@ place_is r P n c p =
       sym (ap (λ m. m % w) whole) ∙ mod-mul-add (q * f + p.l) w p.h (omega arith),
     )
 
--- nothing but the place is kept
+-- the invariant is only the place
 abbrev pub Anything : ℕ → ℕ → State → Type 0
 Anything l h c = zero ≡ zero
 

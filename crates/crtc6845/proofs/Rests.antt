@@ -1,4 +1,4 @@
--- Clocks of a chip at rest.
+-- Clocks of a quiet chip.
 use Rattle.std.proofs.Common.{◌≡◌, ◌∙◌, sym, ap, refl, ℕ, zero, suc, ◌+◌, ◌-◌, ◌*◌, ◌/◌, ◌%◌, ◌^◌, ◌<◌, ◌≤◌, ◌≢◌, ◌==◌, ◌⊎◌, Bool, true, false, arith, inl, inr}
 use Rattle.std.specs.Prelude.{if◌then◌else◌}
 use Rattle.std.proofs.lemmas.Bool.{cases_lt}
@@ -11,11 +11,11 @@ use Rattle.crtc6845.specs.CodeSteps.{is_quiet, quiet_beam}
 use Rattle.crtc6845.specs.Rests.{frames_in, clocks_past_frame, sync_after, RestsOn}
 use Rattle.crtc6845.proofs.Lines.{start_leaves-kept}
 
--- the line ends, and the next finds all as it was
+-- the line ends, and the next one starts from the same state
 counted_rest : (c : State) → is_quiet c ≡ true → count_leaves c ≡ c
 counted_rest c h = grind (arith, nat_tests)
 
--- such a chip with so many lines of sync left
+-- a quiet chip with this number of lines of sync left
 abbrev timed : State → ℕ → ℕ → State
 timed c s f = record c { sync_lines = s; fields = f }
 
@@ -30,7 +30,7 @@ quiet_told c d start h =
     let restart : ends_frame d ≡ true = grind (arith, nat_tests) in
     rw (start, cursor, shown, row_end, restart) refl
 
--- A clock is as each other.
+-- Each clock has the same outputs.
 pub rests_on : (c : State) → is_quiet c ≡ true → RestsOn c
 rests_on c h =
     let d = start_leaves c in
@@ -48,7 +48,7 @@ step_new : (c : State) (s f : ℕ) → is_quiet c ≡ true → c.registers.verti
     (clock_leaves (timed c s f) ≡ timed c (sync_height c.registers) ((f + 1) % 2 ^ 32)) × (finishes_frame (timed c s f) ≡ true)
 step_new c s f h first few = grind (arith, nat_tests)
 
--- what n clocks leave and tell
+-- the state after n clocks, and their frames
 pub record Run (n before : ℕ) (c d : State) (x y : ℕ) : Type 0 where
   pub state : clocks n c ≡ d
   pub frames : frames_in n c ≡ x
@@ -60,7 +60,7 @@ ahead : (n before : ℕ) (c d e : State) (b : Bool) (frames past : ℕ) → cloc
 ahead n before c d e b frames past step ends run =
     record { state = rw step run.state; frames = rw (ends, step, run.frames) refl; past = rw (ends, step) run.past }
 
--- clocks with which none begins
+-- clocks without the beginning of sync
 within : (n before : ℕ) (c : State) (s f : ℕ) → is_quiet c ≡ true → (n < s) ⊎ (c.registers.vertical_sync_position ≢ 0) →
     Run n before (timed c s f) (timed c (s - n) f) 0 (before + n)
 within zero before c s f h goes =
@@ -114,7 +114,7 @@ turns (suc q) m c f h first small =
     turn (height - 1) (height * q + m) 0 c to height (f % 2 ^ 32) q m h first (omega arith) (inl (omega arith)) (rw next (turns q m c (f + 1) h first small)) in
     rw (z, x, y) all
 
--- whether vertical sync is on
+-- vertical sync is on
 on_yes : (c : State) → 0 < c.sync_lines → is_in_sync c ≡ true
 on_yes c h = grind (arith, nat_tests)
 
@@ -137,7 +137,7 @@ calm_within c h other k goes = rw (within k 0 c c.sync_lines c.fields h (inr oth
 pub rest_other : (n : ℕ) (c : State) → is_quiet c ≡ true → (n < c.sync_lines) ⊎ (c.registers.vertical_sync_position ≢ 0) → Run n 0 c (record c { sync_lines = c.sync_lines - n }) 0 n
 rest_other n c h goes = let z : 0 + n ≡ n = omega arith in rw z at (within n 0 c c.sync_lines c.fields h goes)
 
--- n clocks, where sync begins with some of them
+-- n clocks, some of which begin sync
 pub rest_turns : (n left : ℕ) (c : State) → is_quiet c ≡ true → c.registers.vertical_sync_position ≡ 0 → c.sync_lines ≤ left → 1 ≤ left → left ≤ n →
     (left ≡ c.sync_lines) ⊎ (left ≡ 1) →
     Run n 0 c (sync_after (n - left) c) (1 + (n - left) / sync_height c.registers) ((n - left) % sync_height c.registers)

@@ -14,13 +14,13 @@ use Rattle.crtc6845.proofs.Lines.{start_leaves-kept, clocks-registers, clock_lea
 use Rattle.crtc6845.proofs.Frames.{IsLine, line_in_row, mul_more}
 use Rattle.crtc6845.proofs.Places.{Anything, place_after, place_is}
 
--- a row's base is so many rows' characters past that of row `first`
+-- a row's base is that of row `first`, plus the characters of the rows between
 pub record Runs (from first : ℕ) (r : Registers) (row base : ℕ) : Type 0 where
   pub low : first ≤ row
   pub rows : row ≤ r.vertical_total
   pub at : base % 16384 ≡ (from + (row - first) * r.horizontal_displayed) % 16384
 
--- the frame is the one that is on now, or a later one
+-- the frame is the current one, or a later one
 abbrev pub KeptAt : ℕ → ℕ → Registers → Option ℕ → ℕ → ℕ → Type 0
 KeptAt from first r adjust row base = adjust ≡ None → Runs from first r row base ⊎ Runs (start_address r) 0 r row base
 
@@ -96,7 +96,7 @@ pub record Shown (e : State) : Type 0 where
 shown_is : (e : State) → is_shown e ≡ true → Shown e
 shown_is e h = grind (arith, nat_tests)
 
--- the address of a character that is shown, by its row and its column
+-- the address of a shown character, by its row and its column
 address_is : (from first : ℕ) (r : Registers) (e : State) → Runs from first r e.row e.base →
     address e ≡ (from + (e.row - first) * r.horizontal_displayed + e.character) % 16384
 address_is from first r e runs =
@@ -117,7 +117,7 @@ in_window from first e runs shown =
 any_window : (base ma : ℕ) → base < 16384 → ma < 16384 → IsInWindow base 16384 ma
 any_window base ma p q = ((ma + 16384 - base) % 16384, (omega arith, omega arith))
 
--- a beam's address is in one of the two
+-- a beam's address is in one of the two windows
 told_in : (from first n : ℕ) (c : State) → c.registers.vertical_total < 128 → Kept from first c → (tells n c).shown ≡ true →
     IsInWindow from (shown_count c.registers first) (tells n c).ma ⊎ IsInWindow (start_address c.registers) (shown_count c.registers 0) (tells n c).ma
 told_in from first n c bits kept shown =

@@ -49,7 +49,7 @@ pass_is (suc k) c start fits wide within =
           rw none one
     ]
 
--- what a clock inside tells
+-- the outputs of a clock inside a line
 abbrev inside_told : State → Beam
 inside_told c = record {
   shown = is_shown c;
@@ -81,7 +81,7 @@ sync_at h k s to small here past = grind (arith, nat_tests)
 cursor_as : (k n : ℕ) (c : State) → k < n → CursorIsFirst n c → has_cursor (at c (c.character + k)) ≡ (has_cursor c && k == 0)
 cursor_as k n c h first = grind (arith, nat_tests)
 
--- what makes a span
+-- the conditions of a span
 pub record IsSpan (span : Span) (c : State) : Type 0 where
   pub inside : span.clocks ≤ inside_clocks c
   pub shown : span.shown ≡ is_shown c

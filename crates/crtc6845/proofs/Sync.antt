@@ -9,7 +9,8 @@ use Rattle.crtc6845.specs.Pictures.{line_at, sync_line, HasItsSync, HoldsItsSync
 use Rattle.crtc6845.proofs.Places.{walk_frames, place_after, place_is, same_place}
 use Rattle.crtc6845.proofs.SyncLines.{count_leaves-sync, sync_row, begins_tells, never_begins, Rules, Count, started, first_count, count_kept}
 
--- so many lines of sync are left, at most, before line l starts and after it, that none is left when row R7 comes
+-- a bound on the lines of sync that are left before line l starts, and after that: none is left
+-- when row R7 comes
 pub record Waits (r : Registers) (l s : ℕ) : Type 0 where
   pub before : l ≤ sync_line r → s + l ≤ sync_line r + 1
   pub past : sync_line r < l → s + l ≤ frame_lines r + sync_line r + 1
@@ -28,7 +29,7 @@ waits r has =
       frame = λ l s w last. grind arith;
     }
 
--- where the place is that of row R7's first character, sync is over
+-- at the first character of row R7, sync is over
 finishes : (l h first s k at : ℕ) → (k ≡ at → (l ≡ first) × (h ≡ 0)) → (l ≡ first → h ≡ 0 → k ≡ at) → (l ≡ first → h ≡ 0 → s ≤ 1) →
     (h == 0 && (l == first && s - 1 == 0)) ≡ (k == at)
 finishes l h first s k at to from over = grind (arith, nat_tests)

@@ -12,7 +12,7 @@ use Rattle.crtc6845.specs.Pictures.{sync_line}
 use Rattle.crtc6845.proofs.Frames.{IsLine, IsClock, line_in_row, lines_below, mul_more}
 use Rattle.crtc6845.proofs.Places.{IsKeptOn}
 
--- a character clock's end leaves the lines of sync
+-- the end of a character clock does not change the lines of sync
 pub count_leaves-sync : (c : State) → (count_leaves c).sync_lines ≡ c.sync_lines
 count_leaves-sync c = grind arith
 
@@ -22,7 +22,7 @@ sync_inside c h = grind (arith, nat_tests)
 pub sync_starts : (c : State) → c.character ≡ 0 → (start_leaves c).sync_lines ≡ (if begins_sync (sync_counted c) then sync_height c.registers else c.sync_lines - 1)
 sync_starts c h = grind (arith, nat_tests)
 
--- which line is the first of row R7
+-- the line that is the first of row R7
 pub sync_row : (r : Registers) → r.vertical_sync_position ≤ r.vertical_total → sync_line r < (r.vertical_total + 1) * row_lines r
 sync_row r has =
     let up = mul_more r.vertical_total (row_lines r) in
@@ -64,7 +64,7 @@ row_beyond r l (Some a) row raster d beyond at = refl
 pub never_begins : (r : Registers) (l h : ℕ) (c : State) → r.vertical_total < r.vertical_sync_position → IsClock r l h c → begins_sync (sync_counted c) ≡ false
 never_begins r l h c beyond at = rw at.regs (row_beyond r l c.adjust c.row c.raster (c.sync_lines - 1 == 0) beyond at.line)
 
--- what is known of the lines of sync that are left before line l starts, and once it has started
+-- predicates of the lines of sync that are left before line l starts, and after it has started
 module _ (r : Registers) (Before After : ℕ → ℕ → Type 0) where
   pub record Rules : Type 0 where
     pub row : r.vertical_sync_position ≤ r.vertical_total

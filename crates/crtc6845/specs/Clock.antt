@@ -1,13 +1,14 @@
--- One character clock of the 6845: what it tells, and what it leaves. (6845 data sheet, Horizontal and Vertical Timing, Interlace Mode,
--- Cursor; that every field is the even one is this project's profile.)
+-- One character clock of the 6845: its outputs, and the state after it. (6845 data sheet,
+-- Horizontal and Vertical Timing, Interlace Mode, Cursor; that every field is the even one is this
+-- project's profile.)
 use Rattle.std.specs.Prelude.{ℕ, ◌+◌, ◌-◌, ◌/◌, ◌%◌, ◌^◌, ◌==◌, ◌&&◌, nat_lt, nat_le, Bool, not, Option, Some, None, is_none, if◌then◌else◌}
 use Rattle.beeb_bits.specs.Bits.{bit}
 use Rattle.crtc6845.specs.declared.Beam.{Beam}
 use Rattle.crtc6845.specs.State.{Registers, State}
 use Rattle.crtc6845.specs.Registers.{start_address, cursor_address}
 
--- First, at the start of a line, vertical sync has one line less left. It begins anew where none is left and the line is the first of
--- row R7; the lines of adjust are of no row.
+-- First, a line of vertical sync is over at the start of a line. Sync begins if no line of it is
+-- left and the line is the first of row R7. Adjust lines belong to no row.
 abbrev pub starts_line : State → Bool
 starts_line c = c.character == 0
 
@@ -17,7 +18,7 @@ sync_counted c = record c { sync_lines = c.sync_lines - 1 }
 abbrev pub begins_sync : State → Bool
 begins_sync c = is_none c.adjust && c.row == c.registers.vertical_sync_position && c.raster == 0 && c.sync_lines == 0
 
--- the lines of vertical sync: the high digit of R3, or 16 where that is 0
+-- the lines of vertical sync: the high digit of R3, or 16 if that is 0
 abbrev pub sync_height : Registers → ℕ
 sync_height r = if r.sync_widths / 16 == 0 then 16 else r.sync_widths / 16
 
@@ -30,7 +31,7 @@ line_started c = if begins_sync (sync_counted c) then sync_begun (sync_counted c
 abbrev pub start_leaves : State → State
 start_leaves c = if starts_line c then line_started c else c
 
--- Where vertical sync begins, the frame that was drawn is finished.
+-- The drawn frame is finished when vertical sync begins.
 abbrev pub finishes_frame : State → Bool
 finishes_frame c = starts_line c && begins_sync (sync_counted c)
 
@@ -38,28 +39,30 @@ finishes_frame c = starts_line c && begins_sync (sync_counted c)
 abbrev pub begins_horizontal_sync : State → Bool
 begins_horizontal_sync c = c.character == c.registers.horizontal_sync_position
 
--- Third, the character is shown within the first R1 of the line and the first R6 rows, but not in a line of adjust.
+-- Third, the character is shown if it is among the first R1 of its line and the first R6 rows, and
+-- not in an adjust line.
 abbrev pub is_shown : State → Bool
 is_shown c = nat_lt c.character c.registers.horizontal_displayed && nat_lt c.row c.registers.vertical_displayed && is_none c.adjust
 
 abbrev pub address : State → ℕ
 address c = (c.base + c.character) % 16384
 
--- The cursor blinks by bits 6 and 5 of R10: always on, never on, or on where bit 3 or bit 4 of the count of fields is clear.
+-- The cursor blinks by bits 6 and 5 of R10: always on, never on, on while bit 3 of the count of
+-- fields is clear, or on while bit 4 of it is clear.
 abbrev pub blinks_on : ℕ → ℕ → Bool
 blinks_on start fields =
     if not (bit start 6) then not (bit start 5)
     else if not (bit start 5) then not (bit fields 3)
     else not (bit fields 4)
 
--- It is at one address, on the rasters from R10's low five bits to R11.
+-- The cursor is at one address, on the rasters from R10's low five bits to R11.
 abbrev pub has_cursor : State → Bool
 has_cursor c =
     is_shown c && address c == cursor_address c.registers && nat_le (c.registers.cursor_start % 32) c.raster
     && nat_le c.raster c.registers.cursor_end && blinks_on c.registers.cursor_start c.fields
 
--- Last, the next character: R0 is the last of the line, and with it the line ends. With bits 0 and 1 of R8 set a row has every other
--- raster.
+-- Last, the character counts up. Character R0 ends the line. If bits 0 and 1 of R8 are set, a row
+-- has every other raster.
 abbrev pub ends_line : State → Bool
 ends_line c = c.character == c.registers.horizontal_total
 
@@ -72,7 +75,7 @@ raster_step r = if is_interlaced r then 2 else 1
 abbrev pub last_raster : Registers → ℕ
 last_raster r = if is_interlaced r then r.maximum_raster - r.maximum_raster % 2 else r.maximum_raster
 
--- the line is the last of its row, and that row the last of the frame's R4 + 1
+-- the line is the last of its row, and that row is the last of the frame's R4 + 1
 abbrev pub is_row_done : State → Bool
 is_row_done c = c.raster == last_raster c.registers
 
@@ -83,7 +86,7 @@ are_rows_done c = is_row_done c && c.row == c.registers.vertical_total
 abbrev pub frame_begun : State → State
 frame_begun c = record c { row = 0; raster = 0; adjust = None; base = start_address c.registers }
 
--- R5 lines of adjust follow the rows, if there are any
+-- R5 adjust lines follow the rows, if R5 is not 0
 abbrev pub adjust_begun : State → State
 adjust_begun c = record c { row = c.row + 1; raster = 0; adjust = Some 0 }
 
@@ -93,7 +96,7 @@ row_begun c = record c { row = (c.row + 1) % 128; raster = 0; base = (c.base + c
 abbrev pub raster_begun : State → State
 raster_begun c = record c { raster = (c.raster + raster_step c.registers) % 32 }
 
--- A line among the rows ends, or one of adjust.
+-- The end of a line of a row, and that of an adjust line.
 abbrev pub row_line_ended : State → State
 row_line_ended c =
     if are_rows_done c then (if c.registers.vertical_adjust == 0 then frame_begun c else adjust_begun c)
@@ -122,14 +125,14 @@ is_last_line_in (Some line) c = (line + 1) % 32 == c.registers.vertical_adjust
 abbrev pub is_last_line : State → Bool
 is_last_line c = is_last_line_in c.adjust c
 
--- The row goes up by one with this character, or a new frame begins after it.
+-- The row goes up by one after the character, or a new frame begins after it.
 abbrev pub ends_row : State → Bool
 ends_row c = ends_line c && is_none c.adjust && is_row_done c && not (is_last_line c)
 
 abbrev pub ends_frame : State → Bool
 ends_frame c = ends_line c && is_last_line c
 
--- The character clock: what it leaves, and what it tells.
+-- The character clock: the state after it, and its outputs.
 abbrev pub clock_leaves : State → State
 clock_leaves c = count_leaves (start_leaves c)
 

@@ -1,8 +1,9 @@
--- Access to the registers: one is selected, and then written or read. (6845 data sheet, Address Register.)
+-- Access to the registers: one is selected, and then written or read. (6845 data sheet, Address
+-- Register.)
 use Rattle.std.specs.Prelude.{ℕ, ◌+◌, ◌*◌, ◌%◌, ◌==◌, if◌then◌else◌}
 use Rattle.crtc6845.specs.State.{Registers, State}
 
--- the number of 14 bits that has these two bytes
+-- the 14-bit number of two bytes
 abbrev pub word : ℕ → ℕ → ℕ
 word high low = 256 * high + low
 
@@ -13,12 +14,12 @@ start_address r = word r.start_high r.start_low
 abbrev pub cursor_address : Registers → ℕ
 cursor_address r = word r.cursor_high r.cursor_low
 
--- Selecting uses five bits.
+-- A selection uses five bits.
 abbrev pub select_leaves : ℕ → State → State
 select_leaves v c = record c { selected = v % 32 }
 
--- The registers once one of them is written: R4, R6, R7 and R10 have seven bits, R5, R9 and R11 five, R12 and R14 six, the others
--- eight. There are none from R16 on.
+-- The registers after a write to one of them. R4, R6, R7 and R10 have seven bits, R5, R9 and R11
+-- five, R12 and R14 six, the others eight. Writes to R16 to R31 are ignored.
 abbrev pub write_leaves : ℕ → ℕ → Registers → Registers
 write_leaves n v r =
     if n == 0 then record r { horizontal_total = v }
@@ -42,7 +43,7 @@ write_leaves n v r =
 abbrev pub set_leaves : ℕ → State → State
 set_leaves v c = record c { registers = write_leaves c.selected v c.registers }
 
--- R12 to R15 can be read, and the others read 00. (This is this project's profile.)
+-- R12 to R15 can be read, and the others read 00. (That is this project's profile.)
 abbrev pub answer_of : State → ℕ
 answer_of c =
     if c.selected == 12 then c.registers.start_high

@@ -1,30 +1,30 @@
--- The 6845, or cathode ray tube controller: it counts characters, rasters and rows, and says which address is shown and when the picture
--- is to be drawn anew. (6845 data sheet, Internal Register Assignment.)
+-- The 6845, or cathode ray tube controller. It counts characters, rasters and rows, and outputs the
+-- address that is shown and the syncs. (6845 data sheet, Internal Register Assignment.)
 use Rattle.std.specs.Prelude.{ℕ, Option, None}
 
 -- Registers R0 to R15.
 pub record Registers : Type 0 where
   -- the characters of a line, less one
   pub horizontal_total : ℕ
-  -- the characters shown of a line
+  -- the characters shown in a line
   pub horizontal_displayed : ℕ
-  -- the character at which horizontal sync begins
+  -- the character that begins horizontal sync
   pub horizontal_sync_position : ℕ
   -- the widths of the syncs: the high digit is the lines of vertical sync
   pub sync_widths : ℕ
   -- the rows of a frame, less one
   pub vertical_total : ℕ
-  -- the lines that follow a frame's rows
+  -- the adjust lines, which follow a frame's rows
   pub vertical_adjust : ℕ
-  -- the rows shown of a frame
+  -- the rows shown in a frame
   pub vertical_displayed : ℕ
-  -- the row at which vertical sync begins
+  -- the row that begins vertical sync
   pub vertical_sync_position : ℕ
-  -- bits 0 and 1: interlaced sync and video
+  -- bits 0 and 1 both set: interlace sync and video
   pub interlace : ℕ
   -- the last raster of a row
   pub maximum_raster : ℕ
-  -- the cursor's first raster in bits 0 to 4, and how it blinks in bits 5 and 6
+  -- bits 0 to 4: the cursor's first raster; bits 5 and 6: its blinking
   pub cursor_start : ℕ
   -- the cursor's last raster
   pub cursor_end : ℕ
@@ -36,23 +36,24 @@ pub record Registers : Type 0 where
   pub cursor_low : ℕ
 
 pub record State : Type 0 where
-  -- the register that is selected
+  -- the selected register
   pub selected : ℕ
   pub registers : Registers
-  -- which character of the line comes next, which row of the frame it is in, and which raster of the row
+  -- the next character of the line, its row of the frame, and its raster of the row
   pub character : ℕ
   pub row : ℕ
   pub raster : ℕ
   -- the address of the row's first character
   pub base : ℕ
-  -- which of the lines after the rows it is, if it is one
+  -- the number of the adjust line, if the line is one
   pub adjust : Option ℕ
   -- the lines of vertical sync that are left
   pub sync_lines : ℕ
-  -- how often vertical sync began, modulo 2^32
+  -- the number of times that vertical sync began, modulo 2^32
   pub fields : ℕ
 
--- At power-on all is 0. (So that the first character begins vertical sync, which is this project's profile.)
+-- At power-on all is 0. (The first character then begins vertical sync, which is this project's
+-- profile.)
 abbrev pub power_on : State
 power_on = record {
   selected = 0;

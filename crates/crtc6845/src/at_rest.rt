@@ -1,4 +1,4 @@
-//! Many character clocks at rest.
+//! Many character clocks of a quiet chip.
 ghost use Rattle.std.specs.Prelude.{ℕ, ◌≡◌, ◌+◌, ◌-◌, ◌/◌, ◌%◌, ◌<◌, ◌==◌, true, if◌then◌else◌};
 ghost use Rattle.crtc6845.specs.Calm.{StaysInSync};
 ghost use Rattle.crtc6845.specs.CodeSteps.{is_quiet};
@@ -23,14 +23,14 @@ impl Crtc {
         u64::from(self.sync_lines)
     }
 
-    // Lines of vertical sync pass.
+    // Counts `n` lines of vertical sync.
     fn count_sync(&mut self, n: u64)
         ensures { self.new ≡ record self.old { sync_lines = self.old.sync_lines - n } }
     {
         self.sync_lines = u64::from(self.sync_lines).saturating_sub(n) as u8;
     }
 
-    // Vertical sync begins, and again and again in so many clocks after that.
+    // Begins vertical sync and does `past` further clocks. Sync begins again whenever it is over.
     fn turn_sync(&mut self, past: u64) -> Finished
         requires { past < 18446744073709551615 }
         ensures state { self.new ≡ sync_after past self.old }
@@ -47,7 +47,7 @@ impl Crtc {
         }
     }
 
-    /// Does `n` character clocks where `is_quiet` is true, and tells what they finish.
+    /// Does `n` character clocks of a quiet chip, and returns the frames that they finish.
     pub fn rest(&mut self, n: u64) -> Finished
         requires { is_quiet self.old ≡ true }
         ensures state { self.new ≡ clocks n self.old }
@@ -82,7 +82,8 @@ impl Crtc {
         self.turn_sync(n - first)
     }
 
-    // A number of character clocks for which vertical sync stays what it is, where the chip is quiet.
+    // Returns a number of character clocks of a quiet chip during which vertical sync does not
+    // change.
     pub(crate) fn calm_at_rest(&self) -> u64
         requires { is_quiet self.now ≡ true }
         ensures { StaysInSync result self.now }

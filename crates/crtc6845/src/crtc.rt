@@ -1,4 +1,4 @@
-//! The chip, and what a character clock does to it.
+//! The chip, and its character clock.
 ghost use Rattle.std.specs.Prelude.{◌≡◌, ◌<◌, ◌==◌, ◌||◌, false, if◌then◌else◌};
 ghost use Rattle.crtc6845.specs.State.{power_on};
 ghost use Rattle.crtc6845.specs.Registers.{select_leaves, set_leaves, answer_of};
@@ -17,17 +17,17 @@ use std::marker::Model;
 pub struct Crtc {
     pub(crate) selected: u8,
     pub(crate) registers: Registers,
-    // Which character of the line comes next, in which row of the frame, and on which raster of the row.
+    // The next character of the line, its row of the frame, and its raster of the row.
     pub(crate) character: u8,
     pub(crate) row: u8,
     pub(crate) raster: u8,
     // The address of the row's first character.
     pub(crate) base: u16,
-    // Which of the lines after the rows it is, if it is one.
+    // The number of the adjust line, if the line is one.
     pub(crate) adjust: Option<u8>,
     // The lines of vertical sync that are left.
     pub(crate) sync_lines: u8,
-    // How often vertical sync began.
+    // The number of times that vertical sync began, modulo 2^32.
     pub(crate) fields: u32,
 }
 
@@ -52,7 +52,7 @@ impl Model for Crtc {
     ghost invariant = { λ c. (c.row ≤ 128) × (c.raster < 32) × (c.base < 16384) × IfSome c.adjust (λ line. line < 32) };
 }
 
-// Whether the cursor is on, by bits 6 and 5 of R10.
+// Reports if the cursor is on, by bits 6 and 5 of R10.
 fn blinks_on(start: u8, fields: u32) -> bool
     ensures { result ≡ blinks_on start fields }
 {
@@ -66,7 +66,7 @@ fn blinks_on(start: u8, fields: u32) -> bool
 }
 
 impl Crtc {
-    /// The chip at power-on: all is 0. The first character clock then begins vertical sync.
+    /// Returns the chip at power-on: all is 0. The first character clock then begins vertical sync.
     pub fn new() -> Crtc
         ensures { result ≡ power_on }
     {
@@ -90,7 +90,7 @@ impl Crtc {
         self.selected = v % 32;
     }
 
-    /// Writes the selected register. Each has its number of bits, and there are none from R16 on.
+    /// Writes the selected register, as many bits as it has. Writes to R16 to R31 are ignored.
     pub fn set(&mut self, v: u8)
         ensures { self.new ≡ set_leaves v self.old }
     {
@@ -110,7 +110,7 @@ impl Crtc {
         }
     }
 
-    /// Vertical sync is on.
+    /// Reports if vertical sync, VSYNC, is on.
     #[inline(always)]
     pub fn vsync(&self) -> bool
         ensures { result ≡ is_in_sync self.now }
@@ -118,7 +118,7 @@ impl Crtc {
         self.sync_lines > 0
     }
 
-    /// Does one character clock, and tells it.
+    /// Does one character clock, and returns its outputs.
     #[inline(always)]
     pub fn clock(&mut self) -> Beam
         ensures beam { result ≡ beam_of self.old }
@@ -131,7 +131,7 @@ impl Crtc {
         beam
     }
 
-    // What the character clock tells, once its line and its frame have begun.
+    // Returns the outputs of the character clock, after the start of its line and its frame.
     #[inline(always)]
     fn beam(&self, line_start: bool, frame_end: bool) -> Beam
         ensures { result ≡ record {
@@ -161,7 +161,8 @@ impl Crtc {
         }
     }
 
-    /// The next character is the first or the last of its line: a line, a row or a frame may begin or end with it.
+    /// Reports if the next character is the first or the last of its line. Only with such a
+    /// character a line, a row or a frame begins or ends.
     #[inline(always)]
     pub fn is_edge(&self) -> bool
         ensures { result ≡ (starts_line self.now || ends_line self.now) }
@@ -169,7 +170,7 @@ impl Crtc {
         self.starts_line() || self.ends_line()
     }
 
-    /// The next character is the first of its line.
+    /// Reports if the next character is the first of its line.
     #[inline(always)]
     pub fn starts_line(&self) -> bool
         ensures { result ≡ starts_line self.now }
@@ -177,7 +178,8 @@ impl Crtc {
         self.character == 0
     }
 
-    /// Each character is a line and the whole frame, and is not shown. So it is before the registers are written.
+    /// Reports if each character is a whole line and a whole frame, and is not shown. The chip is
+    /// quiet at power-on.
     #[inline(always)]
     pub fn is_quiet(&self) -> bool
         ensures { result ≡ is_quiet self.now }
@@ -192,7 +194,7 @@ impl Crtc {
             && self.base == self.registers.start_address()
     }
 
-    // At the start of a line: vertical sync goes on, or begins.
+    // Starts a line: vertical sync continues, ends or begins. Reports if it begins.
     #[inline(always)]
     fn start_line(&mut self) -> bool
         ensures begins { result ≡ begins_sync (sync_counted self.old) }
@@ -247,7 +249,7 @@ impl Crtc {
         self.is_shown() && self.address() == self.registers.cursor_address() && self.cursor_is_on()
     }
 
-    // The cursor is on this raster, and blinks on.
+    // Reports if the cursor is on the current raster, and not blinked off.
     #[inline(never)]
     pub(crate) fn cursor_is_on(&self) -> bool
         ensures { result ≡ cursor_is_on self.now }
@@ -257,7 +259,7 @@ impl Crtc {
             && blinks_on(self.registers.cursor_start, self.fields)
     }
 
-    /// The next character is the last of its line.
+    /// Reports if the next character is the last of its line.
     #[inline(always)]
     pub fn ends_line(&self) -> bool
         ensures { result ≡ ends_line self.now }
@@ -265,7 +267,7 @@ impl Crtc {
         self.character == self.registers.horizontal_total
     }
 
-    // The row goes up with this character.
+    // Reports if the row goes up by one after the next character.
     #[inline(always)]
     fn ends_row(&self) -> bool
         ensures { result ≡ ends_row self.now }
@@ -273,7 +275,7 @@ impl Crtc {
         self.ends_line() && self.ends_row_line()
     }
 
-    // The line is the last of its row, and another row follows.
+    // Reports if the line is the last of its row, and another row follows.
     #[inline(never)]
     fn ends_row_line(&self) -> bool
         ensures { result ≡ ends_row_line self.now }
@@ -281,7 +283,7 @@ impl Crtc {
         self.adjust.is_none() && self.is_row_done() && !self.is_last_line()
     }
 
-    // A new frame begins after this character.
+    // Reports if a new frame begins after the next character.
     #[inline(always)]
     fn ends_frame(&self) -> bool
         ensures { result ≡ ends_frame self.now }
@@ -289,7 +291,7 @@ impl Crtc {
         self.ends_line() && self.is_last_line()
     }
 
-    // The line is the last of its frame.
+    // Reports if the line is the last of its frame.
     #[inline(never)]
     fn is_last_line(&self) -> bool
         ensures { result ≡ is_last_line self.now }
@@ -312,7 +314,7 @@ impl Crtc {
         self.is_row_done() && self.row == self.registers.vertical_total
     }
 
-    // The next character.
+    // Counts to the next character.
     #[inline(always)]
     fn count(&mut self)
         ensures { self.new ≡ count_leaves self.old }
@@ -344,7 +346,7 @@ impl Crtc {
         self.base = self.registers.start_address();
     }
 
-    // A line of adjust ends.
+    // Ends an adjust line.
     fn end_adjust_line(&mut self, line: u8)
         requires { line < 32 }
         ensures { self.new ≡ adjust_line_ended line self.old }
@@ -357,7 +359,7 @@ impl Crtc {
         }
     }
 
-    // A line of a row ends.
+    // Ends a line of a row.
     fn end_row_line(&mut self)
         ensures { self.new ≡ row_line_ended self.old }
     {
@@ -372,7 +374,7 @@ impl Crtc {
         }
     }
 
-    // The last row ends.
+    // Ends the last row.
     fn end_rows(&mut self)
         requires { self.old.row ≡ self.old.registers.vertical_total }
         ensures { self.new ≡ (if self.old.registers.vertical_adjust == 0 then frame_begun self.old else adjust_begun self.old) }

@@ -10,7 +10,7 @@ use crate::Span;
 use crate::crtc::Crtc;
 
 impl Crtc {
-    // So many characters come before the last of the line, or before they begin anew.
+    // Returns the number of characters before the last of the line, or before the count wraps to 0.
     #[inline(always)]
     fn inside_clocks(&self) -> u16
         requires start { starts_line self.now ≡ false }
@@ -26,7 +26,8 @@ impl Crtc {
         if at <= total { total - at } else { 256 - at }
     }
 
-    // So many characters come before the one with which horizontal sync begins, or more than are left of the line.
+    // Returns the number of characters before the one that begins horizontal sync, or 256 if that
+    // one is past.
     #[inline(always)]
     fn to_sync(&self) -> u16
         ensures here { self.now.character ≤ self.now.registers.horizontal_sync_position
@@ -38,7 +39,8 @@ impl Crtc {
         if at <= sync { sync - at } else { 256 }
     }
 
-    // How many of the next characters are shown, if this one is.
+    // Returns a number, at most `n`, of next characters that are all shown. The first must be
+    // shown.
     #[inline(always)]
     fn before_hidden(&self, n: u16) -> u16
         requires some { 0 < n }
@@ -53,7 +55,7 @@ impl Crtc {
         if to == 0 || n < to { n } else { to }
     }
 
-    // How many of the next characters are in this one's 1,024 addresses.
+    // Returns a number, at most `n`, of next characters in one block of 1,024 addresses.
     #[inline(always)]
     fn before_page(&self, n: u16) -> u16
         requires some { 0 < n }
@@ -78,7 +80,7 @@ impl Crtc {
         self.fields
     }
 
-    // How far it is to the cursor.
+    // Returns the number of addresses from the next character to the cursor.
     #[inline(always)]
     fn to_cursor(&self) -> u16
         requires { cursor_address self.now.registers < 16384 }
@@ -87,7 +89,7 @@ impl Crtc {
         (self.registers.cursor_address() + 16384 - self.address()) % 16384
     }
 
-    // How many of the next characters come before the cursor, this one aside.
+    // Returns a number, at most `n`, of next characters. Only the first may have the cursor.
     #[inline(always)]
     fn before_cursor(&self, n: u16) -> u16
         requires some { 0 < n }
@@ -104,8 +106,8 @@ impl Crtc {
         to
     }
 
-    // How many of the next characters are shown as this one is, with neither cursor nor horizontal sync but on this one; or all, where it
-    // is not shown.
+    // Returns a number, at most `n`, of next characters that are shown if the first is. Only the
+    // first may have the cursor or begin horizontal sync. Returns `n` if the first is not shown.
     #[inline(always)]
     fn before_other(&self, shown: bool, to_sync: u16, n: u16) -> u16
         requires some { 0 < n }
@@ -129,8 +131,9 @@ impl Crtc {
         self.before_cursor(n)
     }
 
-    /// The characters that come, all of them inside the line and alike, where `is_edge` is false. Those that are shown lie in one block of
-    /// 1,024 addresses, and horizontal sync begins with none of them but the first.
+    /// Returns the next characters, all alike and inside the line, if `is_edge` is false. If they
+    /// are shown, they are in one block of 1,024 addresses, and only the first may begin horizontal
+    /// sync.
     #[inline(always)]
     pub fn span(&self) -> Span
         requires start { starts_line self.now ≡ false }
@@ -155,7 +158,7 @@ impl Crtc {
         }
     }
 
-    /// Does so many character clocks inside the line, as `span` tells them.
+    /// Does `n` character clocks inside the line. `span` has their outputs.
     #[inline(always)]
     pub fn pass(&mut self, n: u16)
         requires start { starts_line self.old ≡ false }

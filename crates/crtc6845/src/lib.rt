@@ -1,4 +1,4 @@
-//! The 6845, or cathode ray tube controller, a character clock at a time (6845 data sheet).
+//! The 6845, or cathode ray tube controller, one character clock at a time (6845 data sheet).
 #![tactic(auto)]
 
 mod at_rest;
@@ -16,68 +16,69 @@ pub use law::{
     vertical_sync_comes_in_each_frame, vertical_sync_has_its_lines,
 };
 
-/// What one character clock tells.
+/// The outputs of one character clock.
 #[derive(Clone, Copy, Debug, PartialEq, Eq)]
 pub struct Beam {
     /// The character is shown: display enable, DISPEN.
     pub shown: bool,
-    /// Its address, of 14 bits: MA0 to MA13.
+    /// The character's address, of 14 bits: MA0 to MA13.
     pub ma: u16,
-    /// Its raster of the row, of 5 bits: RA0 to RA4.
+    /// The character's raster of the row, of 5 bits: RA0 to RA4.
     pub ra: u8,
-    /// The cursor is on it.
+    /// The cursor is on the character.
     pub cursor: bool,
-    /// It is the first of its line.
+    /// The character is the first of its line.
     pub line_start: bool,
-    /// Horizontal sync, HSYNC, begins with it.
+    /// Horizontal sync, HSYNC, begins with the character.
     pub sync_start: bool,
-    /// Vertical sync, VSYNC, began with it: the frame that was drawn is finished.
+    /// Vertical sync, VSYNC, begins with the character: the drawn frame is finished.
     pub frame_end: bool,
-    /// How often vertical sync has begun, modulo 2^32.
+    /// The number of times that vertical sync began, modulo 2^32.
     pub fields: u32,
-    /// It is the last of its row, and another row follows.
+    /// The character is the last of its line, the line is the last of its row, and another row
+    /// follows.
     pub row_end: bool,
-    /// It is the last of its frame.
+    /// The character is the last of its frame.
     pub restart: bool,
 }
 
-/// What several character clocks tell of the frames that they finish.
+/// The frames that several character clocks finish.
 #[derive(Clone, Copy, Debug, PartialEq, Eq)]
 pub struct Finished {
-    /// How many frames they finish.
+    /// The number of frames that the clocks finish.
     pub frames: u64,
-    /// How many clocks came after the last that finished one, or all of them where none did.
+    /// The number of clocks after the last one that finished a frame, or of all clocks if none did.
     pub past: u64,
 }
 
-/// Characters that come, all of them inside a line and alike.
+/// The next characters, all alike and inside a line.
 #[derive(Clone, Copy, Debug, PartialEq, Eq)]
 pub struct Span {
-    /// How many they are.
+    /// The number of characters.
     pub clocks: u16,
-    /// They are shown.
+    /// The characters are shown.
     pub shown: bool,
-    /// The first one's address, of 14 bits.
+    /// The first character's address, of 14 bits.
     pub ma: u16,
-    /// Their raster of the row, of 5 bits.
+    /// The characters' raster of the row, of 5 bits.
     pub ra: u8,
-    /// The cursor is on the first, and on no other.
+    /// The cursor is on the first character, and on no other.
     pub cursor: bool,
-    /// Horizontal sync begins behind so many of them, if they are as many.
+    /// Horizontal sync begins after `to_sync` of the characters, if `clocks` is above `to_sync`.
     pub to_sync: u16,
-    /// How often vertical sync has begun, modulo 2^32.
+    /// The number of times that vertical sync began, modulo 2^32.
     pub fields: u32,
 }
 
-/// Two windows of addresses, of 14 bits: that of the frame that is on, and that of the frames to come.
+/// Two windows of addresses, of 14 bits: that of the current frame, and that of later frames.
 #[derive(Clone, Copy, Debug, PartialEq, Eq)]
 pub struct Windows {
-    /// The first address of the row that is on.
+    /// The first address of the current row.
     pub base: u16,
-    /// How many of the frame that is on may be shown from there on.
+    /// The number of addresses from `base` on that the current frame may still show.
     pub count: u16,
-    /// The first address of the frames to come.
+    /// The first address of later frames.
     pub start: u16,
-    /// How many a frame shows from there on.
+    /// The number of addresses from `start` on that a later frame shows.
     pub frame: u16,
 }

@@ -1,11 +1,11 @@
-//! How long vertical sync surely stays what it is.
+//! A number of clocks during which vertical sync does not change.
 ghost use Rattle.std.specs.Prelude.{◌≡◌, ◌<◌, ◌≤◌};
 ghost use Rattle.crtc6845.specs.Calm.{clocks_to_line, meets_last, lines_left, is_sync_line, lines_before_sync, quiet_lines, calm_of, Fits, StaysInSync};
 
 use crate::crtc::Crtc;
 
 impl Crtc {
-    // The clocks that come before the next that starts a line.
+    // Returns the number of clocks before the next one that starts a line.
     fn clocks_to_line(&self) -> u64
         ensures value { result ≡ clocks_to_line self.now }
         ensures character { self.now.character < 256 }
@@ -22,7 +22,7 @@ impl Crtc {
         }
     }
 
-    // How many lines of the row are left, this one among them, at least.
+    // Returns a lower bound on the lines that are left of the row, with the current one.
     fn lines_left(&self) -> u64
         ensures value { result ≡ lines_left self.now.registers self.now.raster }
         ensures bound { result ≤ 256 }
@@ -35,7 +35,7 @@ impl Crtc {
         }
     }
 
-    // The rasters from this one on meet the last of the row.
+    // Reports if the rasters from the current one on reach the last of the row.
     fn meets_last(&self) -> bool
         ensures { result ≡ meets_last self.now.registers self.now.raster }
     {
@@ -43,7 +43,8 @@ impl Crtc {
         self.raster <= last && (last - self.raster) % self.registers.raster_step() == 0
     }
 
-    // A line that vertical sync begins with, if it is over.
+    // Reports if vertical sync begins with the current line, provided that the sync before it is
+    // over.
     fn is_sync_line(&self) -> bool
         ensures { result ≡ is_sync_line self.now }
     {
@@ -52,7 +53,7 @@ impl Crtc {
             && self.raster == 0
     }
 
-    // After how many ends of lines, at least, the first line of row R7 comes.
+    // Returns a lower bound, at least 1, on the line ends up to the first line of row R7.
     fn lines_before_sync(&self) -> u64
         ensures value { result ≡ lines_before_sync self.now }
         ensures bound { result ≤ 200000 }
@@ -76,7 +77,8 @@ impl Crtc {
         }
     }
 
-    // While sync is off: the lines that surely pass before it begins, from the next start of a line on.
+    // Returns a number of lines, from the next start of a line on, before sync begins. Sync must be
+    // off.
     fn quiet_lines(&self) -> u64
         ensures value { result ≡ quiet_lines self.now }
         ensures bound { result ≤ 200000 }
@@ -92,7 +94,7 @@ impl Crtc {
         }
     }
 
-    /// A number of character clocks for which vertical sync surely stays what it is.
+    /// Returns a number of character clocks during which vertical sync does not change.
     pub fn calm(&self) -> u64
         ensures { StaysInSync result self.now }
     {

@@ -25,7 +25,7 @@ pub(crate) struct Registers {
     pub(crate) cursor_end: u8,
     pub(crate) start_high: u8,
     pub(crate) start_low: u8,
-    // R14 and R15, as the address that is compared with each character's.
+    // R14 and R15 as one address, which is compared with each character's.
     pub(crate) cursor: u16,
 }
 
@@ -82,7 +82,7 @@ impl Registers {
         }
     }
 
-    /// Writes one of them: each has its number of bits.
+    /// Writes register `n`, as many bits as it has.
     pub(crate) fn write(&mut self, n: u8, v: u8)
         ensures { self.new ≡ write_leaves n v self.old }
     {
@@ -107,7 +107,7 @@ impl Registers {
         }
     }
 
-    /// The address of a frame's first character.
+    /// Returns the address of a frame's first character, R12 and R13.
     pub(crate) fn start_address(&self) -> u16
         ensures value { result ≡ start_address self.now }
         ensures bound { result < 16384 }
@@ -115,7 +115,7 @@ impl Registers {
         256 * u16::from(self.start_high) + u16::from(self.start_low)
     }
 
-    /// The address of the cursor.
+    /// Returns the address of the cursor, R14 and R15.
     #[inline(always)]
     pub(crate) fn cursor_address(&self) -> u16
         ensures { result ≡ cursor_address self.now }
@@ -135,7 +135,7 @@ impl Registers {
         (self.cursor % 256) as u8
     }
 
-    /// How many lines vertical sync has.
+    /// Returns the number of lines of vertical sync.
     pub(crate) fn sync_height(&self) -> u8
         ensures value { result ≡ sync_height self.now }
         ensures bound { (1 ≤ result) × (result ≤ 16) }
@@ -153,7 +153,7 @@ impl Registers {
         bit(self.interlace, 0) && bit(self.interlace, 1)
     }
 
-    /// From one raster of a row to the next.
+    /// Returns the difference of a raster and the next one of the row.
     pub(crate) fn raster_step(&self) -> u8
         ensures value { result ≡ raster_step self.now }
         ensures bound { result ≤ 2 }
@@ -161,7 +161,7 @@ impl Registers {
         if self.is_interlaced() { 2 } else { 1 }
     }
 
-    /// The last raster of a row.
+    /// Returns the last raster of a row.
     pub(crate) fn last_raster(&self) -> u8
         ensures { result ≡ last_raster self.now }
     {
@@ -172,7 +172,7 @@ impl Registers {
         }
     }
 
-    /// The lines of a row.
+    /// Returns the number of lines of a row.
     pub(crate) fn row_lines(&self) -> u64
         ensures value { result ≡ row_lines self.now }
         ensures bound { result ≤ 256 }
@@ -180,7 +180,7 @@ impl Registers {
         u64::from(self.last_raster() / self.raster_step()) + 1
     }
 
-    /// The characters of a line.
+    /// Returns the number of characters of a line.
     pub(crate) fn line_characters(&self) -> u64
         ensures value { result ≡ line_characters self.now }
         ensures bound { result ≤ 256 }
@@ -190,7 +190,7 @@ impl Registers {
         u64::from(self.horizontal_total) + 1
     }
 
-    /// R0.
+    /// Returns R0, the horizontal total less one.
     #[inline(always)]
     pub(crate) fn total(&self) -> u16
         ensures value { result ≡ self.now.horizontal_total }
@@ -202,7 +202,8 @@ impl Registers {
         u16::from(self.horizontal_total)
     }
 
-    /// The characters that are shown of a frame from this row on, of the rows that it has.
+    /// Returns the number of characters that a frame shows from row `first` on, among the rows that
+    /// it has.
     pub(crate) fn shown_count(&self, first: u8) -> u16
         ensures value { result ≡ shown_count self.now first }
         ensures bits { HaveTheirBits self.now }

@@ -1,4 +1,4 @@
-//! The addresses that may yet be shown.
+//! The addresses that are shown from now on.
 ghost use Rattle.std.specs.Prelude.{◌≡◌, ◌<◌};
 ghost use Rattle.crtc6845.specs.Registers.{start_address};
 ghost use Rattle.crtc6845.specs.Laws.{HaveTheirBits};
@@ -8,7 +8,7 @@ use crate::Windows;
 use crate::crtc::Crtc;
 
 impl Crtc {
-    // The characters that may be shown of the frame that is on now.
+    // Returns the number of characters that the current frame may still show.
     fn now_count(&self) -> u16
         ensures { result ≡ now_count self.now }
     {
@@ -42,7 +42,7 @@ impl Crtc {
         self.registers.start_address()
     }
 
-    /// The addresses that are shown from now on, until a register is written.
+    /// Returns windows of all addresses that are shown from now on, until a register is written.
     pub fn windows(&self) -> Windows
         ensures shown { ShowsWindows result.base result.count result.start result.frame self.now }
         ensures base { result.base < 16384 }

@@ -20,7 +20,7 @@ none_left {n} g all =
     let none : 256 - n ≡ 0 = omega (arith, all) in
     rw none refl
 
--- what was drawn and what is left stay the same together
+-- the drawn bytes and the bytes that are left are always all of them
 pub next_left : {n : ℕ} (g h : Lcg) (b : ℕ) (bytes more all : List ℕ) → n < 256 → b ≡ (pcg32 g).0 % 256 → h ≡ (pcg32 g).1 → more ≡ bytes ++ b ∷ [] → bytes ++ left n g ≡ all →
     more ++ left (n + 1) h ≡ all
 next_left {n} g h b bytes more all less byte after pushed before =

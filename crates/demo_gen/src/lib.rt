@@ -16,10 +16,11 @@ use std::alloc::{AllocError, Global};
 /// The images of the pair.
 #[derive(Debug, Drop)]
 pub struct Demo {
-    /// The host's operating system, 16,384 bytes: it takes bytes from the Tube's register 1, keeps them from 2000 on, and their sum
-    /// at 0070 and 0071.
+    /// The host's operating system, 16,384 bytes. It takes bytes from the Tube's register 1, stores
+    /// them from 2000 on, and their sum at 0070 and 0071.
     pub os: Vec<u8>,
-    /// The second processor's boot ROM, 2,048 bytes: it sends the 256 bytes at F900 sixteen times to the Tube's register 1.
+    /// The second processor's boot ROM, 2,048 bytes. It sends the 256 bytes at F900 sixteen times
+    /// to the Tube's register 1.
     pub tube: Vec<u8>,
 }
 
@@ -66,11 +67,12 @@ org &FFFA
 word start, start, start
 ";
 
-/// The pair of a seed: the images of both programs, with 256 bytes at F900 to F9FF of the second processor's. They are the
-/// low bytes of the first 256 words of the PCG generator (XSH RR 64/32) of the seed and stream 0. Both programs assemble.
+/// Makes the pair of a seed: the images of both programs. The second processor's has 256 bytes at
+/// F900 to F9FF: the low bytes of the first 256 words of the PCG generator (XSH RR 64/32) of the
+/// seed and stream 0. Both programs assemble.
 ///
 /// # Errors
-/// Want of memory.
+/// Out of memory.
 pub fn pair(alloc: Global, seed: u64) -> Result<Demo, NoMemory>
     ensures assembles { IsOk (source Part.Nmos host_text) × IsOk (source Part.Cmos tube_text) }
     ensures os { IfOk result (λ demo. image_of (source Part.Nmos host_text) ≡ Ok demo.os.items) }
@@ -81,12 +83,12 @@ pub fn pair(alloc: Global, seed: u64) -> Result<Demo, NoMemory>
     Ok(Demo { os, tube })
 }
 
-/// The images of every seed have the lengths that their machines ask for.
+/// States that the images of every seed have the lengths that their machines require.
 pub fn images_fit()
     ensures { ImagesFit }
 {}
 
-// The image of a text that assembles.
+// Makes the image of a text that assembles.
 fn assembled(alloc: Global, part: Part, text: &[u8]) -> Result<Image, NoMemory>
     requires { IsOk (source part text.now) }
     ensures { IfOk result (λ image. source part text.now ≡ Ok (image.origin, image.bytes.items)) }
@@ -119,7 +121,7 @@ fn tube_image(alloc: Global, seed: u64) -> Result<Vec<u8>, NoMemory>
     Ok(holding(alloc, &program.bytes, &bytes)?)
 }
 
-// The low byte of the generator's next word.
+// Returns the low byte of the generator's next word.
 fn next_byte(generator: &mut Lcg64Xsh32) -> u8
     ensures byte { result ≡ (pcg32 generator.old).0 % 256 }
     ensures after { generator.new ≡ (pcg32 generator.old).1 }
@@ -127,7 +129,7 @@ fn next_byte(generator: &mut Lcg64Xsh32) -> u8
     (generator.next_word() % 256) as u8
 }
 
-// The low bytes of the generator's first 256 words.
+// Returns the low bytes of the generator's first 256 words.
 fn drawn(alloc: Global, seed: u64) -> Result<Vec<u8>, AllocError>
     ensures { IfOk result (λ bytes. bytes.items ≡ drawn_bytes seed) }
 {
@@ -139,7 +141,7 @@ fn drawn(alloc: Global, seed: u64) -> Result<Vec<u8>, AllocError>
     Ok(bytes)
 }
 
-// The first page of an image.
+// Returns the first page of an image.
 fn front(image: &[u8]) -> &[u8]
     ensures { result.now ≡ take 256 image.now }
 {
@@ -150,7 +152,7 @@ fn front(image: &[u8]) -> &[u8]
     }
 }
 
-// What lies behind the second page of an image.
+// Returns the bytes of an image after its second page.
 fn behind(image: &[u8]) -> &[u8]
     ensures { result.now ≡ drop 512 image.now }
 {
@@ -161,7 +163,7 @@ fn behind(image: &[u8]) -> &[u8]
     }
 }
 
-// The image with these bytes as its second page.
+// Returns the image with `bytes` as its second page.
 fn holding(alloc: Global, image: &[u8], bytes: &[u8]) -> Result<Vec<u8>, AllocError>
     ensures { IfOk result (λ held. held.items ≡ image_with bytes.now image.now) }
 {

@@ -1,4 +1,4 @@
--- Digits behind a number make no smaller one.
+-- Further digits never lower a number.
 use Rattle.std.proofs.lemmas.List.{drop_more}
 use Rattle.std.proofs.lemmas.Bool.Decides.{nat_tests}
 use Rattle.std.proofs.Math.Nat.{pow-le-pow_right}
@@ -9,7 +9,7 @@ grown : (digits : List ℕ) (n : ℕ) → n ≤ decimal_value_after n digits
 grown [] n = omega arith
 grown (b ∷ digits) n = omega (arith, grown digits (10 * n + (b - 48)))
 
--- a digit past the largest number is past it for good
+-- a number above the largest stays above it after further digits
 pub past : (most n i : ℕ) (digits : List ℕ) → i < length digits → most < 10 * n + (get_or digits i 0 - 48) → most < decimal_value_after n (drop i digits)
 past most n i digits h more =
     rw (drop_more digits i 0 h) (omega (arith, grown (drop (i + 1) digits) (10 * n + (get_or digits i 0 - 48))))

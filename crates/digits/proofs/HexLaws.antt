@@ -41,7 +41,7 @@ pow_pos (suc k) = let low : 0 < 16 ^ k = pow_pos k in omega arith
 split_at : (q a d p r : ℕ) → q ≡ a * 16 + d → q * p + r ≡ a * (16 * p) + (d * p + r)
 split_at q a d p r e = rw e (omega arith)
 
--- one digit more of what is left of n
+-- one more digit of the rest of n
 one_digit : (m n p : ℕ) → 0 < p → (16 * m + n / p % 16) * p + n % p ≡ m * (16 * p) + n % (16 * p)
 one_digit m n p pos =
     let d : ℕ = n / p % 16 in
@@ -65,7 +65,7 @@ reads_back k n h = read-after k n 0 ∙ omega (arith, mod-eq_of_lt h)
 
 -- ---- read and written
 
--- digits behind a number
+-- digits after a number
 pub number_after : (text : List ℕ) (m : ℕ) → hex_number_after m text ≡ m * 16 ^ length text + hex_number text
 number_after [] m = omega arith
 number_after (b ∷ text) m = rw (number_after text (16 * m + hex_value b), number_after text (16 * 0 + hex_value b), pow-succ' 16 (length text)) (omega arith)

@@ -1,4 +1,4 @@
--- Hexadecimal digits one by one.
+-- Hexadecimal digits one at a time.
 use Rattle.std.proofs.Common.{◌≡◌, ℕ, ◌+◌, ◌*◌, ◌^◌, ◌<◌, ◌≤◌, length, get_or, List, false, IsTrue, arith, lit<}
 use Rattle.std.proofs.lemmas.List.Folds.{list_all_at}
 use Rattle.std.proofs.lemmas.Grind.{pow_more}
@@ -11,7 +11,7 @@ pub digit-at : (digits : List ℕ) (i : ℕ) → i < length digits → IsTrue (l
 digit-at digits i h all =
     let none : is_hex_any_case (get_or digits i 0) ≡ false → list_all is_hex_any_case digits ≡ false = list_all_at is_hex_any_case digits i 0 h in grind arith
 
--- one digit more, below one power more
+-- one more digit, and the next power as bound
 pub one_more : (number digit i : ℕ) → number < 16 ^ i → digit < 16 → 16 * number + digit < 16 ^ (i + 1)
 one_more number digit i h d = rw pow_more (omega arith)
 

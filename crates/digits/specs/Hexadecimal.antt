@@ -1,4 +1,4 @@
--- Hexadecimal digits: upper-case ones where they are written, and of either case where they are read.
+-- Hexadecimal digits: upper-case in writing, and of either case in reading.
 use Rattle.std.specs.Prelude.{ℕ, zero, suc, ◌+◌, ◌-◌, ◌*◌, ◌/◌, ◌%◌, ◌^◌, ◌&&◌, ◌||◌, nat_le, nat_lt, Bool, List, [], ◌∷◌, if◌then◌else◌}
 
 -- the upper-case digit of a value below 16
@@ -22,7 +22,7 @@ is_hex_any_case b = is_hex b || (nat_le 97 b && nat_le b 102)
 abbrev pub hex_value : ℕ → ℕ
 hex_value b = if nat_lt b 65 then b - 48 else if nat_lt b 97 then b - 55 else b - 87
 
--- the number of digits that stand behind those of a number
+-- the number of digits that follow those of the number n
 abbrev pub hex_number_after : ℕ → List ℕ → ℕ
 hex_number_after n [] = n
 hex_number_after n (b ∷ digits) = hex_number_after (16 * n + hex_value b) digits

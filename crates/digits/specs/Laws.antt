@@ -1,4 +1,4 @@
--- What is written reads back, and nothing else is read so.
+-- The text written of a number is read as that number, and no other text is.
 use Rattle.std.specs.Prelude.{◌≡◌, ℕ, ◌^◌, ◌<◌, ◌≤◌, List, [], ◌∷◌, length, Bool, true, false, ◌&&◌, ◌||◌, nat_le, IsTrue, Some, decimal, refl}
 use Rattle.std.proofs.Common.{ap, ◌∙◌}
 use Rattle.std.proofs.lemmas.Bool.{false≢true}
@@ -14,12 +14,12 @@ HexDigitsAreHex = (k n : ℕ) → (length (hex_digits k n) ≡ k) × IsTrue (lis
 abbrev pub HexReadsBack : Type 0
 HexReadsBack = (k n : ℕ) → n < 16 ^ k → hex_number (hex_digits k n) ≡ n
 
--- each text of upper-case digits is what is written of its number, which is below 16 ^ k for k of them
+-- a text of k upper-case digits is the text written of its number, which is below 16 ^ k
 abbrev pub OnlyHexDigitsRead : Type 0
 OnlyHexDigitsRead =
     (text : List ℕ) → IsTrue (list_all is_hex text) → (hex_digits (length text) (hex_number text) ≡ text) × (hex_number text < 16 ^ length text)
 
--- what is written of a number is read as that number
+-- the text written of a number is read as that number
 abbrev pub DecimalReadsBack : Type 0
 DecimalReadsBack = (most n : ℕ) → n < 2 ^ 64 → n ≤ most → decimal_number most (decimal n) ≡ Some n
 

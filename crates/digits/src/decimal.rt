@@ -3,7 +3,7 @@ ghost use Rattle.std.specs.Prelude.{◌≡◌, ◌<◌, ◌≤◌, ◌^◌, leng
 ghost use Rattle.std.specs.List.{list_all};
 ghost use Rattle.digits.specs.Decimal.{is_digit, is_decimal, decimal_value, decimal_number};
 
-/// `0` to `9`.
+/// Reports if a byte is `0` to `9`.
 #[inline]
 pub fn is_digit(b: u8) -> bool
     ensures { result ≡ is_digit b }
@@ -11,7 +11,7 @@ pub fn is_digit(b: u8) -> bool
     b.is_ascii_digit()
 }
 
-/// Whether all bytes are digits.
+/// Reports if all bytes are digits.
 #[inline]
 pub fn all_digits(text: &[u8]) -> bool
     ensures { result ≡ list_all is_digit text.now }
@@ -29,7 +29,7 @@ fn is_decimal(text: &[u8]) -> bool
     }
 }
 
-/// The value of at most nineteen digits, the highest first, which may be zeros.
+/// Returns the value of at most nineteen digits, the highest first. They may begin with zeros.
 #[inline]
 #[tactic(auto, using(crate::proofs::DecimalLemmas::eighteen))]
 pub fn decimal_value(digits: &[u8]) -> u64
@@ -45,7 +45,8 @@ pub fn decimal_value(digits: &[u8]) -> u64
     value
 }
 
-/// The number that a text is in decimal, without a sign or leading zeros, if it is one of at most `most`.
+/// Returns the number of a decimal text without a sign or leading zeros. Returns `None` if the text
+/// is no such number, or it is above `most`.
 pub fn decimal_number(text: &[u8], most: u64) -> Option<u64>
     ensures value { result ≡ decimal_number most text.now }
     ensures bound { IfSome result (λ n. n ≤ most) }

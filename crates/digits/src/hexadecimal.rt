@@ -3,7 +3,7 @@ ghost use Rattle.std.specs.Prelude.{◌≡◌, ◌%◌, ◌/◌, ◌<◌, ◌≤
 ghost use Rattle.std.specs.List.{list_all};
 ghost use Rattle.digits.specs.Hexadecimal.{hex_digit, hex_digits, is_hex, is_hex_any_case, hex_value, hex_number};
 
-/// The upper-case digit of a value below 16.
+/// Returns the upper-case digit of a value below 16.
 #[inline]
 pub fn hex_digit(value: u8) -> u8
     requires { value < 16 }
@@ -16,7 +16,7 @@ pub fn hex_digit(value: u8) -> u8
     }
 }
 
-// The digit of `n` whose place counts this much.
+// Returns the digit of `n` with the weight `weight`.
 #[inline]
 fn digit_at(n: u64, weight: u64) -> u8
     requires { 0 < weight }
@@ -25,7 +25,7 @@ fn digit_at(n: u64, weight: u64) -> u8
     hex_digit((n / weight % 16) as u8)
 }
 
-/// A byte in two upper-case digits.
+/// Returns a byte in two upper-case digits.
 #[inline]
 #[tactic(auto, unfolding(crate::specs::Hexadecimal::hex_digits))]
 pub fn two_digits(n: u8) -> [u8; 2]
@@ -35,7 +35,7 @@ pub fn two_digits(n: u8) -> [u8; 2]
     [digit_at(n, 0x10), digit_at(n, 1)]
 }
 
-/// A word in four upper-case digits.
+/// Returns a word in four upper-case digits.
 #[inline]
 #[tactic(auto, unfolding(crate::specs::Hexadecimal::hex_digits))]
 pub fn four_digits(n: u16) -> [u8; 4]
@@ -50,7 +50,7 @@ pub fn four_digits(n: u16) -> [u8; 4]
     ]
 }
 
-/// A number below 2^40 in ten upper-case digits. Of a larger one they are the lowest ten.
+/// Returns a number below 2^40 in ten upper-case digits, and the lowest ten digits of a larger one.
 #[inline]
 #[tactic(auto, unfolding(crate::specs::Hexadecimal::hex_digits))]
 pub fn ten_digits(n: u64) -> [u8; 10]
@@ -70,7 +70,7 @@ pub fn ten_digits(n: u64) -> [u8; 10]
     ]
 }
 
-/// `0` to `9` or `A` to `F`.
+/// Reports if a byte is `0` to `9` or `A` to `F`.
 #[inline]
 pub fn is_hex(b: u8) -> bool
     ensures { result ≡ is_hex b }
@@ -78,7 +78,7 @@ pub fn is_hex(b: u8) -> bool
     b.is_ascii_digit() || (b'A' <= b && b <= b'F')
 }
 
-/// `0` to `9`, `A` to `F` or `a` to `f`.
+/// Reports if a byte is `0` to `9`, `A` to `F` or `a` to `f`.
 #[inline]
 pub fn is_hex_any_case(b: u8) -> bool
     ensures { result ≡ is_hex_any_case b }
@@ -93,7 +93,7 @@ fn are_hex(text: &[u8]) -> bool
     text.iter().all(|b| is_hex(*b))
 }
 
-/// Whether all bytes are upper-case digits.
+/// Reports if all bytes are upper-case digits.
 #[inline]
 #[tactic(auto, using(crate::specs::Laws::all_any_case))]
 pub fn all_hex(text: &[u8]) -> bool
@@ -104,7 +104,7 @@ pub fn all_hex(text: &[u8]) -> bool
     are_hex(text)
 }
 
-/// Whether all bytes are digits, each of either case.
+/// Reports if all bytes are digits, each of either case.
 #[inline]
 pub fn all_hex_any_case(text: &[u8]) -> bool
     ensures { result ≡ list_all is_hex_any_case text.now }
@@ -127,7 +127,7 @@ fn hex_value(b: u8) -> u8
     }
 }
 
-/// The number of at most sixteen digits, each of either case, the highest first.
+/// Returns the number of at most sixteen digits, each of either case, the highest first.
 #[inline]
 #[tactic(auto, using(crate::proofs::HexLemmas::digit_steps))]
 pub fn hex_number(digits: &[u8]) -> u64

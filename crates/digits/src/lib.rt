@@ -1,5 +1,5 @@
-//! Numbers as hexadecimal and decimal digits, written and read, and the lines of a text.
-//! Digits are those of ASCII; hexadecimal ones are written as capitals, and read as such or in any case.
+//! Numbers as hexadecimal and decimal digits, written and read, and the lines of a text. Digits are
+//! those of ASCII; hexadecimal ones are written as capitals, and read as such or in any case.
 #![tactic(auto)]
 
 mod decimal;

@@ -3,7 +3,7 @@ ghost use Rattle.std.specs.Prelude.{◌≡◌, ◌<◌, ◌≤◌, ◌==◌, not
 ghost use Rattle.std.specs.List.{prefix_len};
 ghost use Rattle.digits.specs.Lines.{text_lines};
 
-// How many bytes stand before the first line feed, or all where there is none.
+// Returns the number of bytes before the first line feed, or of all bytes if there is none.
 fn length_before_feed(text: &[u8]) -> usize
     ensures value { result ≡ prefix_len (λ b. not (b == 10)) text.now }
     ensures within { result ≤ length text.now }
@@ -11,7 +11,8 @@ fn length_before_feed(text: &[u8]) -> usize
     text.iter().take_while(|b| **b != b'\n').count()
 }
 
-/// The first line of a text that has a byte, with its line feed if it has one, and the text behind it.
+/// Returns the first line of a text, with its line feed if it has one, and the text after it. The
+/// text must not be empty.
 pub fn first_line(text: &[u8]) -> (&[u8], &[u8])
     requires { 0 < length text.now }
     ensures lines { text_lines text.now ≡ result.0.now ∷ text_lines result.1.now }

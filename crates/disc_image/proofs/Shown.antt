@@ -1,4 +1,4 @@
--- A disc keeps the largest image of its kind: what that shows of its own image.
+-- A disc stores the largest image of its kind, which contains its own image.
 use Rattle.std.proofs.Common.{◌≡◌, ◌∙◌, sym, refl, ap, ℕ, ◌+◌, ◌-◌, ◌<◌, ◌≤◌, max, true, List, ◌++◌, length, take, drop, set, map, replicate, get_or}
 use Rattle.std.proofs.Common.{Some, get_or-take, get_or-drop, get_or-set_same, get_or-set_other, length-take, length-drop, length-set, length-append}
 use Rattle.std.proofs.Common.{arith, inl, inr}
@@ -27,7 +27,7 @@ zero_at m i =
       | inr past ↦ let short : length (replicate m 0) ≤ i = omega (arith, length-replicate {A = ℕ} m 0) in get_or_past (replicate m 0) i 0 short
     ]
 
--- bytes 00 behind the image change nothing of it
+-- bytes 00 after the image do not change it
 behind : (xs : List ℕ) (m n : ℕ) → get_or (xs ++ replicate m 0) n 0 ≡ get_or xs n 0
 behind xs m n =
     elim (cases_lt n (length xs)) [

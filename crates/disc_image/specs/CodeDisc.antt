@@ -1,4 +1,5 @@
--- What the code of a disc keeps: the largest image of its kind, with 00 from the end of its own image on.
+-- The bytes that the code of a disc stores: the largest image of its kind, with 00 from the end of
+-- its own image on.
 use Rattle.std.specs.Prelude.{ℕ, ◌≡◌, ◌≤◌, List, length, slice_index_or}
 use Rattle.disc_image.specs.declared.Kind.{Kind}
 use Rattle.disc_image.specs.Image.{largest}

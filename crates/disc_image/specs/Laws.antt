@@ -1,4 +1,4 @@
--- What writing and reading have to do with each other.
+-- Laws of writing and then reading.
 use Rattle.std.specs.Prelude.{ℕ, ◌≡◌, ◌≢◌, ◌<◌, max, true, length}
 use Rattle.disc_image.specs.declared.Kind.{Kind}
 use Rattle.disc_image.specs.Image.{Image, has_sector, place, byte_at, byte_put}
@@ -9,13 +9,13 @@ IsReadBack =
     (d : Image) (side track sector at v : ℕ) → has_sector d.kind side track sector ≡ true → at < 256 →
     byte_at (byte_put side track sector at v d) (place d.kind side track sector at) ≡ v
 
--- All others stay, and past the end of an image that is extended they stay 00.
+-- All other bytes stay. Past the end of an image that is extended they stay 00.
 abbrev pub OthersStay : Type 0
 OthersStay =
     (d : Image) (side track sector at v n : ℕ) → has_sector d.kind side track sector ≡ true → at < 256 →
     n ≢ place d.kind side track sector at → byte_at (byte_put side track sector at v d) n ≡ byte_at d n
 
--- The image is then as long as it was, or up to the sector's end if that is further.
+-- The image is then as long as before, or up to the sector's end if that is further.
 abbrev pub GrowsToTheEnd : Type 0
 GrowsToTheEnd =
     (d : Image) (side track sector at v : ℕ) → has_sector d.kind side track sector ≡ true → at < 256 →

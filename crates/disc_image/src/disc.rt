@@ -7,23 +7,23 @@ use std::alloc::{AllocError, Global};
 use std::marker::Model;
 use std::vec::Vec;
 
-/// How many tracks a side has.
+/// The tracks of a side.
 const TRACKS: u8 = 80;
 
-/// How many sectors a track has.
+/// The sectors of a track.
 const SECTORS: u8 = 10;
 
-/// How many bytes a sector has.
+/// The bytes of a sector.
 const SECTOR_SIZE: usize = 256;
 
-/// How many bytes a side has.
+/// The bytes of a side.
 const SIDE_SIZE: usize = 204_800;
 
 /// A disc: an image that can be read and written.
 #[derive(Drop)]
 pub struct Disc {
     kind: Kind,
-    // The largest image of its kind, with 00 from the end of this one on.
+    // The largest image of its kind, with 00 from the end of the disc's image on.
     whole: Vec<u8>,
     len: usize,
 }
@@ -50,14 +50,15 @@ fn sides(kind: Kind) -> usize
     }
 }
 
-/// How many bytes the largest image of a kind has.
+/// Returns the length of the largest image of a kind.
 fn largest(kind: Kind) -> usize
     ensures { result ≡ largest kind }
 {
     sides(kind) * SIDE_SIZE
 }
 
-/// Where a sector begins in the image, if the kind has it.
+/// Returns the place in the image where a sector begins. Returns `None` if the kind does not have
+/// the sector.
 fn start_of(kind: Kind, side: u8, track: u8, sector: u8) -> Option<usize>
     ensures has { MatchOption result (has_sector kind side track sector ≡ false) (λ _. has_sector kind side track sector ≡ true) }
     ensures value { IfSome result (λ start. start ≡ place kind side track sector 0) }
@@ -74,7 +75,7 @@ fn start_of(kind: Kind, side: u8, track: u8, sector: u8) -> Option<usize>
     }
 }
 
-/// The bytes of an image, followed by `more` bytes 00.
+/// Returns the bytes of an image, followed by `more` bytes 00.
 fn fill(alloc: Global, mut bytes: Vec<u8>, more: usize) -> Result<Vec<u8>, AllocError>
     ensures { IfOk result (λ whole. whole.items ≡ with_zeros_to bytes.items (length bytes.items + more)) }
 {
@@ -84,10 +85,10 @@ fn fill(alloc: Global, mut bytes: Vec<u8>, more: usize) -> Result<Vec<u8>, Alloc
 }
 
 impl Disc {
-    /// The disc of an image, which may have any length up to the largest of its kind.
+    /// Makes the disc of an image, which may have any length up to the largest of its kind.
     ///
     /// # Errors
-    /// `BadDisc` exactly where the image is longer than that.
+    /// `BadDisc` exactly if the image is longer than that. `NoMemory` if out of memory.
     pub fn make(alloc: Global, kind: Kind, bytes: Vec<u8>) -> Result<Disc, DiscError>
         ensures made { IfOk result (λ disc. disc ≡ record { kind = kind; bytes = bytes.items }) }
         ensures length { IfOk result (λ _. length bytes.items ≤ largest kind) }
@@ -105,7 +106,8 @@ impl Disc {
         Ok(Disc { kind, whole, len })
     }
 
-    /// The 256 bytes of a sector, which are 00 past the image's end. None where the kind has no such sector.
+    /// Returns the 256 bytes of a sector, which are 00 past the image's end. Returns `None` if the
+    /// kind has no such sector.
     pub fn sector(&self, side: u8, track: u8, sector: u8) -> Option<&[u8]>
         ensures value { MatchOption result (sector_of self.now side track sector ≡ None) (λ bytes. sector_of self.now side track sector ≡ Some bytes.now) }
         ensures length { IfSome result (λ bytes. length bytes.now ≡ SECTOR_SIZE) }
@@ -114,8 +116,9 @@ impl Disc {
         Some(&self.whole[start..start + SECTOR_SIZE])
     }
 
-    /// Writes byte `at` of a sector, and answers whether the kind has that sector. The first byte that is written to a sector past the
-    /// image's end makes the image as long as that sector's end.
+    /// Writes byte `at` of a sector. Returns `false`, with the disc unchanged, if the kind has no
+    /// such sector. A write to a sector past the image's end extends the image to the end of that
+    /// sector.
     #[tactic(auto, using(crate::proofs::Shown::put_is))]
     pub fn put_byte(&mut self, side: u8, track: u8, sector: u8, at: u8, v: u8) -> bool
         ensures has { result ≡ has_sector self.old.kind side track sector }
@@ -129,7 +132,8 @@ impl Disc {
         true
     }
 
-    /// The image: as long as the one that was handed in, or up to the end of the last sector written if that is further.
+    /// Returns the image: as long as the one given, or up to the end of the last sector written if
+    /// that is further.
     pub fn bytes(&self) -> &[u8]
         ensures { result.now ≡ self.now.bytes }
     {

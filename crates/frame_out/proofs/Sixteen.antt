@@ -38,7 +38,7 @@ listed_are v long fits = ap (λ (xs : List ℕ). flat_map lit_pixel xs) (pick_l_
 abbrev pub picked : List ℕ → List ℕ → List ℕ
 picked colours bits = sel_l (zip2 (λ a b. a == b) (zip2 bit_and colours bits) bits) (replicate 16 255) (replicate 16 0)
 
--- of which colours the samples of sixteen are, and which bit of each
+-- the colours of the samples of sixteen, and the bit of each
 abbrev first_places : List ℕ
 first_places = 0 ∷ 0 ∷ 0 ∷ 1 ∷ 1 ∷ 1 ∷ 2 ∷ 2 ∷ 2 ∷ 3 ∷ 3 ∷ 3 ∷ 4 ∷ 4 ∷ 4 ∷ 5 ∷ []
 
@@ -58,7 +58,7 @@ abbrev last_bits : List ℕ
 last_bits = 4 ∷ 1 ∷ 2 ∷ 4 ∷ 1 ∷ 2 ∷ 4 ∷ 1 ∷ 2 ∷ 4 ∷ 1 ∷ 2 ∷ 4 ∷ 1 ∷ 2 ∷ 4 ∷ []
 
 module _ (v : List ℕ) (long : length v ≡ 16) (fits : Each1 (Fits w8) v) where
-  -- a part of the samples, of which colours each is and which bit of it
+  -- a part of the samples, with the colour and the bit of each
   part_is : (part : List ℕ → List ℕ) (places bits : List ℕ) → pick_l 0 (v ++ v) places ≡ pick_l 0 v places → picked (pick_l 0 v places) bits ≡ part (listed v)
       → picked (pick_l 0 (v ++ v) places) bits ≡ part (flat_map pixel v)
   part_is part places bits left each = ap (λ (ds : List ℕ). picked ds bits) left ∙ each ∙ ap part (listed_are v long fits)
@@ -87,7 +87,7 @@ take_sum n m xs =
     let low : n ≤ n + m = omega arith in
     rw (← take-append-drop n (take (n + m) xs), take-take n (n + m) xs low, drop-take n m xs)
 
--- sixteen colours more
+-- sixteen more colours
 pub sixteen_more : (front xs old new : List ℕ) (i : ℕ) → old ≡ front ++ flat_map pixel (take (16 * i) xs) → new ≡ old ++ flat_map pixel (take 16 (drop (16 * i) xs)) →
     new ≡ front ++ flat_map pixel (take (16 * (i + 1)) xs)
 sixteen_more front xs old new i so is =

@@ -2,7 +2,7 @@
 use Rattle.std.specs.Prelude.{ℕ, Bool, List, [], ◌∷◌, ◌++◌, codes, flat_map, if◌then◌else◌}
 use Rattle.beeb_bits.specs.Bits.{bit}
 
--- a pixmap of 640 by 256 pixels, whose samples are up to 255
+-- a pixmap of 640 by 256 pixels, with samples up to 255
 abbrev pub header : List ℕ
 header = codes "P6\n640 256\n255\n"
 

@@ -10,10 +10,10 @@ use raster::Frame;
 use std::alloc::{AllocError, Global};
 use std::simd::prelude::*;
 
-/// A pixmap of 640 by 256 pixels, whose samples are up to 255.
+/// A pixmap of 640 by 256 pixels, with samples up to 255.
 const HEADER: &[u8] = b"P6\n640 256\n255\n";
 
-/// How many bytes the pixmap of a frame has.
+/// The bytes of a frame's pixmap.
 const SIZE: usize = 491_535;
 
 fn sample(on: bool) -> u8
@@ -22,7 +22,7 @@ fn sample(on: bool) -> u8
     if on { 0xff } else { 0x00 }
 }
 
-// A colour as its red, green and blue.
+// Returns a colour as its red, green and blue.
 fn pixel(colour: u8) -> [u8; 3]
     ensures { result ≡ pixel colour }
 {
@@ -33,7 +33,7 @@ fn pixel(colour: u8) -> [u8; 3]
     ]
 }
 
-// Of the 48 samples of sixteen colours, the first sixteen.
+// Returns the first sixteen of the 48 samples of sixteen colours.
 #[inline(always)]
 fn first_samples(colours: u8x16) -> [u8; 16]
     ensures { result ≡ take 16 (flat_map pixel colours) }
@@ -43,7 +43,7 @@ fn first_samples(colours: u8x16) -> [u8; 16]
     samples(colours, bits)
 }
 
-// The next sixteen.
+// Returns the next sixteen samples.
 #[inline(always)]
 fn next_samples(colours: u8x16) -> [u8; 16]
     ensures { result ≡ take 16 (drop 16 (flat_map pixel colours)) }
@@ -53,7 +53,7 @@ fn next_samples(colours: u8x16) -> [u8; 16]
     samples(colours, bits)
 }
 
-// And the last.
+// Returns the last sixteen samples.
 #[inline(always)]
 fn last_samples(colours: u8x16) -> [u8; 16]
     ensures { result ≡ drop 32 (flat_map pixel colours) }
@@ -65,7 +65,7 @@ fn last_samples(colours: u8x16) -> [u8; 16]
     samples(colours, bits)
 }
 
-// Where a colour has its bit, FF, else 00.
+// Returns FF if a colour has its bit, otherwise 00.
 #[inline(always)]
 fn samples(colours: u8x16, bits: u8x16) -> [u8; 16]
     ensures { result ≡ sel_l (zip2 (λ a b. a == b) (zip2 bit_and colours bits) bits) (replicate 16 255) (replicate 16 0) }
@@ -76,7 +76,7 @@ fn samples(colours: u8x16, bits: u8x16) -> [u8; 16]
         .to_array()
 }
 
-// Adds the pixels of sixteen colours.
+// Appends the pixels of sixteen colours.
 fn add_sixteen(bytes: &mut Vec<u8>, colours: u8x16) -> Result<(), AllocError>
     ensures { IsOk result → bytes.new.items ≡ bytes.old.items ++ flat_map pixel colours }
 {
@@ -86,7 +86,7 @@ fn add_sixteen(bytes: &mut Vec<u8>, colours: u8x16) -> Result<(), AllocError>
     Ok(())
 }
 
-// The pixmap of these colours: sixteen at a time, and the rest one by one.
+// Makes the pixmap of `colours`: sixteen at a time, and the rest one by one.
 fn pixmap(alloc: Global, colours: &[u8]) -> Result<Vec<u8>, AllocError>
     ensures { IfOk result (λ bytes. bytes.items ≡ pixmap colours.now) }
 {
@@ -101,11 +101,11 @@ fn pixmap(alloc: Global, colours: &[u8]) -> Result<Vec<u8>, AllocError>
     Ok(bytes)
 }
 
-/// The bytes of a frame as a pixmap: a header, and then for each pixel, by rows from the top, its red, its green and its blue, FF where
-/// the colour has it and 00 where it does not.
+/// Makes the pixmap of a frame: a header, and then each pixel, by rows from the top. A pixel is its
+/// red, green and blue, each FF if the colour has it, otherwise 00.
 ///
 /// # Errors
-/// Want of memory.
+/// Out of memory.
 pub fn ppm(alloc: Global, frame: &Frame) -> Result<Vec<u8>, NoMemory>
     ensures { IfOk result (λ bytes. bytes.items ≡ pixmap frame.now) }
 {

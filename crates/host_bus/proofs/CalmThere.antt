@@ -1,4 +1,4 @@
--- A board that is closed as far as its lines surely stay keeps them.
+-- A board that is closed while its lines do not change keeps them.
 use Rattle.std.proofs.Common.{◌≡◌, ◌≤◌, ◌<◌, ◌^◌, ◌∙◌, ap, sym, ℕ, inl, inr, slice_set, arith}
 use Rattle.std.proofs.lemmas.Bool.{cases_lt}
 use Rattle.host_bus.specs.Board.{BoardState, board_closed, board_irq, board_nmis}
@@ -22,7 +22,7 @@ calm_there {b} {closed} {calm} h = record {
 pub behind_there : {b new : BoardState} {closed calm : ℕ} → IsBehind b closed calm → new ≡ board_closed b closed → IsBehind new closed calm
 behind_there h is = rw is (record { reached = omega (arith, h.reached); near = h.near; room = h.room; lines = calm_there h })
 
--- and so does one in whose RAM a byte is written
+-- a board with one byte of its RAM changed keeps them too
 pub behind-written : {b new : BoardState} {closed calm : ℕ} (t at v : ℕ) → IsBehind b closed calm → new ≡ record b { ram = slice_set b.ram at v } → closed ≤ t →
     t ≤ calm → t < 2 ^ 48 → IsBehind new t calm
 behind-written {b} t at v h is low near room = rw is (record {

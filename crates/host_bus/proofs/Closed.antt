@@ -1,4 +1,4 @@
--- What the board's code does, as closing.
+-- The steps of the board's code, as closing.
 use Rattle.std.proofs.Common.{◌≡◌, ◌∙◌, sym, refl, ap, inl, inr, ◌⊎◌, ℕ, zero, suc, ◌+◌, ◌-◌, ◌*◌, ◌/◌, ◌<◌, ◌≤◌, ◌%◌, subst}
 use Rattle.std.proofs.Common.{Bool, min, max, List, arith}
 use Rattle.std.proofs.lemmas.Bool.{cases_lt, eq-eqb, ne_eqb}
@@ -22,7 +22,7 @@ use Rattle.host_devices.proofs.Beats.{apart, next-one, some-micro}
 use Rattle.host_devices.proofs.Heard.{in-time-later}
 use Rattle.host_devices.proofs.Played.{HasNone, none-between, played-later, stay}
 
--- before anything comes there is no shot
+-- before the next microsecond or event there is no shot
 pub quiet : {p : Playback} {u closed next : ℕ} → IsPlayed p closed → IsOnTime u closed p.event next → HasNone p.script closed next
 quiet {next} played h = none-between next played (omega (arith, h.least))
 
@@ -40,7 +40,7 @@ module _ (a : Around) {closed event next : ℕ} (h : IsOnTime (micro a.clock) cl
 pub still-on-time : {u closed event next : ℕ} (t : ℕ) → IsOnTime u closed event next → closed ≤ t → t ≤ next → IsOnTime u t event next
 still-on-time t h low high = record { step = h.step; begins = h.begins; first = omega (arith, h.least, high); near = omega (arith, low, h.near); least = h.least }
 
--- the board that is closed before anything comes is valid, and is what contracts see of closing it
+-- a board closed before the next microsecond or event is valid, and contracts see it as closed
 pub valid-later : {b : Inside} (t : ℕ) → IsValid b → b.closed ≤ t → t ≤ b.next → IsValid (record b { closed = t })
 valid-later {b} t h low high = record {
   stored = h.stored;
@@ -50,7 +50,7 @@ valid-later {b} t h low high = record {
   in_time = in-time-later t h.in_time low;
 }
 
--- a board whose devices went on from where it is closed
+-- a board whose devices did the ticks after those that are closed
 pub gone : (b : BoardState) (u : ℕ) (m : Moving) → b.closed ≤ u → m ≡ ticks (around b) (u - b.closed) b.closed (moving_part b) → closed_with b u m ≡ board_closed b u
 gone b u m low is =
     let most : max u b.closed ≡ u = omega (arith, low) in
@@ -61,7 +61,7 @@ seen-later {b} t h low high =
     gone (board_seen b) t (moving_part (board_seen b)) low
     (sym (idle (around (board_seen b)) h.on_time (quiet h.played h.on_time) (t - b.closed) b.closed _ (omega arith) (omega (arith, low, high))))
 
--- ticks none of which comes
+-- no ticks, or equal ones
 shifted : (a : Around) (n j k : ℕ) (m : Moving) → (n ≡ 0) ⊎ (j ≡ k) → ticks a n j m ≡ ticks a n k m
 shifted a n j k m (inl none) = rw none refl
 shifted a n j k m (inr same) = rw same refl
@@ -72,7 +72,7 @@ module _ (a : Around) (to : ℕ) where
       tick a k m ≡ record m { devices = microsecond a.ram a.font (keys_at k a.script) (levels_at k a.script) m.devices }
   beat-tick k m begins none = rw (none, append-nil m.shots, eq-eqb (k % micro a.clock) 0 begins) refl
 
-  -- from it on, up to the next
+  -- the ticks from a microsecond on, up to the next
   one-beat : (k : ℕ) (m : Moving) → k % micro a.clock ≡ 0 → HasNone a.script k to → k < to →
       ticks a (to - k) k m
       ≡ ticks a (to - (k + micro a.clock)) (k + micro a.clock) (record m { devices = microsecond a.ram a.font (keys_at k a.script) (levels_at k a.script) m.devices })
@@ -95,7 +95,8 @@ module _ (a : Around) (to : ℕ) where
         | inr more ↦ inr (omega (arith, more, some))
       ])
 
-  -- Ticks from a microsecond on, up to a tick before which n of them begin, in which there is no shot and keys and levels stay what they are.
+  -- Ticks from a microsecond on, up to a tick. Before that tick n microseconds begin, there is no
+  -- shot, and keys and levels do not change.
   beats : (n k : ℕ) {keys : Keys} {levels : List ℕ} (m : Moving) → k % micro a.clock ≡ 0 → HasNone a.script k to →
       ((i : ℕ) → k ≤ i → i < to → (keys ≡ keys_at i a.script) × (levels ≡ levels_at i a.script)) →
       to ≤ k + n * micro a.clock → k + n * micro a.clock < to + micro a.clock →
@@ -113,7 +114,7 @@ module _ (a : Around) (to : ℕ) where
       (beats n (k + u) (record m { devices = microsecond a.ram a.font keys levels m.devices }) (add-mod_right k u ∙ begins)
       (λ i late high. none i (omega (arith, late)) high) (λ i late high. are i (omega (arith, late)) high) (omega (arith, more, all)) (omega (arith, more, no_more)))
 
--- the same before the next event
+-- these ticks before the next event
 pub beats-played : (a : Around) (n : ℕ) {k : ℕ} (to : ℕ) (p : Playback) (m : Moving) → a.script ≡ p.script → IsPlayed p k → k % micro a.clock ≡ 0 → to ≤ p.event →
     to ≤ k + n * micro a.clock → k + n * micro a.clock < to + micro a.clock →
     ticks a (to - k) k m ≡ record m { devices = microseconds a.ram a.font (keys_of p.keys) p.levels n m.devices }
@@ -122,11 +123,11 @@ beats-played a n {k} to p m same h begins early all no_more =
     (λ i late high. rw same (stay i h (omega (arith, late)) (omega (arith, high, early))))
     all no_more
 
--- a board that was closed on the way to t
+-- a board that was closed before t first
 pub caught : (b : BoardState) {x all : BoardState} (u t : ℕ) → x ≡ board_closed b u → u ≤ t → board_closed b t ≡ all → board_closed x t ≡ all
 caught b u t is high so = rw is (board-again b u t high ∙ so)
 
--- so many microseconds begin in a span of ticks
+-- the number of microseconds that begin in a span of ticks
 how-many : (clock : Clock) (span n : ℕ) → span ≤ n * micro clock → (m : ℕ) × (m ≤ n) × (span ≤ m * micro clock) × (m * micro clock < span + micro clock)
 how-many clock span n few =
     let u = micro clock in
@@ -141,7 +142,7 @@ how-many clock span n few =
 abbrev lines : BoardState → Bool × ℕ
 lines s = (board_irq s, board_nmis s)
 
--- those of a board that is closed at the next microsecond, when it is closed later
+-- the lines of a board that is closed at the next microsecond, after it is closed further
 later-lines : {b : Inside} {n t : ℕ} → IsValid b → b.closed ≡ b.next → b.next < t → t ≤ b.playback.event → t - b.next ≤ n * micro b.clock →
     AreCalm (keys_of b.playback.keys) n (board_seen b).devices → lines (board_closed (board_seen b) t) ≡ lines (board_seen b)
 later-lines {b} {n} {t} h here low early few calm =
@@ -152,7 +153,7 @@ later-lines {b} {n} {t} h here low early few calm =
     let moved = beats-played (around (board_seen b)) m t p (moving_part (board_seen b)) refl h.played begins early (omega (arith, here, low, all)) (omega (arith, here, low, no_more)) in
     rw (moved, calm.irq b.ram.items b.letters.font p.levels m less, calm.nmis b.ram.items b.letters.font p.levels m less) refl
 
--- up to an event and the end of the microseconds that are calm
+-- the lines up to an event, and up to the end of the calm microseconds
 calm-lines : {b : Inside} {n t : ℕ} → IsValid b → AreCalm (keys_of b.playback.keys) n (board_seen b).devices → t ≤ b.playback.event → t ≤ b.next + n * micro b.clock →
     lines (board_closed (board_seen b) t) ≡ lines (board_seen b)
 calm-lines {b} {n} {t} h calm early few = elim (cases_lt b.next t) [

@@ -1,4 +1,4 @@
--- Where the memory is, and that a read there gives the byte that stands there.
+-- The addresses of memory. A read there gives the byte at the address.
 use Rattle.std.proofs.Common.{ℕ, ◌≡◌, ◌≤◌, ◌<◌, Bool, true, false, Some, refl, arith}
 use Rattle.std.proofs.lemmas.Grind.{common_steps}
 use Rattle.host_devices.specs.Map.{Place, Ram, PagedRom, OsRom, place_of}

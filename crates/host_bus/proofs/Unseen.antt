@@ -1,4 +1,4 @@
--- What the picture reads while ticks go by, and stores that it does not see.
+-- The bytes that the picture reads during ticks, and stores that it does not see.
 use Rattle.std.proofs.Common.{◌≡◌, ◌∙◌, ap, refl, ℕ, zero, suc, ◌+◌, ◌-◌, ◌<◌, ◌%◌, ◌==◌, max, Bool, true, false, List, slice_set, if◌then◌else◌}
 use Rattle.beeb_bits.specs.Clock.{micro}
 use Rattle.raster.specs.State as picture
@@ -12,7 +12,7 @@ use Rattle.host_bus.specs.Lag.{ReadsAbove}
 use Rattle.host_bus.specs.StoredLines.{stepped}
 
 module _ (on : ReadsGoOn) (law : StoresBelowAreUnseen) (low at v : ℕ) (below : at < low) where
-  -- what the picture of the devices reads
+  -- the bytes that the picture of the devices reads
   abbrev Reads : Devices → Type 0
   Reads d = ReadsFrom low (screen_size d.latch) d.video
 
@@ -20,7 +20,8 @@ module _ (on : ReadsGoOn) (law : StoresBelowAreUnseen) (low at v : ℕ) (below :
   abbrev stored : Around → Around
   stored a = record a { ram = slice_set a.ram at v }
 
-  -- A byte below what it reads may be written before or after a microsecond, a tick, many ticks, and what it reads goes on.
+  -- A byte below those that it reads may be written before or after a microsecond, a tick or many
+  -- ticks. The bytes that it reads stay above it.
   unseen-by : (due : Bool) (a : Around) (keys : Keys) (levels : List ℕ) (d : Devices) → Reads d →
       ((if due then microsecond (slice_set a.ram at v) a.font keys levels d else d) ≡ (if due then microsecond a.ram a.font keys levels d else d))
       × Reads (if due then microsecond a.ram a.font keys levels d else d)
@@ -37,7 +38,7 @@ module _ (on : ReadsGoOn) (law : StoresBelowAreUnseen) (low at v : ℕ) (below :
       let (same, still) = unseen-by (k % micro a.clock == 0) a (keys_at k a.script) (levels_at k a.script) m.devices reads in
       ap (λ (d : Devices). ticks (stored a) n (k + 1) (record (tick a k m) { devices = d })) same ∙ unseen-ticks a n (k + 1) (tick a k m) still
 
-  -- so may one that is written to a board before what it owes is done
+  -- a byte may be written to a board before the ticks that it owes are done
   pub stored-behind : (b : BoardState) (t : ℕ) → ReadsAbove low b →
       board_closed (record b { ram = slice_set b.ram at v }) t ≡ record (board_closed b t) { ram = slice_set b.ram at v }
   stored-behind b t reads =

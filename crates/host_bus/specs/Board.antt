@@ -1,4 +1,5 @@
--- The board of the host: memory, devices and script, its clock, and its accesses but for those of the plugged devices.
+-- The board of the host: memory, devices, script and clock, and all accesses except those of the
+-- plugged devices.
 use Rattle.std.specs.Prelude.{ℕ, zero, suc, ◌+◌, ◌-◌, ◌%◌, ◌==◌, ◌&&◌, not, max, nat_lt, Bool, List, [], Option, slice_index, slice_set, if◌then◌else◌}
 use Rattle.beeb_bits.specs.declared.clock.Clock.{Clock}
 use Rattle.beeb_bits.specs.Clock.{micro}
@@ -17,32 +18,32 @@ use Rattle.host_devices.specs.Devices.{Devices, keys_at, levels_at, microsecond,
 use Rattle.host_devices.specs.Devices.{register_read, register_written, sound_line, sound_data, devices_ask, devices_reset, first_devices}
 
 pub record BoardState : Type 0 where
-  -- how long a tick is
+  -- the length of a tick
   pub clock : Clock
   pub ram : List ℕ
   pub roms : Roms
   -- the slot of the paged ROM
   pub latch : ℕ
-  -- what is typed, and when
+  -- the key script
   pub script : List Event
-  -- how many of the script's breaks were taken
+  -- the number of the script's breaks that were taken
   pub breaks : ℕ
-  -- what ticks change: the devices, and the frames that shots took, the oldest first
+  -- the state that ticks change: the devices, and the frames that shots took, the oldest first
   pub devices : Devices
   pub shots : List (List ℕ)
-  -- the writes to the sound chip, as far as they are kept
+  -- the stored writes to the sound chip
   pub sound : List SoundWrite
   -- all ticks below this one are done
   pub closed : ℕ
 
--- What a tick goes by: how long it is, the RAM, the teletext font, and the script.
+-- The inputs of a tick: its length, the RAM, the teletext font, and the script.
 pub record Around : Type 0 where
   pub clock : Clock
   pub ram : List ℕ
   pub font : Font
   pub script : List Event
 
--- What a tick changes.
+-- The state that a tick changes.
 pub record Moving : Type 0 where
   pub devices : Devices
   pub shots : List (List ℕ)
@@ -51,15 +52,15 @@ pub record Moving : Type 0 where
 abbrev pub shot : ℕ → List Event → Moving → Moving
 shot k script m = record m { shots = shot_at k script (last_frame m.devices) m.shots }
 
--- With u ticks in a microsecond, its step m comes at tick u m, with the keys and levels of that tick.
+-- If a microsecond has u ticks, step m is at tick u m, with the keys and levels of that tick.
 abbrev pub beat : Around → ℕ → Devices → Devices
 beat a k d = if k % micro a.clock == 0 then microsecond a.ram a.font (keys_at k a.script) (levels_at k a.script) d else d
 
--- Tick k: its shots are taken, and then comes the microsecond.
+-- Tick k: its shots are taken, and then its microsecond is done, if there is one.
 abbrev pub tick : Around → ℕ → Moving → Moving
 tick a k m = let taken = shot k a.script m in record taken { devices = beat a k taken.devices }
 
--- so many ticks, from tick k on
+-- n ticks, from tick k on
 abbrev pub ticks : Around → ℕ → ℕ → Moving → Moving
 ticks a zero k m = m
 ticks a (suc n) k m = ticks a n (k + 1) (tick a k m)
@@ -70,15 +71,15 @@ around b = record { clock = b.clock; ram = b.ram; font = b.roms.font; script = b
 abbrev pub moving_part : BoardState → Moving
 moving_part b = record { devices = b.devices; shots = b.shots }
 
--- the board closed at t, with what ticks left
+-- the board closed at t, with m after the ticks
 abbrev pub closed_with : BoardState → ℕ → Moving → BoardState
 closed_with b t m = record b { devices = m.devices; shots = m.shots; closed = t }
 
--- All ticks below t are done, and those that were done already.
+-- All ticks below t are done, and all that were done before.
 abbrev pub board_closed : BoardState → ℕ → BoardState
 board_closed b t = closed_with b (max t b.closed) (ticks (around b) (t - b.closed) b.closed (moving_part b))
 
--- what a read at tick t answers
+-- the answer of a read at tick t
 abbrev pub answer_at : Place → BoardState → ℕ → ℕ → ℕ
 answer_at Ram b t at = slice_index b.ram at
 answer_at PagedRom b t at = rom_byte b.roms.slots b.latch (at - 0x8000)
@@ -91,7 +92,8 @@ abbrev pub read_at : Place → ℕ → BoardState → BoardState
 read_at (Sheila device) at b = record b { devices = register_read device at b.devices }
 read_at _ at b = b
 
--- The board with these devices, after a write to the system's 6522. Where that turns bit 0 of the latch from 1 to 0, the sound chip is written.
+-- The board with the devices d after a write to the system's 6522. If the write turns bit 0 of the
+-- latch from 1 to 0, the sound chip is written.
 abbrev pub with_sound : BoardState → Devices → BoardState
 with_sound b d =
     let write : SoundWrite = record { moment = moment_at (micro b.clock) b.closed; byte = sound_data d } in
@@ -105,23 +107,25 @@ written_at (Sheila SystemVia) at v b = with_sound b (register_written SystemVia 
 written_at (Sheila device) at v b = record b { devices = register_written device at v b.devices }
 written_at _ at v b = b
 
--- The lines to the processor: whether a device asks for an interrupt, and how often the NMI line, the disc controller's "DRQ or INTRQ", has
--- risen in microseconds and in accesses.
+-- The lines to the processor: the interrupt request of the devices, and the rises of the NMI line,
+-- the disc controller's "DRQ or INTRQ", in microseconds and in accesses.
 abbrev pub board_irq : BoardState → Bool
 board_irq b = devices_ask b.devices
 
 abbrev pub board_nmis : BoardState → ℕ
 board_nmis b = b.devices.disc.nmis
 
--- A break is pending at tick t where the script has a break with a tick of at most t that was not taken.
+-- A break is pending at tick t if the script has a break with a tick of at most t that was not
+-- taken.
 abbrev pub break_pending : BoardState → ℕ → Bool
 break_pending b t = nat_lt b.breaks (breaks_until t b.script)
 
--- the tick of the script's first break that was not taken, if there is one: ticks never fall
+-- the tick of the script's first break that was not taken, if there is one; ticks never fall
 abbrev pub next_break : BoardState → Option ℕ
 next_break b = break_number b.breaks b.script
 
--- Every break up to tick t is taken. That resets the disc controller and the user's 6522, and nothing else on the board.
+-- Every break up to tick t is taken. That resets the disc controller and the user's 6522, and
+-- changes nothing more on the board.
 abbrev pub break_taken : BoardState → ℕ → BoardState
 break_taken b t = record b { breaks = breaks_until t b.script; devices = devices_reset b.devices }
 
@@ -129,7 +133,7 @@ break_taken b t = record b { breaks = breaks_until t b.script; devices = devices
 abbrev pub clear_ram : List ℕ
 clear_ram = zeros 32768
 
--- the board at power-on, at this clock, with these images, the discs of both drives, and this script
+-- the board at power-on, by its clock, images, discs of both drives, and script
 abbrev pub first_board : Clock → Roms → Option Image → Option Image → List Event → BoardState
 first_board clock roms d0 d1 script = record {
   clock = clock;

@@ -14,15 +14,15 @@ pub record BusState : Type 0 where
   pub board : BoardState
   pub plugs : List Plug
 
--- how long its ticks are
+-- the length of its ticks
 abbrev pub clock_of : BusState → Clock
 clock_of b = b.board.clock
 
--- all device steps below tick t are done, and those that were done already
+-- all device steps below tick t are done, and all that were done before
 abbrev pub bus_closed : BusState → ℕ → BusState
 bus_closed b t = record b { board = board_closed b.board t }
 
--- the tick below which all are done
+-- the tick where the bus is closed: all steps below it are done
 abbrev pub closed_at : BusState → ℕ
 closed_at b = b.board.closed
 
@@ -30,7 +30,8 @@ abbrev pub is_plugs : Place → Bool
 is_plugs Plugs = true
 is_plugs _ = false
 
--- an access of the plugged devices is one call of the first that owns the address, and every other access is the board's
+-- an access to a plugged device is one call of the first that owns the address; every other access
+-- is the board's
 abbrev pub answer_of : Place → BusState → ℕ → ℕ → ℕ
 answer_of place b t at = if is_plugs place then plugs_answer b.plugs at else answer_at place b.board t at
 
@@ -42,7 +43,7 @@ abbrev pub after_write_of : Place → BusState → ℕ → ℕ → BusState
 after_write_of place b at v =
     if is_plugs place then record b { plugs = plugs_after_write b.plugs at v } else record b { board = written_at place at v b.board }
 
--- what a read at tick t answers, and the bus after an access
+-- the answer of a read at tick t, and the bus after an access
 abbrev pub bus_answer : BusState → ℕ → ℕ → ℕ
 bus_answer b t at = answer_of (place_of at) b t at
 
@@ -52,21 +53,22 @@ bus_after_read b at = after_read_of (place_of at) b at
 abbrev pub bus_after_write : BusState → ℕ → ℕ → BusState
 bus_after_write b at v = after_write_of (place_of at) b at v
 
--- the lines to the processor: whether a device asks for an interrupt, and how often the NMI line has risen
+-- the lines to the processor: the interrupt request of the devices, and the number of rises of the
+-- NMI line
 abbrev pub bus_irq : BusState → Bool
 bus_irq b = board_irq b.board
 
 abbrev pub bus_nmis : BusState → ℕ
 bus_nmis b = board_nmis b.board
 
--- Whether a break is pending at a tick, and the tick of the first that was not taken.
+-- A break is pending at a tick; and the tick of the first that was not taken.
 abbrev pub bus_break_pending : BusState → ℕ → Bool
 bus_break_pending b t = break_pending b.board t
 
 abbrev pub bus_next_break : BusState → Option ℕ
 bus_next_break b = next_break b.board
 
--- the bus after every break up to a tick was taken, which no plugged device sees
+-- the bus after every break up to a tick was taken; no plugged device sees a break
 abbrev pub bus_break_taken : BusState → ℕ → BusState
 bus_break_taken b t = record b { board = break_taken b.board t }
 
@@ -74,6 +76,6 @@ bus_break_taken b t = record b { board = break_taken b.board t }
 abbrev pub bus_disc : ℕ → BusState → Option Image
 bus_disc drive b = disc_of drive b.board.devices.disc
 
--- the bus at power-on, at this clock, with these images, the discs of both drives, this script and these plugged devices
+-- the bus at power-on, by its clock, images, discs of both drives, script and plugged devices
 abbrev pub bus_power_on : Clock → Roms → Option Image → Option Image → List Event → List Plug → BusState
 bus_power_on clock roms d0 d1 script plugs = record { board = first_board clock roms d0 d1 script; plugs = plugs }

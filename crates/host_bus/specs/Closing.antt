@@ -1,4 +1,5 @@
--- Laws of closing: closing a bus so far and then further is closing it further at once, and nothing comes undone.
+-- Laws of closing. Closing a bus at one tick and then at a later one is closing it at the later
+-- one. Closing it no further than it is closed changes nothing.
 use Rattle.std.specs.Prelude.{ℕ, zero, suc, ◌≡◌, ◌≤◌, ◌+◌, ◌-◌, max, refl}
 use Rattle.std.proofs.Common.{arith}
 use Rattle.host_bus.specs.Board.{BoardState, Around, Moving, around, moving_part, tick, ticks, board_closed}
@@ -14,7 +15,7 @@ ticks-add a (suc n) m k s =
     let sum : suc n + m ≡ suc (n + m) = omega arith in
     rw (same, sum) (ticks-add a n m (k + 1) (tick a k s))
 
--- from c to t, and on to u
+-- from c to t, and then to u
 pub ticks-on : (a : Around) (s : Moving) (c t u : ℕ) → t ≤ u → ticks a (u - max t c) (max t c) (ticks a (t - c) c s) ≡ ticks a (u - c) c s
 ticks-on a s c t u high =
     let there : max t c ≡ c + (t - c) = omega arith in
@@ -29,7 +30,7 @@ board-again b t u high =
 pub closed-again : (b : BusState) (t u : ℕ) → t ≤ u → bus_closed (bus_closed b t) u ≡ bus_closed b u
 closed-again b t u high = rw (board-again b.board t u high) refl
 
--- closing a bus where it is closed already
+-- closing a bus no further than it is closed
 pub board-still : (b : BoardState) (t : ℕ) → t ≤ b.closed → board_closed b t ≡ b
 board-still b t low =
     let none : t - b.closed ≡ 0 = omega (arith, low) in

@@ -1,4 +1,4 @@
--- What contracts see of the board's fields, and what the fields keep.
+-- The board's fields as contracts see them, and the invariant of the fields.
 use Rattle.std.specs.Prelude.{ℕ, List, ◌≡◌, ◌<◌, length}
 use Rattle.beeb_bits.specs.declared.clock.Clock.{Clock}
 use Rattle.beeb_bits.specs.Clock.{micro}
@@ -28,14 +28,14 @@ board_seen b = record {
   closed = b.closed;
 }
 
--- what a tick goes by, and what it changes, by their parts
+-- the inputs of a tick and the state that it changes, by their parts
 abbrev pub around_by : Clock → List ℕ → Font → List Event → Around
 around_by clock ram font script = record { clock = clock; ram = ram; font = font; script = script }
 
 abbrev pub moving : Devices → List (List ℕ) → Moving
 moving devices shots = record { devices = devices; shots = shots }
 
--- the memories, and what a read shows of them by this latch
+-- the memories, and the bytes that reads show with the latch
 pub record IsStored (ram shown : List ℕ) (roms : Roms) (latch : ℕ) : Type 0 where
   pub memory : length ram ≡ 32768
   pub addresses : length shown ≡ 65536

@@ -1,11 +1,12 @@
--- The byte that stands at an address of the host's memory. No tick and no device changes what a read there gives.
+-- The byte at an address of the host's memory. No tick and no device changes the answer of a read
+-- there.
 use Rattle.std.specs.Prelude.{ℕ, ◌≡◌, ◌-◌, Option, Some, None, slice_index, refl}
 use Rattle.rom_set.specs.Roms.{rom_byte}
 use Rattle.host_devices.specs.Map.{Place, Ram, PagedRom, OsRom, place_of}
 use Rattle.host_bus.specs.Board.{BoardState}
 use Rattle.host_bus.specs.Bus.{BusState, bus_closed}
 
--- of the RAM, of the ROM in the latch's slot, or of the operating system; none where a device answers
+-- of the RAM, of the ROM in the latch's slot, or of the operating system; none if a device answers
 abbrev pub memory_at : Place → BoardState → ℕ → Option ℕ
 memory_at Ram b at = Some (slice_index b.ram at)
 memory_at PagedRom b at = Some (rom_byte b.roms.slots b.latch (at - 0x8000))

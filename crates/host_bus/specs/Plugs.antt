@@ -1,8 +1,8 @@
--- An access in FC00 to FDFF: one call of the first owner in the list, and every other device stays.
+-- An access in FC00 to FDFF: one call of the first owner in the list. Every other device stays.
 use Rattle.std.specs.Prelude.{ℕ, List, [], ◌∷◌, if◌then◌else◌}
 use Rattle.bus_plug.specs.Plug.{Plug, plug_owns, plug_answer, after_read, after_write}
 
--- the answer of the first owner, or FF where there is none
+-- the answer of the first owner, or FF if there is none
 abbrev pub plugs_answer : List Plug → ℕ → ℕ
 plugs_answer [] at = 0xFF
 plugs_answer (p ∷ ps) at = if plug_owns p at then plug_answer p at else plugs_answer ps at

@@ -1,4 +1,4 @@
--- No access changes how long ticks are.
+-- No access changes the length of ticks.
 use Rattle.std.specs.Prelude.{ℕ, ◌≡◌, List, refl}
 use Rattle.std.proofs.Common.{ap}
 use Rattle.beeb_bits.specs.declared.clock.Clock.{Clock}
@@ -7,7 +7,7 @@ use Rattle.host_devices.specs.declared.map.Device.TheVariants.{RomLatch}
 use Rattle.host_devices.specs.Map.{Place, Plugs, Sheila, place_of}
 use Rattle.host_bus.specs.Bus.{BusState, clock_of, after_read_of, after_write_of, bus_after_read, bus_after_write}
 
--- what no access changes
+-- the state that no access changes
 abbrev kept : BusState → Clock × ℕ × List Event
 kept b = (b.board.clock, b.board.breaks, b.board.script)
 

@@ -1,5 +1,5 @@
--- A byte that is written to the RAM changes no line to the processor, now or later: the picture alone reads the RAM, and of the picture the other
--- devices see vertical sync, which the 6845 makes by itself.
+-- A byte written to the RAM changes no line to the processor, now or later. Only the picture reads
+-- the RAM. The other devices see only its vertical sync, which the 6845 makes by itself.
 use Rattle.std.specs.Prelude.{ℕ, zero, suc, ◌≡◌, ◌+◌, ◌-◌, ◌%◌, ◌==◌, Bool, true, false, refl, List, slice_set, if◌then◌else◌}
 use Rattle.std.proofs.Common.{ap, sym, ◌∙◌, arith}
 use Rattle.beeb_bits.specs.Bits.{bit}
@@ -18,7 +18,7 @@ use Rattle.keyboard.specs.Keys.{Keys}
 use Rattle.host_devices.specs.Devices.{Devices, keys_at, levels_at, system_pins, user_pins, raster_after, microsecond, devices_ask}
 use Rattle.host_bus.specs.Board.{BoardState, Around, Moving, around, moving_part, tick, ticks, board_closed, board_irq, board_nmis}
 
--- of a picture, what is not drawn: the 6845 and the ULA
+-- the part of a picture that is not drawn: the 6845 and the ULA
 abbrev chips : picture.State → crtc.State × ula.State
 chips s = (s.crtc, s.ula)
 
@@ -42,12 +42,12 @@ after c = if bit c.1.control 4 then clocked (clocked c) else clocked c
 picture-chips : (ram : List ℕ) (size : ℕ) (font : Font) (s : picture.State) → chips (beam.microsecond ram size font s) ≡ after (chips s)
 picture-chips ram size font s = grind (arith, char-chips)
 
--- Devices that differ in what is drawn alone.
+-- Devices that differ only in the drawn part.
 record IsLike (d e : Devices) : Type 0 where
   pub chips_too : chips d.video ≡ chips e.video
   pub rest : d ≡ record e { video = d.video }
 
--- a microsecond by what it makes of the picture and of its sync
+-- a microsecond, by the picture after it and by vertical sync
 abbrev pub stepped : picture.State → Bool → Keys → List ℕ → Devices → Devices
 stepped v sync keys levels d = record d {
   video = v;

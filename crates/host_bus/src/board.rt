@@ -1,4 +1,4 @@
-//! The board: memory, and what answers beside it.
+//! The board: memory and devices, without the plugged devices.
 ghost use Rattle.std.specs.Prelude.{◌≡◌, ◌≤◌, ◌<◌, ◌+◌, ◌-◌, ◌*◌, ◌%◌, ◌^◌, ◌==◌, ◌⊎◌, ℕ, true, false, min, unwrap_or, length, List, IfOk, Ok};
 ghost use Rattle.std.specs.Prelude.{IfSome, None, Some, MatchOption, slice_index, slice_set, if◌then◌else◌};
 ghost use Rattle.keyboard.specs.Keys.{keys_of};
@@ -28,30 +28,31 @@ use sn76489::SoundWrite;
 use std::alloc::Global;
 use std::marker::Model;
 
-/// How many bytes the RAM has.
+/// The bytes of the RAM.
 const RAM_SIZE: usize = 32_768;
 
-/// How many addresses there are.
+/// The number of addresses.
 const ADDRESSES: usize = 65_536;
 
-/// Where the operating system begins.
+/// The first address of the operating system.
 const OS_START: usize = 0xc000;
 
-/// Where the paged ROM begins.
+/// The first address of the paged ROM.
 const PAGED_START: usize = 0x8000;
 
-/// How many bytes half of a slot has.
+/// The bytes of half a slot.
 const HALF_SLOT: usize = 8_192;
 
-/// How many bytes the operating system has.
+/// The bytes of the operating system.
 const OS_SIZE: u16 = 16_384;
 
-/// All of the host's bus but the plugged devices. Every tick below `closed` is done.
+/// All of the host's bus except the plugged devices. Every tick below `closed` is done.
 #[derive(Drop)]
 pub(crate) struct Board {
     clock: Clock,
     ram: Vec<u8>,
-    // What a read shows of the RAM, the paged ROM and the operating system, so that it takes one load.
+    // The bytes that reads show of the RAM, the paged ROM and the operating system: a read takes
+    // one load.
     shown: Vec<u8>,
     letters: Letters,
     latch: u8,
@@ -60,7 +61,7 @@ pub(crate) struct Board {
     breaks: Breaks,
     sound: SoundLog,
     closed: u64,
-    // The tick of the next microsecond or event, whichever comes first.
+    // The tick of the next microsecond or event, the earlier of the two.
     next: u64,
 }
 
@@ -75,7 +76,7 @@ impl Model for Board {
     ghost invariant = { IsValid };
 }
 
-// Copies the operating system to where it is read.
+// Copies the operating system to the array for reads.
 fn cover(shown: &mut [u8], roms: &RomSet)
     requires { length shown.old ≡ ADDRESSES }
     ensures length { length shown.new ≡ ADDRESSES }
@@ -86,7 +87,7 @@ fn cover(shown: &mut [u8], roms: &RomSet)
     }
 }
 
-// Copies half of a slot from the ROM's bytes from `skip` on to where it is read.
+// Copies half of a slot, the ROM's bytes from `skip` on, to the array for reads.
 fn cover_half(shown: &mut [u8], start: usize, rom: &[u8], skip: usize)
     requires addresses { length shown.old ≡ ADDRESSES }
     requires room { start + HALF_SLOT ≤ ADDRESSES }
@@ -97,7 +98,7 @@ fn cover_half(shown: &mut [u8], start: usize, rom: &[u8], skip: usize)
     shown[start..start + HALF_SLOT].copy_from_slice(&rom[skip..skip + HALF_SLOT]);
 }
 
-// An empty slot is read as FF.
+// Fills the array for reads with FF, for an empty slot.
 fn cover_empty(shown: &mut [u8])
     requires { length shown.old ≡ ADDRESSES }
     ensures length { length shown.new ≡ ADDRESSES }
@@ -108,7 +109,7 @@ fn cover_empty(shown: &mut [u8])
     }
 }
 
-// Copies the ROM of a slot to where it is read. One of half the size stands there twice.
+// Copies the ROM of a slot to the array for reads. A ROM of half the size is copied twice.
 fn cover_slot(shown: &mut [u8], roms: &RomSet, slot: u8)
     requires addresses { length shown.old ≡ ADDRESSES }
     requires slot { slot < 16 }
@@ -124,7 +125,7 @@ fn cover_slot(shown: &mut [u8], roms: &RomSet, slot: u8)
     }
 }
 
-// Copies the ROM of a slot to where it is read, unless that of this slot stands there.
+// Copies the ROM of a slot to the array for reads, unless that slot is there already.
 fn show_slot(shown: &mut [u8], roms: &RomSet, was: u8, slot: u8)
     requires addresses { length shown.old ≡ ADDRESSES }
     requires slot { slot < 16 }
@@ -136,7 +137,7 @@ fn show_slot(shown: &mut [u8], roms: &RomSet, was: u8, slot: u8)
     }
 }
 
-// Copies the ROM of slot 0 and the operating system to where they are read at power-on.
+// Copies the ROM of slot 0 and the operating system to the array for reads, at power-on.
 fn cover_first(shown: &mut [u8], roms: &RomSet)
     requires addresses { length shown.old ≡ ADDRESSES }
     requires clear { (at : ℕ) → slice_index shown.old at ≡ 0 }
@@ -147,7 +148,7 @@ fn cover_first(shown: &mut [u8], roms: &RomSet)
     cover_slot(shown, roms, 0);
 }
 
-// What a read shows at power-on: clear RAM, the ROM of slot 0, and the operating system.
+// Makes the array for reads at power-on: clear RAM, the ROM of slot 0, and the operating system.
 fn first_shown(alloc: Global, roms: &RomSet) -> Result<Vec<u8>, NoMemory>
     ensures length { IfOk result (λ v. length v.items ≡ ADDRESSES) }
     ensures shows { IfOk result (λ v. Shows clear_ram roms.now.slots 0 roms.now.os v.items) }
@@ -157,7 +158,7 @@ fn first_shown(alloc: Global, roms: &RomSet) -> Result<Vec<u8>, NoMemory>
     Ok(shown)
 }
 
-// The RAM, what reads show of memory, and the images with the letters of their font, at power-on.
+// Makes the RAM, the array for reads, and the images with the letters of their font, at power-on.
 fn first_memory(alloc: Global, roms: RomSet) -> Result<(Vec<u8>, Vec<u8>, Letters), NoMemory>
     ensures ram { IfOk result (λ m. m.0.items ≡ clear_ram) }
     ensures memory { IfOk result (λ m. length m.0.items ≡ RAM_SIZE) }
@@ -171,7 +172,8 @@ fn first_memory(alloc: Global, roms: RomSet) -> Result<(Vec<u8>, Vec<u8>, Letter
     Ok((ram, shown, letters))
 }
 
-// Both parts, if there was memory for each. It is a function over any types, since a proof follows each field of what it sees dropped.
+// Returns both parts, if there was memory for each. It is generic, since a proof follows each field
+// of a known type that is dropped.
 fn both<A: Drop, B: Drop>(
     a: Result<A, NoMemory>,
     b: Result<B, NoMemory>,
@@ -181,7 +183,8 @@ fn both<A: Drop, B: Drop>(
     Ok((a?, b?))
 }
 
-// How many microseconds begin in a span of so many ticks that begins with one.
+// Returns the number of microseconds that begin in `span` ticks, if one begins with the first of
+// them.
 fn beats(clock: Clock, span: u64) -> u64
     requires { span < 2 ^ 48 }
     ensures all { span ≤ result * micro clock }
@@ -193,8 +196,9 @@ fn beats(clock: Clock, span: u64) -> u64
     }
 }
 
-// From tick `k` on, the next one at which something comes and below `t`: all microseconds below `t` and before the next event, or the events of
-// that tick. Answers the tick behind them at which something comes next.
+// Continues at tick `k`, below `t`, with a microsecond or event. Does all microseconds below `t`
+// and before the next event, or the events of tick `k`. Returns the tick of the next microsecond or
+// event.
 #[inline(always)]
 fn beats_or_events(
     devices: &mut Devices,
@@ -228,7 +232,8 @@ fn beats_or_events(
     }
 }
 
-// Tick `k`: its shots are taken, and then comes the microsecond, if it is one.
+// Does tick `k`: takes its shots, and then does its microsecond, if there is one. Returns the tick
+// of the next microsecond or event.
 #[cold]
 #[inline(never)]
 fn tick_with_events(
@@ -262,8 +267,8 @@ fn tick_with_events(
 }
 
 impl Board {
-    /// The board at power-on, at this clock, with these images, the discs of both drives, and this script. It takes the memory of all shots of
-    /// the script, and of all sound writes.
+    /// Makes the board at power-on, by its clock, images, discs of both drives, and script. It
+    /// takes the memory of all shots of the script, and of all sound writes.
     pub(crate) fn make(
         alloc: Global,
         clock: Clock,
@@ -293,7 +298,7 @@ impl Board {
         })
     }
 
-    /// How long its ticks are.
+    /// Returns the length of a tick.
     #[inline(always)]
     pub(crate) fn clock(&self) -> Clock
         ensures { result ≡ (self.now).clock }
@@ -301,7 +306,7 @@ impl Board {
         self.clock
     }
 
-    /// Does all ticks below `t`. The fields that say how far it came are written once, behind the loop.
+    /// Does all ticks below `t`. `next` and `closed` are written once, after the loop.
     pub(crate) fn close(&mut self, t: u64)
         requires low { self.old.closed ≤ t }
         requires room { t < 2 ^ 48 }
@@ -323,7 +328,7 @@ impl Board {
         self.closed = t;
     }
 
-    /// A tick up to which the lines to the processor surely stay as they are.
+    /// Returns a tick. Up to it the lines to the processor do not change.
     pub(crate) fn calm(&self) -> u64
         ensures low { self.now.closed ≤ result }
         ensures calm { IsCalm result self.now }
@@ -335,7 +340,7 @@ impl Board {
         self.next.saturating_add(ticks).min(self.playback.event)
     }
 
-    /// An address of the RAM below which the picture reads nothing, until a register is written.
+    /// Returns a RAM address. The picture reads no byte below it, until a register is written.
     #[inline(always)]
     pub(crate) fn lowest(&self) -> u16
         ensures { ReadsAbove result self.now }
@@ -344,7 +349,7 @@ impl Board {
         self.devices.lowest()
     }
 
-    /// The byte of the RAM or of a ROM.
+    /// Returns a byte of the RAM or of a ROM.
     #[inline(always)]
     pub(crate) fn memory(&self, at: u16) -> u8
         requires { (at < 0xfc00) ⊎ (0xff00 ≤ at) }
@@ -353,7 +358,7 @@ impl Board {
         self.shown[at as usize]
     }
 
-    /// A write to the RAM. The picture is drawn before it where it may read the byte.
+    /// Writes a byte to the RAM. The picture is drawn first if it may read the byte.
     #[inline(always)]
     pub(crate) fn store(&mut self, at: u16, v: u8)
         requires { at < 0x8000 }
@@ -364,7 +369,7 @@ impl Board {
         self.shown[at as usize] = v;
     }
 
-    /// A read in SHEILA at the last tick that is done.
+    /// Reads an address in SHEILA at the last tick that is done.
     pub(crate) fn read(&mut self, at: u16) -> u8
         requires low { 0xfe00 ≤ at }
         requires high { at ≤ 0xfeff }
@@ -377,7 +382,8 @@ impl Board {
             .read(&self.ram, &self.letters, keys, device_at(at), at)
     }
 
-    /// The byte of a register of a 6522 that no pins matter to, and that a read leaves as it is.
+    /// Returns the byte of a 6522's register that does not depend on pins and that a read does not
+    /// change. Returns `None` for any other.
     #[inline(always)]
     pub(crate) fn held(&self, at: u16) -> Option<u8>
         requires low { 0xfe00 ≤ at }
@@ -388,7 +394,7 @@ impl Board {
         self.devices.held(device_at(at), at)
     }
 
-    // The latch selects a slot. Its ROM is copied to where it is read, unless it stands there.
+    // Selects a slot. Its ROM is copied to the array for reads, unless it is there already.
     fn latch_slot(&mut self, slot: u8)
         requires { slot < 16 }
         ensures { self.new ≡ record self.old { latch = slot } }
@@ -397,7 +403,7 @@ impl Board {
         self.latch = slot;
     }
 
-    // A write to the system's 6522, which may write the sound chip.
+    // Writes a register of the system's 6522. The sound chip may be written too.
     #[tactic(auto, unfolding(host_devices::specs::Devices::sound_line, host_devices::specs::Devices::sound_data))]
     fn write_system(&mut self, at: u16, v: u8)
         ensures { self.new ≡ with_sound self.old (register_written SystemVia at v (self.old).devices) }
@@ -413,7 +419,7 @@ impl Board {
         }
     }
 
-    /// A write in SHEILA.
+    /// Writes an address in SHEILA.
     pub(crate) fn write(&mut self, at: u16, v: u8)
         requires low { 0xfe00 ≤ at }
         requires high { at ≤ 0xfeff }
@@ -427,7 +433,7 @@ impl Board {
         }
     }
 
-    /// Whether a device asks for an interrupt.
+    /// Reports if a device requests an interrupt.
     #[inline(always)]
     #[tactic(auto, unfolding(host_devices::specs::Devices::devices_ask))]
     pub(crate) fn irq(&self) -> bool
@@ -436,7 +442,7 @@ impl Board {
         self.devices.ask()
     }
 
-    /// How often the NMI line has risen.
+    /// Returns the number of rises of the NMI line.
     #[inline(always)]
     pub(crate) fn nmis(&self) -> u64
         ensures { result ≡ board_nmis self.now }
@@ -444,7 +450,8 @@ impl Board {
         self.devices.nmis()
     }
 
-    /// The tick of the first break that was not taken, or the last number where none is left: before it none is pending, and from it on one is.
+    /// Returns the tick of the first break that was not taken, or 2^64 - 1 if none is left. A break
+    /// is pending from that tick on, and none before it.
     #[inline(always)]
     pub(crate) fn break_tick(&self) -> u64
         ensures value { result ≡ unwrap_or (next_break self.now) 18446744073709551615 }
@@ -454,7 +461,7 @@ impl Board {
         self.breaks.next
     }
 
-    /// The tick of the first break that was not taken.
+    /// Returns the tick of the first break that was not taken. Returns `None` if none is left.
     pub(crate) fn next_break(&self) -> Option<Tick>
         ensures { let next = next_break self.now in
             MatchOption result (next ≡ None) (λ t. next ≡ Some t.0) }
@@ -462,7 +469,7 @@ impl Board {
         self.breaks.next_tick(self.playback.script.events())
     }
 
-    /// Takes every break up to tick `t`, of which one is pending. It takes no memory.
+    /// Takes every break up to tick `t`. At least one must be pending. It takes no memory.
     #[tactic(auto, unfolding(host_devices::specs::Devices::devices_reset))]
     pub(crate) fn take_break(&mut self, t: u64)
         requires pending { break_pending self.old t ≡ true }
@@ -473,7 +480,7 @@ impl Board {
         self.devices.reset();
     }
 
-    /// The disc in a drive.
+    /// Returns the disc in a drive. Returns `None` if there is none.
     pub(crate) fn disc(&self, drive: u8) -> Option<&Disc>
         ensures { let there = disc_of drive (self.now).devices.disc in
             MatchOption result (there ≡ None) (λ disc. there ≡ Some disc.now) }
@@ -481,14 +488,14 @@ impl Board {
         self.devices.disc(drive)
     }
 
-    /// The frames that shots took so far, the oldest first.
+    /// Returns the frames that shots took, the oldest first.
     pub(crate) fn frames(&self) -> &[Frame]
         ensures { result.now ≡ (self.now).shots }
     {
         self.playback.shots.frames()
     }
 
-    /// The writes to the sound chip, the first 1,048,576 of them.
+    /// Returns the writes to the sound chip, the first 1,048,576 of them.
     pub(crate) fn sound(&self) -> &[SoundWrite]
         ensures value { result.now ≡ (self.now).sound }
         ensures order { NeverFallFrom 0 result.now }
@@ -497,7 +504,7 @@ impl Board {
         self.sound.writes()
     }
 
-    /// The RAM.
+    /// Returns the RAM.
     pub(crate) fn ram(&self) -> &[u8]
         ensures { result.now ≡ (self.now).ram }
     {

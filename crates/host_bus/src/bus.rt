@@ -1,4 +1,4 @@
-//! The bus, whose devices lag behind: they are stepped where an access, a line or the picture needs them.
+//! The bus. Its devices lag, and catch up if an access, a line or the picture requires it.
 ghost use Rattle.std.specs.Prelude.{◌≡◌, ◌≤◌, ◌<◌, ◌+◌, ◌^◌, ◌⊎◌, ◌↔◌, ℕ, true, false, unwrap_or, IfOk, IfSome, None, Some, MatchOption, length, map};
 ghost use Rattle.std.proofs.Props.{props};
 ghost use Rattle.sn76489.specs.Samples.{NeverFallFrom};
@@ -20,15 +20,16 @@ use rom_set::RomSet;
 use sn76489::SoundWrite;
 use std::alloc::Global;
 
-/// The host's bus: the board, and the plugged devices on FRED and JIM. `closed` is the tick that contracts see; `board.closed` is how far the
-/// devices are stepped; the picture is `owed` microseconds behind these. They are stepped at an access of one of them, at a tick from which on a
-/// line to the processor may change, and before a store into memory that the picture may read.
+/// The host's bus: the board, and the plugged devices on FRED and JIM. `closed` is the tick that
+/// contracts see. The devices are stepped up to `board.closed`, and the picture is `owed`
+/// microseconds before that. They catch up at an access of one of them, and before a line to the
+/// processor may change. They also do before a store into memory that the picture may read.
 #[derive(Drop)]
 pub struct Bus<D = Box<dyn BusDevice + Send>> {
     board: Board,
     plugs: Vec<D>,
     closed: u64,
-    // Up to this tick the lines to the processor stay as they are.
+    // Up to this tick the lines to the processor do not change.
     calm: u64,
     ghost behind: { IsBehind board closed calm } by { Prim.hlevel props },
 }
@@ -36,8 +37,8 @@ pub struct Bus<D = Box<dyn BusDevice + Send>> {
 impl<D: BusDevice> Bus<D> {
     ghost use Rattle.host_bus.specs.View.{bus_seen, bus_stepped, caught_up};
 
-    /// The bus at power-on, at this clock. It takes the memory of all shots of the script, and of all sound writes. Where memory is
-    /// wanting, all is dropped.
+    /// Makes the bus at power-on. It takes the memory of all shots of the script, and of all sound
+    /// writes. Out of memory, it drops all arguments.
     pub fn make(
         alloc: Global,
         clock: Clock,
@@ -60,7 +61,7 @@ impl<D: BusDevice> Bus<D> {
         })
     }
 
-    /// How long its ticks are.
+    /// Returns the length of a tick.
     #[inline(always)]
     pub fn clock(&self) -> Clock
         ensures { result ≡ clock_of (bus_seen D.plug self.now) }
@@ -68,7 +69,7 @@ impl<D: BusDevice> Bus<D> {
         self.board.clock()
     }
 
-    /// All ticks below this one are done.
+    /// Returns the tick where the bus is closed: all ticks below it are done.
     #[inline(always)]
     pub fn closed(&self) -> u64
         ensures { result ≡ closed_at (bus_seen D.plug self.now) }
@@ -76,7 +77,8 @@ impl<D: BusDevice> Bus<D> {
         self.closed
     }
 
-    /// Does all device steps below `t`. Where no line to the processor changes before it, this is one number.
+    /// Does all device steps below `t`. If no line to the processor changes before `t`, only
+    /// `closed` changes.
     #[inline(always)]
     pub fn close(&mut self, t: u64)
         requires low { closed_at (bus_seen D.plug self.old) ≤ t }
@@ -102,7 +104,7 @@ impl<D: BusDevice> Bus<D> {
         self.calm = self.board.calm();
     }
 
-    /// The byte of the RAM or of a ROM, which no device step changes.
+    /// Returns a byte of the RAM or of a ROM. No device step changes it.
     #[inline(always)]
     pub fn memory(&self, at: u16) -> u8
         requires { (at < 0xfc00) ⊎ (0xff00 ≤ at) }
@@ -113,8 +115,8 @@ impl<D: BusDevice> Bus<D> {
         self.board.memory(at)
     }
 
-    /// The byte that a read of this address would give now, at whatever tick. None exactly from FC00 to FEFF, where devices answer. Nothing
-    /// changes.
+    /// Returns the byte that a read of `at` gives at any tick. Returns `None` exactly from FC00 to
+    /// FEFF, where devices answer. Nothing changes.
     pub fn peek(&self, at: u16) -> Option<u8>
         ensures value { result ≡ bus_peek (bus_seen D.plug self.now) at }
         ensures read { IfSome result (λ byte. (t : ℕ) → byte ≡ bus_answer (bus_seen D.plug self.now) t at) }
@@ -129,8 +131,9 @@ impl<D: BusDevice> Bus<D> {
         Some(self.memory(at))
     }
 
-    /// Does all device steps below `t`, and then a write to the RAM. Where no line to the processor changes before `t`, and the picture reads no
-    /// byte so low, this is one number and the byte.
+    /// Does all device steps below `t`, and then writes a byte to the RAM. If no line to the
+    /// processor changes before `t`, and the picture reads no byte so low, only `closed` and the
+    /// byte change.
     #[inline(always)]
     pub fn put(&mut self, t: u64, at: u16, v: u8)
         requires low { closed_at (bus_seen D.plug self.old) ≤ t }
@@ -150,7 +153,7 @@ impl<D: BusDevice> Bus<D> {
         }
     }
 
-    // The same where the devices may have to be stepped, or the picture drawn.
+    // Does what `put` does, if the devices may have to be stepped, or the picture drawn.
     #[inline(never)]
     fn put_stepped(&mut self, t: u64, at: u16, v: u8)
         requires low { closed_at (bus_seen D.plug self.old) ≤ t }
@@ -164,7 +167,7 @@ impl<D: BusDevice> Bus<D> {
         self.board.store(at, v);
     }
 
-    // A read in SHEILA at the last tick that is done.
+    // Reads an address in SHEILA at the last tick that is done.
     #[tactic(auto, using(crate::proofs::CalmThere::behind_there))]
     fn read_device(&mut self, at: u16) -> u8
         requires low { 0xfe00 ≤ at }
@@ -184,7 +187,7 @@ impl<D: BusDevice> Bus<D> {
         byte
     }
 
-    // A write in SHEILA.
+    // Writes an address in SHEILA.
     fn write_device(&mut self, at: u16, v: u8)
         requires low { 0xfe00 ≤ at }
         requires high { at ≤ 0xfeff }
@@ -197,7 +200,7 @@ impl<D: BusDevice> Bus<D> {
         self.calm = self.board.calm();
     }
 
-    // A read at the last tick that is done.
+    // Reads an address at the last tick that is done.
     fn read_now(&mut self, at: u16) -> u8
         ensures answer { let old = bus_seen D.plug self.old in
             (t : ℕ) → closed_at old ≡ t + 1 → result ≡ bus_answer old t at }
@@ -213,7 +216,7 @@ impl<D: BusDevice> Bus<D> {
         }
     }
 
-    // A write at the last tick that is done.
+    // Writes an address at the last tick that is done.
     fn write_now(&mut self, at: u16, v: u8)
         ensures after { bus_seen D.plug self.new ≡ bus_after_write (bus_seen D.plug self.old) at v }
         ensures closed { closed_at (bus_seen D.plug self.new) ≡ closed_at (bus_seen D.plug self.old) }
@@ -227,7 +230,7 @@ impl<D: BusDevice> Bus<D> {
         }
     }
 
-    /// A read of any address at tick `t`: first the devices are closed at `t` + 1.
+    /// Reads any address at tick `t`, after the devices are closed at `t` + 1.
     pub fn read(&mut self, t: Tick, at: u16) -> u8
         requires later { closed_at (bus_seen D.plug self.old) ≤ t.0 + 1 }
         requires room { t.0 < 2 ^ 40 }
@@ -240,7 +243,7 @@ impl<D: BusDevice> Bus<D> {
         self.read_now(at)
     }
 
-    /// A write to any address at tick `t`: first the devices are closed at `t` + 1.
+    /// Writes any address at tick `t`, after the devices are closed at `t` + 1.
     pub fn write(&mut self, t: Tick, at: u16, v: u8)
         requires later { closed_at (bus_seen D.plug self.old) ≤ t.0 + 1 }
         requires room { t.0 < 2 ^ 40 }
@@ -253,7 +256,8 @@ impl<D: BusDevice> Bus<D> {
         self.write_now(at, v);
     }
 
-    /// A tick up to which the lines to the processor surely stay as they are, wherever the bus is closed.
+    /// Returns a tick. Up to it the lines to the processor do not change, however far the bus is
+    /// closed.
     #[inline(always)]
     #[tactic(auto, using(crate::proofs::CalmThere::calm_there))]
     pub fn calm(&self) -> u64
@@ -262,7 +266,8 @@ impl<D: BusDevice> Bus<D> {
         self.calm
     }
 
-    /// Whether a device asks for an interrupt at tick `t`: first the devices are closed at `t` + 1.
+    /// Reports if a device requests an interrupt at tick `t`, after the devices are closed at `t` +
+    /// 1.
     #[inline(always)]
     pub fn irq(&mut self, t: Tick) -> bool
         requires later { closed_at (bus_seen D.plug self.old) ≤ t.0 + 1 }
@@ -275,7 +280,7 @@ impl<D: BusDevice> Bus<D> {
         self.irq_now()
     }
 
-    /// The same at the last tick that is done.
+    /// Reports if a device requests an interrupt at the last tick that is done.
     #[inline(always)]
     pub fn irq_now(&self) -> bool
         ensures { result ≡ bus_irq (bus_seen D.plug self.now) }
@@ -283,7 +288,8 @@ impl<D: BusDevice> Bus<D> {
         self.board.irq()
     }
 
-    /// How often the NMI line has risen by tick `t`: first the devices are closed at `t` + 1.
+    /// Returns the number of rises of the NMI line by tick `t`, after the devices are closed at `t`
+    /// + 1.
     #[inline(always)]
     pub fn nmis(&mut self, t: Tick) -> u64
         requires later { closed_at (bus_seen D.plug self.old) ≤ t.0 + 1 }
@@ -295,7 +301,7 @@ impl<D: BusDevice> Bus<D> {
         self.nmis_now()
     }
 
-    /// The same by the last tick that is done.
+    /// Returns the number of rises of the NMI line by the last tick that is done.
     #[inline(always)]
     pub fn nmis_now(&self) -> u64
         ensures { result ≡ bus_nmis (bus_seen D.plug self.now) }
@@ -303,7 +309,8 @@ impl<D: BusDevice> Bus<D> {
         self.board.nmis()
     }
 
-    /// Whether a break is pending at tick `t`: the script has one with a tick of at most `t` that was not taken.
+    /// Reports if a break is pending at tick `t`: the script has one with a tick of at most `t`
+    /// that was not taken.
     #[inline(always)]
     pub fn break_pending(&self, t: Tick) -> bool
         requires later { closed_at (bus_seen D.plug self.now) ≤ t.0 + 1 }
@@ -313,8 +320,9 @@ impl<D: BusDevice> Bus<D> {
         self.break_tick() <= t.0
     }
 
-    /// Takes every break that is pending at tick `t`: first the devices are closed at `t` + 1, then the disc latch becomes 00 and the user's
-    /// 6522 as it is at power-on. One is pending. It takes no memory.
+    /// Takes every break that is pending at tick `t`. At least one must be. First the devices are
+    /// closed at `t` + 1. Then the disc latch becomes 00, and the user's 6522 is reset to its
+    /// power-on state. It takes no memory.
     pub fn take_break(&mut self, t: Tick)
         requires later { closed_at (bus_seen D.plug self.old) ≤ t.0 + 1 }
         requires room { t.0 < 2 ^ 40 }
@@ -329,7 +337,8 @@ impl<D: BusDevice> Bus<D> {
         self.calm = self.board.calm();
     }
 
-    /// The tick of the script's first break that was not taken. None where none is left.
+    /// Returns the tick of the script's first break that was not taken. Returns `None` if none is
+    /// left.
     pub fn next_break(&self) -> Option<Tick>
         ensures { let next = bus_next_break (bus_seen D.plug self.now) in
             MatchOption result (next ≡ None) (λ t. next ≡ Some t.0) }
@@ -337,8 +346,8 @@ impl<D: BusDevice> Bus<D> {
         self.board.next_break()
     }
 
-    /// The tick of the script's first break that was not taken, or the last number where none is left: before it none is pending, and from it on
-    /// one is.
+    /// Returns the tick of the script's first break that was not taken, or 2^64 - 1 if none is
+    /// left. A break is pending from that tick on, and none before it.
     #[inline(always)]
     pub fn break_tick(&self) -> u64
         ensures value { result ≡ unwrap_or (bus_next_break (bus_seen D.plug self.now)) 18446744073709551615 }
@@ -348,7 +357,7 @@ impl<D: BusDevice> Bus<D> {
         self.board.break_tick()
     }
 
-    /// Closes the bus at `n`, or leaves it closed as far as it is, and steps the devices so far.
+    /// Closes the bus at `n`, unless it is closed further, and steps the devices up to there.
     pub fn finish(&mut self, n: Tick)
         requires { n.0 < 2 ^ 40 }
         ensures closed { bus_seen D.plug self.new ≡ bus_closed (bus_seen D.plug self.old) n.0 }
@@ -360,7 +369,8 @@ impl<D: BusDevice> Bus<D> {
         self.settle();
     }
 
-    /// Steps the devices as far as the bus is closed. They may lag behind, which is seen nowhere but in `disc` and `frames`.
+    /// Steps the devices up to where the bus is closed. Only `disc` and `frames` show that they
+    /// lag.
     #[tactic(auto, using(crate::proofs::CalmThere::behind_there))]
     pub fn settle(&mut self)
         ensures same { bus_seen D.plug self.new ≡ bus_seen D.plug self.old }
@@ -369,23 +379,23 @@ impl<D: BusDevice> Bus<D> {
         self.board.close(self.closed);
     }
 
-    /// The RAM.
+    /// Returns the RAM.
     pub fn ram(&self) -> &[u8]
         ensures { result.now ≡ (bus_seen D.plug self.now).board.ram }
     {
         self.board.ram()
     }
 
-    /// The frames that shots took so far, the oldest first, as far as the devices are stepped. A shot takes the last frame that was finished, or a
-    /// black one, before the device step at its tick.
+    /// Returns the frames that shots took, the oldest first, up to where the devices are stepped. A
+    /// shot takes the last finished frame, or a black one, before the device step at its tick.
     pub fn frames(&self) -> &[Frame]
         ensures { result.now ≡ (bus_stepped D.plug self.now).board.shots }
     {
         self.board.frames()
     }
 
-    /// The writes to the sound chip, in their order: the first 1,048,576 of them, for it takes no later one. The moment of a write is the number
-    /// of the microsecond after it.
+    /// Returns the writes to the sound chip, in their order: the first 1,048,576 of them. Later
+    /// ones are ignored. The moment of a write is the number of the microsecond after it.
     pub fn sound(&self) -> &[SoundWrite]
         ensures value { result.now ≡ (bus_seen D.plug self.now).board.sound }
         ensures order { NeverFallFrom 0 result.now }
@@ -394,7 +404,8 @@ impl<D: BusDevice> Bus<D> {
         self.board.sound()
     }
 
-    /// The disc in drive 0 or 1, as far as the devices are stepped. None where the drive has none, and for any other number.
+    /// Returns the disc in drive 0 or 1, up to where the devices are stepped. Returns `None` if the
+    /// drive has none, and for any other number.
     pub fn disc(&self, drive: u8) -> Option<&Disc>
         ensures { let there = bus_disc drive (bus_stepped D.plug self.now) in
             MatchOption result (there ≡ None) (λ disc. there ≡ Some disc.now) }
@@ -402,7 +413,7 @@ impl<D: BusDevice> Bus<D> {
         self.board.disc(drive)
     }
 
-    /// The plugged devices.
+    /// Returns the plugged devices.
     pub fn plugs(&self) -> &[D]
         ensures { map D.plug result.now ≡ (bus_seen D.plug self.now).plugs }
     {

@@ -1,4 +1,5 @@
-//! The host's bus: its memory, stretched accesses, the devices as the processor reaches them, and the plugged devices on FRED and JIM.
+//! The host's bus: its memory, the devices as the processor reaches them, and the plugged devices
+//! on FRED and JIM.
 #![tactic(auto)]
 
 mod board;

@@ -1,4 +1,4 @@
--- When microseconds begin, of u ticks each.
+-- The ticks where microseconds begin, of u ticks each.
 use Rattle.std.proofs.Common.{◌≡◌, ◌≤◌, ◌<◌, ◌+◌, ◌-◌, ◌*◌, ◌/◌, ◌%◌, ◌∙◌, ap, ℕ, min, inl, inr, arith}
 use Rattle.std.proofs.Math.Nat.{add-mod_right, div-add-mod, mod-lt, mod_self, mul-add-mod_self_left, mul-le-mul_left}
 use Rattle.std.proofs.lemmas.Bool.{cases_lt}
@@ -21,12 +21,12 @@ apart u k step begins then_ later =
           absurd (omega (arith, here, there, back, later))
     ]
 
--- the next thing behind a microsecond at which no event came
+-- the next microsecond or event after a microsecond without an event
 pub next-one : (u k event next : ℕ) → 0 < u → k % u ≡ 0 → next ≡ min (k + u) event → IsOnTime u (k + 1) event next
 next-one u k event next some begins is =
     record { step = k + u; begins = add-mod_right k u ∙ begins; first = omega (arith, some); near = omega arith; least = is }
 
--- and behind any tick
+-- the next microsecond or event after any tick
 pub next-any : (u k event next : ℕ) → 0 < u → next ≡ min (k + u - k % u) event → IsOnTime u (k + 1) event next
 next-any u k event next some is =
     let rest : k % u < u = mod-lt k some in
@@ -40,6 +40,6 @@ next-any u k event next some is =
       least = is;
     }
 
--- how many ticks they have
+-- a microsecond has a tick
 pub some-micro : (c : Clock) → 0 < micro c
 some-micro c = omega (arith, micro-is-two c, some-host c)

@@ -25,7 +25,7 @@ last-behind : (m : ℕ) (sound : List SoundWrite) (w : SoundWrite) → last_mome
 last-behind m [] w = refl
 last-behind m (v ∷ sound) w = last-behind v.moment sound w
 
--- the moment of a write that comes now is at least that of the last one, and is in time itself
+-- the moment of a write now is at least that of the last one, and is in time
 late-enough : (c : Clock) (closed : ℕ) {last : ℕ} → last * micro c < closed + micro c → last ≤ moment_at (micro c) closed
 late-enough Three closed h = omega (arith, h)
 late-enough Four closed h = omega (arith, h)
@@ -34,7 +34,7 @@ near-enough : (c : Clock) (closed : ℕ) → moment_at (micro c) closed * micro 
 near-enough Three closed = omega arith
 near-enough Four closed = omega arith
 
--- one write more, which comes now
+-- one more write, now
 in-time-by : (c : Clock) {closed : ℕ} (w : SoundWrite) {sound : List SoundWrite} (room : Bool) → w.moment ≡ moment_at (micro c) closed → IsInTime (micro c) closed sound →
     IsInTime (micro c) closed (if room then sound ++ w ∷ [] else sound)
 in-time-by c {closed} w {sound} true now h = record {

@@ -1,4 +1,4 @@
--- What the events of a script make of the tables of keys and levels.
+-- The tables of keys and levels, by the events of a script.
 use Rattle.std.proofs.Common.{◌≡◌, ◌∙◌, sym, refl, ap, ℕ, ◌+◌, ◌<◌, ◌≤◌, ◌==◌, zero, suc, Bool, false}
 use Rattle.std.proofs.Common.{cond, List, [], ◌∷◌, ◌++◌, replicate, length, drop, get_or, Option, Some, None, if◌then◌else◌, arith}
 use Rattle.std.proofs.lemmas.Bool.{ne_eqb, eq-eqb, le-leb, lt-leb}
@@ -19,24 +19,24 @@ use Rattle.host_devices.specs.Shots.{shots_at, shot_at}
 use Rattle.host_devices.specs.CodePlayback.{keys_after, level_turned, level_of, IsLeft, HasLeft, IsPlayed}
 use Rattle.host_devices.specs.declared.playback.Playback.{Playback}
 
--- what never falls from a tick does not from an earlier one
+-- ticks that never fall from a tick on do not fall from an earlier one on
 pub not-before : {from t : ℕ} (left : List Event) → NeverFallsFrom from left → t ≤ from → NeverFallsFrom t left
 not-before [] later low = later
 not-before (e ∷ left) later low = (omega (arith, later.0, low), later.1)
 
--- nothing is said before the first event
+-- no event has a value before the first one
 pub none-said : {A : Type 0} (kind : What → Option A) (first k : ℕ) (left : List Event) → NeverFallsFrom first left → k < first → last_said kind k left ≡ None
 none-said kind first k [] later low = refl
 none-said kind first k (e ∷ left) later low =
     rw (none-said kind (tick_of e) k left later.1 (omega (arith, later.0, low)), lt-leb (tick_of e) k (omega (arith, later.0, low)))
 
--- what an event makes of a key, or else what the table says, is what the table says after the event
+-- the state of a key by an event, or otherwise by the table, is that of the table after the event
 pub key-or : (what : What) (keys : Keys) (key : ℕ) → unwrap_or (made_of key what) (keys key) ≡ keys_after what keys key
 key-or (Down k) keys key = grind arith
 key-or (Up k) keys key = grind arith
 key-or _ keys key = refl
 
--- and of a channel
+-- the level of a channel, likewise
 set-or : (levels : List ℕ) {c : ℕ} (level i : ℕ) → c < length levels → unwrap_or (if c == i then Some level else None) (level_of levels i) ≡ level_of (slice_set levels c level) i
 set-or levels {c} level i low = grind (arith, get_or-set_same levels c level 0 low, get_or-set_other levels c i level 0)
 
@@ -49,7 +49,7 @@ or-both (Some last) b d = refl
 or-both None b d = refl
 
 module _ {A : Type 0} (kind : ℕ → What → Option A) (first : A) (script : List Event) where
-  -- one event more is done, which turns a table as it says
+  -- one more event is done, and changes the table
   pub left-more : {place : ℕ} (d : Event) (table : ℕ → A) {on : ℕ → A} {t : ℕ} → place < length script → tick_of (get_or script place d) + 1 ≡ t →
       ((i : ℕ) → unwrap_or (kind i ((get_or script place d).what)) (table i) ≡ on i) → IsLeft kind first script (drop place script) table t →
       IsLeft kind first script (drop (place + 1) script) on t
@@ -59,11 +59,12 @@ module _ {A : Type 0} (kind : ℕ → What → Option A) (first : A) (script : L
       let now : said_by (kind i) k e ≡ kind i e.what = ap (λ (b : Bool). if b then kind i e.what else None) (le-leb (tick_of e) k (omega (arith, at, late))) in
       rw (drop_more script place d low, or-both (last_said (kind i) k rest) (said_by (kind i) k e) (table i), now, turns i) at (left k i late)
 
-  -- of a tick more
+  -- for later ticks
   pub left-later : (left : List Event) (table : ℕ → A) {t u : ℕ} → IsLeft kind first script left table t → t ≤ u → IsLeft kind first script left table u
   left-later left table h low = λ k i late. h k i (omega (arith, late, low))
 
-  -- from the last tick that is done up to the next event each thing is as the table says
+  -- from the last tick that is done up to the next event the table has the state of each key or
+  -- channel
   said-is : (left : List Event) (table : ℕ → A) (t k event : ℕ) → IsLeft kind first script left table t → NeverFallsFrom event left → t ≤ k + 1 → k < event →
       (i : ℕ) → table i ≡ unwrap_or (last_said (kind i) k script) first
   said-is left table t k event h later late early = λ i. sym (rw (none-said (kind i) event k left later early) at (h k i late))
@@ -77,7 +78,7 @@ four-levels : (levels : List ℕ) → length levels ≡ 4 → levels ≡ level_o
 four-levels (a ∷ b ∷ c ∷ d ∷ []) four = refl
 four-levels _ four = absurd (omega (arith, four))
 
--- the keys and the levels are so, then
+-- the keys and the levels are then those of the tables
 pub stay : {p : Playback} {t : ℕ} (k : ℕ) → IsPlayed p t → t ≤ k + 1 → k < p.event → (keys_of p.keys ≡ keys_at k p.script) × (p.levels ≡ levels_at k p.script)
 stay {p} {t} k h late early =
     let left = drop p.place p.script in
@@ -99,11 +100,12 @@ HasNone script from to = (k : ℕ) → from ≤ k → k < to → shots_at k scri
 pub none-between : {p : Playback} {t : ℕ} (next : ℕ) → IsPlayed p t → next ≤ p.event → HasNone p.script t next
 none-between {p} next h low = λ k from to. h.has_left k from ∙ no-shots (drop p.place p.script) h.later (omega (arith, to, low))
 
--- one event more is done, whose frame was taken if it was a shot
+-- one more event is done, and its frame is taken if it is a shot
 shot-by : (shot : Bool) (n : ℕ) (frame : List ℕ) (old : List (List ℕ)) → (if shot then old ++ frame ∷ [] else old) ++ replicate n frame ≡ old ++ replicate (if shot then suc n else n) frame
 shot-by shot n frame old = grind (arith, append_assoc old (frame ∷ []) (replicate n frame))
 
--- What is true of the frames while the events of tick k are done: those taken, with those that are left of it, are all of that tick.
+-- The invariant of the frames during the events of tick k: the frames taken, with those of tick k
+-- that are left, are all of that tick.
 pub record AreTaken (script : List Event) (place k : ℕ) (frame : List ℕ) (so_far all : List (List ℕ)) : Type 0 where
   pub has_left : HasLeft script (drop place script) (k + 1)
   pub taken : shot_at k (drop place script) frame so_far ≡ all
@@ -117,7 +119,7 @@ taken-more {script} {place} {k} d {frame} {old} low at is so =
       taken = rw is (shot-by (is_shot e) (shots_at k (drop (place + 1) script)) frame old ∙ (rw (drop_more script place d low, eq-eqb (tick_of e) k at) at so.taken));
     }
 
--- there is memory for the shots that are left behind it
+-- there is memory for the shots after it
 pub room-more : (script : List Event) {place : ℕ} (d : Event) {old new : ℕ} → place < length script → new + shots (get_or script place d ∷ []) ≡ old →
     shots (drop place script) ≤ old → shots (drop (place + 1) script) ≤ new
 room-more script {place} d low took room =

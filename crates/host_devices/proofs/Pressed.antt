@@ -1,4 +1,4 @@
--- Which breaks of a script are before a place, and which are up to a tick.
+-- The breaks of a script before a place, and those up to a tick.
 use Rattle.std.proofs.Common.{◌≡◌, ◌∙◌, sym, refl, ℕ, ◌+◌, ◌<◌, ◌≤◌, zero, suc, Bool, true, false, cond}
 use Rattle.std.proofs.Common.{nat_lt, zero-add, List, [], ◌∷◌, ◌++◌, All, length, drop, take, get_or, filter, count_by, Some, None, inl, inr, if◌then◌else◌, arith}
 use Rattle.std.proofs.lemmas.Bool.{cases_lt, cases_Bool, le-leb, lt-leb, lt-ltb}
@@ -12,7 +12,7 @@ use Rattle.key_script.specs.Events.{tick_of, NeverFallsFrom, IsEvent, IsScript}
 use Rattle.host_devices.specs.Breaks.{is_break, is_break_by, breaks_until, first_tick, break_number}
 use Rattle.host_devices.specs.CodeBreaks.{breaks_before, break_tick}
 
--- one event more in front
+-- one more event before the others
 count-first : (p : Event → Bool) (e : Event) (events : List Event) → count_by p (e ∷ events) ≡ cond (p e) 1 0 + count_by p events
 count-first p e events =
     sum_by-cons (λ (x : Event). cond (p x) 1 0) e events
@@ -20,7 +20,7 @@ count-first p e events =
 skipped : (p : Event → Bool) {e : Event} (events : List Event) → p e ≡ false → count_by p (e ∷ events) ≡ count_by p events
 skipped p {e} events is = rw (count-first p e events, is) (zero-add (count_by p events))
 
--- where the tick has come, a break is one by it
+-- if the event's tick is at most t, a break is one up to t
 agree : {t : ℕ} (e : Event) → tick_of e ≤ t → is_break_by t e ≡ is_break e
 agree {t} e low = rw (le-leb (tick_of e) t low) (and-true (is_break e))
 
@@ -47,7 +47,7 @@ none-left {t} from (e ∷ events) order low =
           ∙ none-left (tick_of e) events order.1 (omega (arith, tick-later e events is, low))
     ]
 
--- the first break is one by its tick
+-- from the tick of the first break on, there is a break up to that tick
 some-left : {t : ℕ} (events : List Event) → break_tick events ≤ t → t < 18446744073709551615 → 0 < count_by (is_break_by t) events
 some-left [] low room = absurd (omega (arith, low, room))
 some-left {t} (e ∷ events) low room =
@@ -58,7 +58,7 @@ some-left {t} (e ∷ events) low room =
           rw (skipped (is_break_by t) {e = e} events (rw is refl)) (some-left events (omega (arith, tick-later e events is, low)) room)
     ]
 
--- where a break behind a place has come, so have all events before it
+-- if a break after a place is up to t, so are all events before the place
 early : (t from : ℕ) (place : ℕ) (events : List Event) → NeverFallsFrom from events → break_tick (drop place events) ≤ t → t < 18446744073709551615 → from ≤ t
 early t from zero [] order low room = absurd (omega (arith, low, room))
 early t from (suc place) [] order low room = absurd (omega (arith, low, room))
@@ -96,7 +96,7 @@ drop-order (suc place) from (e ∷ events) order = drop-order place (tick_of e) 
 pub none-behind : {t : ℕ} (place : ℕ) (events : List Event) → NeverFallsFrom 0 events → t < break_tick (drop place events) → count_by (is_break_by t) (drop place events) ≡ 0
 none-behind place events order low = none-left 0 (drop place events) (drop-order place 0 events order) low
 
--- the events behind the last that has come
+-- from an event with a tick above t on, no break is up to t
 pub none-come : {t place : ℕ} (events : List Event) (d : Event) → NeverFallsFrom 0 events → place < length events → t < tick_of (get_or events place d) →
     count_by (is_break_by t) (drop place events) ≡ 0
 none-come {t} {place} events d order low late =
@@ -104,7 +104,8 @@ none-come {t} {place} events d order low late =
     let falls = rw (drop_more events place d low) at (drop-order place 0 events order) in
     rw (drop_more events place d low) (none-by t (tick_of e) (e ∷ drop (place + 1) events) (omega arith, falls.1) late)
 
--- below the tick of the first break behind a place no break is pending that does not stand before it
+-- below the tick of the first break from a place on, no break is pending if those before the place
+-- are taken
 pub few-below : (t place : ℕ) (events : List Event) → breaks_until t events ≤ breaks_before place events + count_by (is_break_by t) (drop place events)
 few-below t place events =
     let sum = sum_by-take-drop (λ (x : Event). cond (is_break_by t x) 1 0) events place in
@@ -129,7 +130,7 @@ pending t place events order low room =
     let more : breaks_before place events < breaks_until t events = omega (arith, so, some, sum) in
     grind arith
 
--- the break behind those before a place is the first from there on
+-- the next break after those before a place is the first from there on
 pub number-is : (place : ℕ) (events : List Event) → break_number (breaks_before place events) events ≡ first_tick (filter is_break (drop place events))
 number-is place events =
     let before = filter is_break (take place events) in
@@ -137,7 +138,7 @@ number-is place events =
     let all : filter is_break events ≡ before ++ behind = rw (← filter-append is_break (take place events) (drop place events), take-append-drop place events) refl in
     rw (all, ← length-filter is_break (take place events), drop-append_seam before behind) refl
 
--- the tick of a first break is one, so the last number tells that there is none
+-- the tick of a first break is below 2^64 - 1, so that number means that there is none
 tick-is : (events : List Event) → All IsEvent events → first_tick (filter is_break events) ≡ (if nat_lt (break_tick events) 18446744073709551615 then Some (break_tick events) else None)
 tick-is [] all = refl
 tick-is (e ∷ events) all = elim (cases_Bool (is_break e)) [
@@ -145,12 +146,12 @@ tick-is (e ∷ events) all = elim (cases_Bool (is_break e)) [
   | inr is ↦ rw is (tick-is events (λ k d h. all (suc k) d (omega (arith, h))))
 ]
 
--- the tick of the next, as the code tells it
+-- the tick of the next break, as the code has it
 pub next-is : (place : ℕ) {events : List Event} → IsScript events →
     break_number (breaks_before place events) events ≡ (if nat_lt (break_tick (drop place events)) 18446744073709551615 then Some (break_tick (drop place events)) else None)
 next-is place {events} rules = number-is place events ∙ tick-is (drop place events) (All-drop IsEvent place events rules.each)
 
--- where one is pending, the tick of the first has come
+-- if one is pending, the tick of the first one is at most t
 pub pending-due : (t place : ℕ) (events : List Event) → NeverFallsFrom 0 events → nat_lt (breaks_before place events) (breaks_until t events) ≡ true → break_tick (drop place events) ≤ t
 pending-due t place events order is =
     elim (cases_lt t (break_tick (drop place events))) [

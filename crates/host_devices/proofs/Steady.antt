@@ -1,4 +1,4 @@
--- The devices while the two lines between them stay what they are.
+-- The devices while the two lines between them do not change.
 use Rattle.std.proofs.Common.{◌≡◌, ◌∙◌, sym, ap, refl, ℕ, zero, suc, ◌+◌, ◌-◌, ◌≤◌, List, [], ◌∷◌, ◌++◌, replicate, subst, arith}
 use Rattle.std.proofs.Math.Nat.{zero-add, suc-add}
 use Rattle.std.proofs.lemmas.List.{length-append, length-replicate}
@@ -19,11 +19,11 @@ use Rattle.keyboard.specs.Latch.{screen_size}
 use Rattle.host_devices.specs.Devices.{Devices, system_pins, user_pins, raster_after, microsecond, microseconds, devices_ask}
 use Rattle.host_devices.specs.Apart.{each_by_itself, AreApart, AreCalm}
 
--- what stays for n microseconds stays for fewer
+-- vertical sync that stays for n microseconds stays for fewer
 pub fewer : (n m : ℕ) (s : picture.State) → m ≤ n → StaysInSync n s → StaysInSync m s
 fewer n m s less stays = λ ram size font k low. stays ram size font k (omega (arith, less, low))
 
--- nothing is owed where nothing is to stay
+-- if no microsecond is owed, vertical sync stays for none
 pub nothing_owed : (owed : ℕ) (s : picture.State) → owed ≡ 0 → StaysInSync (owed + 0) s
 nothing_owed owed s none = λ ram size font k low. let first : k ≡ 0 = omega arith in rw first refl
 
@@ -36,7 +36,7 @@ pub one_step : (levels : List ℕ) (a : adc.State) → conversion.steps levels 1
 unfolding conversion.steps
 one_step levels a = refl
 
--- n and m of them are n + m
+-- n microseconds and then m are n + m
 pub pictures_add : (ram : List ℕ) (size : ℕ) (font : Font) (n m : ℕ) (s : picture.State) →
     beam.microseconds ram size font m (beam.microseconds ram size font n s) ≡ beam.microseconds ram size font (n + m) s
 pictures_add ram size font zero m s = rw (zero-add m) refl
@@ -47,7 +47,7 @@ pub all_add : (ram : List ℕ) (font : Font) (keys : Keys) (levels : List ℕ) (
 all_add ram font keys levels zero m d = rw (zero-add m) refl
 all_add ram font keys levels (suc n) m d = rw (suc-add n m) (all_add ram font keys levels n m (microsecond ram font keys levels d))
 
--- the picture that is drawn as far as it is owed has the same sync, and keeps it for what is left
+-- the picture has the same sync after it draws what it owes, and keeps it for the rest of the time
 pub sync_owed : (ram : List ℕ) (size : ℕ) (font : Font) (owed steady : ℕ) (s : picture.State) → StaysInSync (owed + steady) s →
     beam.vsync_of (beam.microseconds ram size font owed s) ≡ beam.vsync_of s
 sync_owed ram size font owed steady s stays = stays ram size font owed (omega arith)
@@ -80,7 +80,7 @@ one_of_each ram font keys levels d = record d {
   user = step user_pins d.user;
 }
 
--- is one microsecond of them
+-- one step of each device is one microsecond of all
 one_apart : (ram : List ℕ) (font : Font) (keys : Keys) (levels : List ℕ) (d : Devices) → StaysInSync 1 d.video → KeepsItsLine 1 d.converter →
     microsecond ram font keys levels d ≡ one_of_each ram font keys levels d
 unfolding microsecond
@@ -92,7 +92,7 @@ unfolding turn.steps
 disc_front zero s = refl
 disc_front (suc n) s = ap (λ (x : disc.State). turn.step x) (disc_front n s)
 
--- and n microseconds are n steps of each
+-- n microseconds are n steps of each
 pub apart : SyncStaysOn → AreApart
 unfolding conversion.steps turn.steps steps
 apart on ram font keys levels zero d stays keeps = refl
@@ -115,7 +115,7 @@ gone_apart law ram font keys levels {n} {m} d less sync line =
     let all : m + (n - m) ≡ n = omega (arith, less) in
     rw (← law ram font keys levels m d sync line, all_add ram font keys levels m (n - m) d, all) refl
 
--- the lines to the processor stay while those between the devices do, and no chip changes its own
+-- the lines to the processor stay while those between the devices stay and no chip changes its own
 pub are_calm : AreApart → {keys : Keys} {n : ℕ} {d : Devices} → StaysInSync n d.video → KeepsItsLine n d.converter →
     ((k : ℕ) → k ≤ n → asks (steps (system_pins (beam.vsync_of d.video) (cb1 d.converter) keys d) k d.system) ≡ asks d.system) →
     ((k : ℕ) → k ≤ n → asks (steps user_pins k d.user) ≡ asks d.user) →

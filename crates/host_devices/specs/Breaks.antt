@@ -1,4 +1,4 @@
--- The breaks of a script: when the BREAK key is pressed. (Acorn, BBC Microcomputer Advanced User Guide.)
+-- The breaks of a script: presses of the BREAK key. (Acorn, BBC Microcomputer Advanced User Guide.)
 use Rattle.std.specs.Prelude.{ℕ, ◌&&◌, nat_le, Bool, true, false, List, [], ◌∷◌, Option, Some, None, count_by, filter, drop}
 use Rattle.key_script.specs.declared.Event.{Event}
 use Rattle.key_script.specs.declared.What.{What}
@@ -19,7 +19,7 @@ is_break e = presses_break e.what
 abbrev pub is_break_by : ℕ → Event → Bool
 is_break_by t e = is_break e && nat_le (tick_of e) t
 
--- how many breaks have a tick of at most t
+-- the number of breaks with a tick of at most t
 abbrev pub breaks_until : ℕ → List Event → ℕ
 breaks_until t script = count_by (is_break_by t) script
 

@@ -1,4 +1,4 @@
--- What the fields of the devices keep.
+-- The invariant of the devices' fields.
 use Rattle.std.specs.Prelude.{◌≡◌, ◌<◌, ◌+◌, ◌^◌}
 use Rattle.raster.specs.Reads.{StaysInSync, ReadsFrom}
 use Rattle.adc7002.specs.Calm.{KeepsItsLine}
@@ -6,7 +6,7 @@ use Rattle.keyboard.specs.Latch.{screen_size}
 use Rattle.host_devices.specs.CodePicture.{Behind}
 use Rattle.host_devices.specs.declared.devices.Devices.TheInside.{Inside}
 
--- what contracts see of the fields
+-- the fields as contracts see them
 abbrev pub behind : Inside → Behind
 behind d = record {
   devices = record { video = d.video; disc = d.disc; latch = d.latch.bits; converter = d.converter; system = d.system; user = d.user };

@@ -1,5 +1,5 @@
--- What the board's code keeps beside what contracts see: tables of keys and levels with a place in the script, memory for the shots that are left, and
--- the ticks at which something comes next.
+-- The playback as the board's code stores it: tables of keys and levels with a place in the script,
+-- memory for further shots, and the next ticks.
 use Rattle.std.specs.Prelude.{ℕ, ◌≡◌, ◌≤◌, ◌<◌, ◌+◌, ◌%◌, min, true, false, List, Option, length, drop, slice_set, slice_index_or, unwrap_or}
 use Rattle.keyboard.specs.Keys.{Keys, keys_of, with_key}
 use Rattle.key_script.specs.declared.Event.{Event}
@@ -31,17 +31,17 @@ level_turned Break levels = levels
 abbrev pub level_of : List ℕ → ℕ → ℕ
 level_of levels channel = slice_index_or levels channel 0
 
--- From tick t - 1 on the state of each thing, a key or a channel, is what the rest of the script makes of it, or, where that has no event for it, what
--- the table says.
+-- From tick t - 1 on, the state of a key or a channel follows from the rest of the script. If the
+-- rest has no event for it, the table has its state.
 abbrev pub IsLeft : {A : Type 0} → (ℕ → What → Option A) → A → List Event → List Event → (ℕ → A) → ℕ → Type 0
 IsLeft kind first script left table t =
     (k i : ℕ) → t ≤ k + 1 → unwrap_or (last_said (kind i) k script) first ≡ unwrap_or (last_said (kind i) k left) (table i)
 
--- From tick t on the shots at a tick are those of the rest of the script.
+-- From tick t on, the shots at a tick are those of the rest of the script.
 abbrev pub HasLeft : List Event → List Event → ℕ → Type 0
 HasLeft script left t = (k : ℕ) → t ≤ k → shots_at k script ≡ shots_at k left
 
--- All events below tick t are done, and the next one is not before the tick that is kept for it.
+-- All events below tick t are done, and none of the others has a tick below `event`.
 pub record IsPlayed (p : Playback) (t : ℕ) : Type 0 where
   pub within : p.place ≤ length p.script
   pub room : shots (drop p.place p.script) ≤ p.shots.room
@@ -52,7 +52,8 @@ pub record IsPlayed (p : Playback) (t : ℕ) : Type 0 where
   pub later : NeverFallsFrom p.event (drop p.place p.script)
   pub early : t ≤ p.event
 
--- The next tick at which something comes, a microsecond, of u ticks each, or an event, is known.
+-- `next` is the tick of the next microsecond, of u ticks each, or of the next event, if that is
+-- earlier.
 pub record IsOnTime (u closed event next : ℕ) : Type 0 where
   -- the tick of the next microsecond
   pub step : ℕ

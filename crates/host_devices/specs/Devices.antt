@@ -1,6 +1,7 @@
--- The devices of the host that go by microseconds, and how they are wired: the picture, the disc controller, the converter, and the two 6522s,
--- with the keyboard and the addressable latch at the system's. (Acorn, BBC Microcomputer Advanced User Guide, The system VIA, The user/printer VIA, and
--- analogue to digital converter.)
+-- The devices of the host that advance by microseconds, and their wiring: the picture, the disc
+-- controller, the converter, and the two 6522s. The keyboard and the addressable latch are at the
+-- system's 6522. (Acorn, BBC Microcomputer Advanced User Guide, The system VIA, The user/printer
+-- VIA, and analogue to digital converter.)
 use Rattle.std.specs.Prelude.{ℕ, zero, suc, ◌==◌, ◌||◌, ◌&&◌, ◌%◌, nat_le, Bool, true, false, List, [], ◌∷◌, replicate, Option, if◌then◌else◌}
 use Rattle.saa5050.specs.Shapes.{Font}
 use Rattle.crtc6845.specs.Registers as crtc
@@ -29,7 +30,7 @@ use Rattle.host_devices.specs.declared.map.Device.{Device}
 use Rattle.host_devices.specs.declared.map.Device.TheVariants.{Crtc, Acia, VideoUla, SystemVia, UserVia, DiscLatch, DiscController, Adc}
 
 pub record Devices : Type 0 where
-  -- the 6845, the video ULA and the teletext chip, and what the beam draws
+  -- the 6845, the video ULA and the teletext chip, and the frames
   pub video : picture.State
   pub disc : disc.State
   -- the addressable latch's bits, bit 0 first
@@ -38,7 +39,7 @@ pub record Devices : Type 0 where
   pub system : via.State
   pub user : via.State
 
--- which keys are down at tick t, by a script
+-- the keys that are down at tick t, by a script
 abbrev pub keys_at : ℕ → List Event → Keys
 keys_at t script = λ key. is_down key t script
 
@@ -46,7 +47,8 @@ keys_at t script = λ key. is_down key t script
 abbrev pub levels_at : ℕ → List Event → List ℕ
 levels_at t script = level_at 0 t script ∷ level_at 1 t script ∷ level_at 2 t script ∷ level_at 3 t script ∷ []
 
--- The system's: bit 7 of port A and CA2 come from the keyboard, CA1 is vertical sync, and CB1 the converter's line. All other pins are 1.
+-- The system's pins: bit 7 of port A and CA2 come from the keyboard, CA1 is vertical sync, and CB1
+-- the converter's line. All other pins are 1.
 abbrev pub system_pins : Bool → Bool → Keys → Devices → Pins
 system_pins vsync cb1 keys d = record {
   a = if keyboard.port_a_bit_7 d.latch (out_a d.system) keys then 0xFF else 0x7F;
@@ -57,7 +59,7 @@ system_pins vsync cb1 keys d = record {
   cb2 = true;
 }
 
--- the user's: all pins are 1
+-- the user's pins are all 1
 abbrev pub user_pins : Pins
 user_pins = record { a = 0xFF; b = 0xFF; ca1 = true; ca2 = true; cb1 = true; cb2 = true }
 
@@ -65,9 +67,10 @@ user_pins = record { a = 0xFF; b = 0xFF; ca1 = true; ca2 = true; cb1 = true; cb2
 abbrev pub raster_after : List ℕ → Font → Devices → picture.State
 raster_after ram font d = beam.microsecond ram (keyboard.screen_size d.latch) font d.video
 
--- One microsecond of all devices, in order: the picture, from the RAM and by the screen size of the latch; the disc controller; the
--- keyboard's level; the converter, with the levels of its channels; the system's 6522, which sees vertical sync as the picture left it, and the
--- converter's line as that did; the user's.
+-- One microsecond of all devices, in order: the picture, from the RAM and by the screen size of the
+-- latch; the disc controller; the keyboard's level; the converter, with the levels of its channels;
+-- the system's 6522, which sees the new vertical sync and the new level of the converter's line;
+-- the user's.
 unfoldable pub microsecond : List ℕ → Font → Keys → List ℕ → Devices → Devices
 microsecond ram font keys levels d = record d {
   video = raster_after ram font d;
@@ -77,18 +80,19 @@ microsecond ram font keys levels d = record d {
   user = step user_pins d.user;
 }
 
--- n microseconds, one after the other, while the keys and the levels stay what they are
+-- n microseconds, one after another, with unchanged keys and levels
 abbrev pub microseconds : List ℕ → Font → Keys → List ℕ → ℕ → Devices → Devices
 microseconds ram font keys levels zero d = d
 microseconds ram font keys levels (suc n) d = microseconds ram font keys levels n (microsecond ram font keys levels d)
 
--- the last frame that was finished, or a black one
+-- the last finished frame, or a black one
 unfoldable pub last_frame : Devices → List ℕ
 last_frame d = d.video.finished
 
--- The registers in SHEILA, by their addresses there. What a read answers, with these keys. Of the 6845, an even address selects a register, and an
--- odd one is its value, as far as it can be read. Both 6522s have sixteen registers, the disc controller and the converter four each. FE is what
--- the map does not give: of addresses that are only written, and of absent devices. (Acorn, BBC Microcomputer Advanced User Guide, Sheila.)
+-- The registers in SHEILA, by their addresses: the answer of a read, by the keys. At the 6845 an
+-- even address selects a register, and an odd one is its value, if it can be read. Both 6522s have
+-- sixteen registers, the disc controller and the converter four each. Addresses that are only
+-- written, and absent devices, read FE. (Acorn, BBC Microcomputer Advanced User Guide, Sheila.)
 unfoldable pub register_answer : Device → ℕ → Keys → Devices → ℕ
 register_answer Crtc at keys d = if at % 2 == 0 then 0xFE else crtc.answer_of d.video.crtc
 register_answer Acia at keys d = if at % 2 == 0 then 0x02 else 0x00
@@ -98,24 +102,26 @@ register_answer DiscController at keys d = controller.answer_of (at % 4) d.disc
 register_answer Adc at keys d = converter.answer_of (at % 4) d.converter
 register_answer _ at keys d = 0xFE
 
--- a register of a 6522 that no pins matter to, and that a read leaves as it is: registers 11 to 14
+-- Registers 11 to 14 of a 6522: they do not depend on pins, and a read does not change them.
 abbrev pub holds_still : Device → ℕ → Bool
 holds_still SystemVia at = nat_le 11 (at % 16) && nat_le (at % 16) 14
 holds_still UserVia at = nat_le 11 (at % 16) && nat_le (at % 16) 14
 holds_still _ at = false
 
--- what a read leaves
+-- the devices after a read
 unfoldable pub register_read : Device → ℕ → Devices → Devices
 register_read SystemVia at d = record d { system = read_leaves (at % 16) d.system }
 register_read UserVia at d = record d { user = read_leaves (at % 16) d.user }
 register_read DiscController at d = record d { disc = controller.read_leaves (at % 4) d.disc }
 register_read _ at d = d
 
--- After a write to register 0 or 2 of the system's 6522 the pins of port B go to the addressable latch.
+-- After a write to register 0 or 2 of the system's 6522 the pins of port B go to the addressable
+-- latch.
 unfoldable pub after_latch : ℕ → Devices → Devices
 after_latch reg d = if reg == 0 || reg == 2 then record d { latch = keyboard.latch_after (out_b d.system) d.latch } else d
 
--- What a write leaves. An even address of the video ULA is its control byte, and an odd one its palette. Stubs and absent devices ignore it.
+-- The devices after a write. An even address of the video ULA is its control byte, and an odd one
+-- its palette. Stubs and absent devices ignore writes.
 unfoldable pub register_written : Device → ℕ → ℕ → Devices → Devices
 register_written Crtc at v d =
     record d { video = with_crtc d.video (if at % 2 == 0 then crtc.select_leaves v d.video.crtc else crtc.set_leaves v d.video.crtc) }
@@ -128,19 +134,20 @@ register_written DiscController at v d = record d { disc = controller.write_leav
 register_written Adc at v d = record d { converter = converter.write_leaves (at % 4) v d.converter }
 register_written _ at v d = d
 
--- The write line of the sound chip is bit 0 of the latch, active low, and its data are the pins of port A: where the line falls, the chip takes
--- them.
+-- The sound chip's write line is bit 0 of the latch, active low, and its data are the pins of port
+-- A. The chip takes the data when the line falls.
 unfoldable pub sound_line : Devices → Bool
 sound_line d = keyboard.latch_bit 0 d.latch
 
 unfoldable pub sound_data : Devices → ℕ
 sound_data d = out_a d.system
 
--- BREAK is on the reset lines of the disc latch, which is then 00, and of the user's 6522. (Acorn, BBC Microcomputer Advanced User Guide.)
+-- BREAK resets the disc latch, which becomes 00, and the user's 6522. (Acorn, BBC Microcomputer
+-- Advanced User Guide.)
 unfoldable pub devices_reset : Devices → Devices
 devices_reset d = record d { disc = latch_leaves 0 d.disc; user = via.power_on }
 
--- one of both 6522s asks for an interrupt
+-- one of both 6522s requests an interrupt
 unfoldable pub devices_ask : Devices → Bool
 devices_ask d = asks d.system || asks d.user
 

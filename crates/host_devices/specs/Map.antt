@@ -1,10 +1,11 @@
--- The memory map of the host. (Acorn, BBC Microcomputer Advanced User Guide, memory map and Sheila.)
+-- The memory map of the host. (Acorn, BBC Microcomputer Advanced User Guide, memory map and
+-- Sheila.)
 use Rattle.std.specs.Prelude.{ℕ, ◌%◌, ◌==◌, nat_le, Bool, true, false, List, [], ◌∷◌, if◌then◌else◌}
 use Rattle.host_devices.specs.declared.map.Device.{Device}
 use Rattle.host_devices.specs.declared.map.Device.TheVariants.{Crtc, Acia, SerialUla, VideoUla, RomLatch, SystemVia, UserVia, DiscLatch, DiscController, Absent, Adc, Tube}
 
--- What answers at an address: the RAM, the ROM of the slot in the latch, the operating system's ROM, on FRED and JIM the plugged devices, and a
--- device in SHEILA.
+-- The memory or device at an address: the RAM, the ROM of the latch's slot, the operating system's
+-- ROM, the plugged devices in FRED and JIM, or a device in SHEILA.
 pub data Place : Type 0 where
   Ram : Place
   PagedRom : Place
@@ -12,11 +13,11 @@ pub data Place : Type 0 where
   Plugs : Place
   Sheila : Device → Place
 
--- Addresses up to `last`, from where the area before it ends.
+-- The addresses after the area before, up to `last`.
 pub record Area : Type 0 where
   pub last : ℕ
   pub place : Place
-  -- whether an access there waits for the 1 MHz clock
+  -- an access waits for the 1 MHz clock
   pub stretched : Bool
 
 abbrev pub fast : ℕ → Place → Area
@@ -59,6 +60,7 @@ stretched_in (a ∷ areas) at = if nat_le at a.last then a.stretched else stretc
 abbrev pub place_of : ℕ → Place
 place_of at = place_in memory_map at
 
--- How many cycles an access takes that begins at this cycle: one, or, where it waits, two from an even cycle on and three from an odd one.
+-- The number of 2 MHz cycles of an access that begins at `cycle`: one. If the access waits, two
+-- from an even cycle on, and three from an odd one.
 abbrev pub stretch : ℕ → ℕ → ℕ
 stretch at cycle = if stretched_in memory_map at then (if cycle % 2 == 0 then 2 else 3) else 1

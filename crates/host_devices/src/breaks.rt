@@ -1,4 +1,4 @@
-//! Which of a script's breaks comes next.
+//! The next of a script's breaks.
 ghost use Rattle.std.specs.Prelude.{◌≡◌, ◌≤◌, ◌<◌, ◌^◌, None, Some, MatchOption, length, drop};
 ghost use Rattle.key_script.specs.Events.{IsScript};
 ghost use Rattle.host_devices.specs.Breaks.{is_break, breaks_until, break_number};
@@ -7,8 +7,8 @@ ghost use Rattle.host_devices.specs.CodeBreaks.{IsNextBreak, breaks_before, brea
 use beeb_bits::Tick;
 use key_script::{Event, What};
 
-/// The place in a script before which all breaks were taken, and the tick of the first break from there on, or the last number if there is
-/// none.
+/// A place in a script, and the tick of the first break from there on, or 2^64 - 1 if there is
+/// none. All breaks before the place are taken.
 #[derive(Clone, Copy)]
 pub struct Breaks {
     pub place: usize,
@@ -21,7 +21,7 @@ fn is_break(event: Event) -> bool
     event.what == What::Break
 }
 
-// The tick of the first break from this place on.
+// Returns the tick of the first break from `from` on.
 fn break_tick(events: &[Event], from: usize) -> u64
     requires { from ≤ length events.now }
     ensures { result ≡ break_tick (drop from events.now) }
@@ -36,7 +36,7 @@ fn break_tick(events: &[Event], from: usize) -> u64
     u64::MAX
 }
 
-// The place behind the events up to tick `t`, which is no earlier than this one.
+// Returns the place after the events up to tick `t`, which is at least `from`.
 fn place_behind(events: &[Event], from: usize, t: u64) -> usize
     requires rules { IsScript events.now }
     requires within { from ≤ length events.now }
@@ -53,7 +53,7 @@ fn place_behind(events: &[Event], from: usize, t: u64) -> usize
 }
 
 impl Breaks {
-    /// None of this script's breaks was taken.
+    /// Returns the state with none of the script's breaks taken.
     pub fn new(events: &[Event]) -> Breaks
         requires { IsScript events.now }
         ensures none { result.place ≡ 0 }
@@ -65,7 +65,7 @@ impl Breaks {
         }
     }
 
-    /// The tick of the next one, if there is one.
+    /// Returns the tick of the next break. Returns `None` if there is none.
     pub fn next_tick(&self, events: &[Event]) -> Option<Tick>
         requires { IsNextBreak self.now events.now }
         ensures { let next = break_number (breaks_before self.now.place events.now) events.now in
@@ -78,7 +78,7 @@ impl Breaks {
         }
     }
 
-    /// Takes all breaks up to tick `t`, of which there is one.
+    /// Takes all breaks up to tick `t`. There must be at least one.
     pub fn take(&mut self, events: &[Event], t: u64)
         requires next { IsNextBreak self.old events.now }
         requires due { self.old.next ≤ t }

@@ -1,4 +1,4 @@
-//! The devices that go by microseconds, and how they are wired.
+//! The devices that advance by microseconds, and their wiring.
 ghost use Rattle.std.specs.Prelude.{◌≡◌, ◌≤◌, ◌<◌, ◌+◌, ◌%◌, ◌^◌, ◌==◌, ℕ, Bool, true, false, List, None, Some, MatchOption, IfOk, IfSome, length, slice_set, if◌then◌else◌};
 ghost use Rattle.saa5050.specs.Shapes.{Font};
 ghost use Rattle.adc7002.specs.Step.{step};
@@ -36,21 +36,23 @@ const USER_PINS: Pins = Pins {
     cb2: true,
 };
 
-/// The picture, the disc controller, the converter, the two 6522s, and the addressable latch behind the system's. The picture is drawn later
-/// than the others are stepped: where a line may change, or a register or a byte of the RAM that it reads.
+/// The picture, the disc controller, the converter, the two 6522s, and the addressable latch at the
+/// system's. The picture lags the others. It catches up before a line may change, and before a
+/// change of a register or a byte of the RAM that it reads.
 #[derive(Drop)]
 pub struct Devices {
     video: Raster,
     disc: Fdc,
     latch: Latch,
-    // The size of the screen by the latch, which is asked for in each microsecond.
+    // The size of the screen by the latch, which each microsecond uses.
     size: u16,
     converter: Adc,
     system: Via,
     user: Via,
-    // So many microseconds the picture is behind the other devices.
+    // The microseconds that the other devices have done and the picture has not.
     owed: u64,
-    // For so many more vertical sync and the converter's line surely stay as they are.
+    // The number of further microseconds during which vertical sync and the converter's line do not
+    // change.
     steady: u64,
     // The picture reads no byte of the RAM below this address.
     lowest: u16,
@@ -68,7 +70,7 @@ impl Model for Devices {
 }
 
 impl Devices {
-    /// The devices at power-on, with the discs of both drives.
+    /// Makes the devices at power-on, with the discs of both drives.
     #[tactic(auto, unfolding(crate::specs::Devices::first_devices))]
     pub fn make(alloc: Global, d0: Option<Disc>, d1: Option<Disc>) -> Result<Devices, NoMemory>
         ensures { IfOk result (λ d. d ≡ record { devices = first_devices d0 d1; owed = 0 }) }
@@ -89,7 +91,8 @@ impl Devices {
         })
     }
 
-    // The pins of the system's 6522, where the converter's line is at this level. CA1 is vertical sync.
+    // Returns the pins of the system's 6522, if the converter's line has the level `cb1`. CA1 is
+    // vertical sync.
     #[inline(always)]
     fn system_pins(&self, cb1: bool, keys: &Keys) -> Pins
         ensures { let d = (self.now).devices in
@@ -122,7 +125,7 @@ impl Devices {
         self.owed = 0;
     }
 
-    /// Draws what the picture owes where it may read the byte at this address, which is then written.
+    /// Draws what the picture owes, if it may read the byte at `at`. The byte may then be written.
     #[inline(always)]
     pub fn make_way(&mut self, ram: &[u8], letters: &Letters, at: u16)
         requires { length ram.now ≡ 32768 }
@@ -135,7 +138,7 @@ impl Devices {
         }
     }
 
-    // One microsecond of a picture that owes nothing, which may change vertical sync.
+    // Does one microsecond of a picture that owes nothing. Vertical sync may change.
     #[inline(always)]
     #[tactic(auto, using(crate::proofs::Steady::nothing_owed, crate::proofs::Steady::no_step))]
     fn show(&mut self, ram: &[u8], letters: &Letters)
@@ -149,7 +152,7 @@ impl Devices {
         self.video.advance(ram, self.size, letters, 1);
     }
 
-    // One microsecond of the converter, which may change its line.
+    // Does one microsecond of the converter. Its line may change.
     #[inline(always)]
     #[tactic(auto, using(crate::proofs::Steady::one_step, crate::proofs::Steady::nothing_owed, crate::proofs::Steady::no_step))]
     fn convert(&mut self, levels: [u16; 4])
@@ -161,7 +164,8 @@ impl Devices {
         self.converter.advance(levels, 1);
     }
 
-    // Finds out how long vertical sync and the converter's line stay as they are, and what the picture reads.
+    // Computes for how long vertical sync and the converter's line do not change, and the lowest
+    // address that the picture reads.
     fn look_ahead(&mut self)
         requires drawn { (self.old).owed ≡ 0 }
         ensures { self.new ≡ self.old }
@@ -170,7 +174,7 @@ impl Devices {
         self.lowest = self.video.lowest(self.size);
     }
 
-    // Any microsecond, also one in which a line between two devices changes.
+    // Does a microsecond. A line between two devices may change.
     #[inline(never)]
     #[tactic(auto, unfolding(crate::specs::Devices::microsecond))]
     fn step(&mut self, ram: &[u8], letters: &Letters, keys: &Keys, levels: [u16; 4])
@@ -189,8 +193,9 @@ impl Devices {
         self.look_ahead();
     }
 
-    // Does some of `n` microseconds, and answers how many are left: those in which the lines between the devices stay as they are, of each
-    // device by itself, where the picture owes them, or one by one where a line may change.
+    // Does some of `n` microseconds, and returns the number that is left. While the lines between
+    // the devices do not change, each device does many by itself, and the picture owes them.
+    // Otherwise one is done.
     fn some_microseconds(
         &mut self,
         ram: &[u8],
@@ -223,7 +228,7 @@ impl Devices {
         n - steps
     }
 
-    /// Does `n` microseconds, over this RAM and with these letters, keys and these levels of the converter's channels.
+    /// Does `n` microseconds, with unchanged RAM, keys and levels of the converter's channels.
     pub fn advance(&mut self, ram: &[u8], letters: &Letters, keys: &Keys, levels: [u16; 4], n: u64)
         requires { length ram.now ≡ 32768 }
         ensures { let see = drawn ram.now letters.now.font in
@@ -235,7 +240,8 @@ impl Devices {
         }
     }
 
-    /// A number of microseconds for which, with these keys, the lines to the processor surely stay as they are.
+    /// Returns a number of microseconds during which the lines to the processor do not change if
+    /// the keys do not.
     pub fn calm(&self, keys: &Keys) -> u64
         ensures { (ram : List ℕ) (font : Font) → AreCalm (keys_of keys.now) result (drawn ram font self.now) }
     {
@@ -246,7 +252,7 @@ impl Devices {
         chips.min(self.system.calm(pins)).min(self.steady)
     }
 
-    /// An address of the RAM below which the picture reads nothing, until a register is written.
+    /// Returns a RAM address. The picture reads no byte below it, until a register is written.
     #[inline(always)]
     pub fn lowest(&self) -> u16
         ensures { ReadsFrom result (screen_size (self.now).devices.latch) (self.now).devices.video }
@@ -254,7 +260,7 @@ impl Devices {
         self.lowest
     }
 
-    /// The last frame that was finished, or a black one, as far as all is drawn.
+    /// Returns the last finished frame, or a black one, up to where the picture is drawn.
     #[tactic(auto, unfolding(crate::specs::Devices::last_frame))]
     pub fn last_frame(&self) -> &Frame
         ensures { result.now ≡ last_frame (self.now).devices }
@@ -262,7 +268,7 @@ impl Devices {
         self.video.frame()
     }
 
-    /// A read of a register in SHEILA.
+    /// Reads a register in SHEILA.
     #[tactic(auto, unfolding(crate::specs::Devices::register_answer, crate::specs::Devices::register_read), using(crate::proofs::Steady::nothing_owed))]
     pub fn read(
         &mut self,
@@ -300,7 +306,8 @@ impl Devices {
         }
     }
 
-    /// The byte of a register of a 6522 that no pins matter to, and that a read leaves as it is. None of any other.
+    /// Returns the byte of a 6522's register that does not depend on pins and that a read does not
+    /// change. Returns `None` for any other.
     #[inline(always)]
     #[tactic(auto, unfolding(crate::specs::Devices::register_answer, crate::specs::Devices::register_read))]
     pub fn held(&self, device: Device, at: u16) -> Option<u8>
@@ -323,7 +330,7 @@ impl Devices {
         }
     }
 
-    /// A write to a register in SHEILA.
+    /// Writes a register in SHEILA.
     #[tactic(auto, unfolding(crate::specs::Devices::register_written), using(crate::proofs::Steady::nothing_owed))]
     pub fn write(&mut self, ram: &[u8], letters: &Letters, device: Device, at: u16, v: u8)
         requires { length ram.now ≡ 32768 }
@@ -366,7 +373,8 @@ impl Devices {
         }
     }
 
-    // A write to register 0 or 2 puts the pins of port B into the addressable latch, which may change the size of the screen.
+    // Puts the pins of port B into the addressable latch, if register 0 or 2 was written. The size
+    // of the screen may change.
     #[tactic(auto, unfolding(crate::specs::Devices::after_latch))]
     fn latch_port_b(&mut self, ram: &[u8], letters: &Letters, reg: u8)
         requires { length ram.now ≡ 32768 }
@@ -381,7 +389,8 @@ impl Devices {
         }
     }
 
-    /// The write line of the sound chip, which is active where it is low: bit 0 of the addressable latch.
+    /// Returns the level of the sound chip's write line, bit 0 of the addressable latch. It is
+    /// active low.
     #[tactic(auto, unfolding(crate::specs::Devices::sound_line))]
     pub fn sound_line(&self) -> bool
         ensures { result ≡ sound_line (self.now).devices }
@@ -389,7 +398,7 @@ impl Devices {
         self.latch.bits[0]
     }
 
-    /// The byte at the sound chip: the pins of port A of the system's 6522.
+    /// Returns the data of the sound chip: the pins of port A of the system's 6522.
     #[tactic(auto, unfolding(crate::specs::Devices::sound_data))]
     pub fn sound_data(&self) -> u8
         ensures { result ≡ sound_data (self.now).devices }
@@ -397,7 +406,7 @@ impl Devices {
         self.system.out_a()
     }
 
-    /// BREAK: 00 is written to the disc latch, and the user's 6522 is as at power-on.
+    /// Does BREAK: writes 00 to the disc latch, and resets the user's 6522 to its power-on state.
     #[tactic(auto, unfolding(crate::specs::Devices::devices_reset))]
     pub fn reset(&mut self)
         ensures { self.new ≡ record self.old { devices = devices_reset (self.old).devices } }
@@ -406,7 +415,7 @@ impl Devices {
         self.user = Via::new();
     }
 
-    /// The disc in a drive.
+    /// Returns the disc in a drive. Returns `None` if there is none.
     pub fn disc(&self, drive: u8) -> Option<&Disc>
         ensures { let there = disc_of drive (self.now).devices.disc in
             MatchOption result (there ≡ None) (λ disc. there ≡ Some disc.now) }
@@ -414,7 +423,7 @@ impl Devices {
         self.disc.disc(drive)
     }
 
-    /// How often the disc controller's "DRQ or INTRQ" has risen.
+    /// Returns the number of rises of the disc controller's "DRQ or INTRQ".
     #[inline(always)]
     pub fn nmis(&self) -> u64
         ensures { result ≡ (self.now).devices.disc.nmis }
@@ -422,7 +431,7 @@ impl Devices {
         self.disc.nmis()
     }
 
-    /// Whether one of both 6522s asks for an interrupt.
+    /// Reports if one of both 6522s requests an interrupt.
     #[inline(always)]
     #[tactic(auto, unfolding(crate::specs::Devices::devices_ask))]
     pub fn ask(&self) -> bool

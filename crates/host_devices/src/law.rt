@@ -1,9 +1,10 @@
-//! A law over whole runs.
+//! A law over runs of microseconds.
 ghost use Rattle.host_devices.specs.Apart.{AreApart};
 
 use raster::sync_stays_on;
 
-/// While vertical sync and the converter's line stay what they are, each device goes on by itself.
+/// States that each device advances by itself while vertical sync and the converter's line do not
+/// change.
 pub fn devices_go_on_apart()
     ensures { AreApart }
 {

@@ -1,4 +1,5 @@
-//! The host's devices as they go by microseconds and are wired, what answers in SHEILA, and what a key script does to them.
+//! The host's devices that advance by microseconds, their wiring, the memory map with SHEILA, and
+//! the playback of a key script.
 #![tactic(auto)]
 
 mod breaks;

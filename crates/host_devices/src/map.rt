@@ -2,7 +2,7 @@
 ghost use Rattle.std.specs.Prelude.{◌≡◌, ◌≤◌};
 ghost use Rattle.host_devices.specs.Map.{Sheila, place_of, stretch, memory_map, stretched_in};
 
-/// What answers in SHEILA. (Acorn, BBC Microcomputer Advanced User Guide, Sheila.)
+/// The devices in SHEILA. (Acorn, BBC Microcomputer Advanced User Guide, Sheila.)
 #[derive(Clone, Copy, Debug, PartialEq, Eq)]
 pub enum Device {
     /// The 6845.
@@ -31,7 +31,7 @@ pub enum Device {
     Tube,
 }
 
-// What answers from FE00 to FE7F.
+// Returns the device at an address from FE00 to FE7F.
 fn device_in_lower_half(at: u16) -> Device
     requires low { 0xfe00 ≤ at }
     requires high { at ≤ 0xfe7f }
@@ -54,7 +54,7 @@ fn device_in_lower_half(at: u16) -> Device
     }
 }
 
-/// What answers in SHEILA, from FE00 to FEFF.
+/// Returns the device at an address in SHEILA, from FE00 to FEFF.
 pub fn device_at(at: u16) -> Device
     requires low { 0xfe00 ≤ at }
     requires high { at ≤ 0xfeff }
@@ -75,7 +75,7 @@ pub fn device_at(at: u16) -> Device
     }
 }
 
-/// Whether an access waits for the 1 MHz clock.
+/// Reports if an access waits for the 1 MHz clock.
 fn is_stretched(at: u16) -> bool
     ensures { result ≡ stretched_in memory_map at }
 {
@@ -84,7 +84,7 @@ fn is_stretched(at: u16) -> bool
         || (0xfec0 <= at && at <= 0xfedf)
 }
 
-/// How many cycles of 2 MHz an access takes that begins at this cycle, by the number of the cycle from power-on.
+/// Returns the number of 2 MHz cycles of an access that begins in `cycle`, counted from power-on.
 pub fn stretch(at: u16, cycle: u64) -> u8
     ensures value { result ≡ stretch at cycle }
     ensures some { 1 ≤ result }

@@ -1,4 +1,4 @@
-//! A key script as it is played.
+//! The playback of a key script.
 ghost use Rattle.std.specs.Prelude.{◌≡◌, ◌≤◌, ◌<◌, ◌+◌, ◌++◌, ◌^◌, ℕ, false, [], ◌∷◌, length, drop, All, IfOk, if◌then◌else◌};
 ghost use Rattle.keyboard.specs.Keys.{keys_of};
 ghost use Rattle.key_script.specs.Events.{IsEvent, IsInRange, NeverFallsFrom, is_shot, shots};
@@ -14,7 +14,8 @@ use keyboard::Keys;
 use raster::Frame;
 use std::alloc::Global;
 
-/// A script, the keys, the converter's levels and the shots by its events so far, and the place and tick of the next one.
+/// A script, the keys, the converter's levels and the shots after the events that are done, and the
+/// place of the next event.
 #[derive(Drop)]
 pub struct Playback {
     pub script: Script,
@@ -22,11 +23,11 @@ pub struct Playback {
     pub levels: [u16; 4],
     pub shots: Shots,
     pub place: usize,
-    /// No event comes before this tick.
+    /// No further event comes before this tick.
     pub event: u64,
 }
 
-// What an event does to the keys and levels, or which frame a shot takes.
+// Does an event: changes the keys or levels, or stores `frame` as a shot.
 fn turn(keys: &mut Keys, levels: &mut [u16; 4], taken: &mut Shots, frame: &Frame, event: Event)
     requires ranged { IsInRange event.what }
     requires four { length levels.old ≡ 4 }
@@ -47,7 +48,7 @@ fn turn(keys: &mut Keys, levels: &mut [u16; 4], taken: &mut Shots, frame: &Frame
     }
 }
 
-// The events of tick `k`, at which this is the last finished frame.
+// Does the events of tick `k`, with `frame` as the last finished frame.
 fn happen(
     events: &[Event],
     place: &mut usize,
@@ -80,7 +81,7 @@ fn happen(
     }
 }
 
-// A tick before which no event comes, from this place on.
+// Returns a tick before which no event from `place` on comes.
 fn event_tick(events: &[Event], place: usize) -> u64
     requires { place ≤ length events.now }
     ensures later { let left = drop place events.now in
@@ -96,7 +97,7 @@ fn event_tick(events: &[Event], place: usize) -> u64
 }
 
 impl Playback {
-    // A script before its first event.
+    // Returns a script before its first event.
     fn new(script: Script, taken: Shots) -> Playback
         requires none { taken.frames ≡ [] }
         requires room { taken.room ≡ shots script }
@@ -115,7 +116,7 @@ impl Playback {
         }
     }
 
-    /// A script before its first event, with memory for all of its shots.
+    /// Makes a script before its first event, with memory for all of its shots.
     pub fn make(alloc: Global, script: Script) -> Result<Playback, NoMemory>
         ensures script { IfOk result (λ p. p.script ≡ script) }
         ensures shots { IfOk result (λ p. p.shots.frames ≡ []) }
@@ -125,7 +126,8 @@ impl Playback {
         Ok(Playback::new(script, taken))
     }
 
-    /// The events of tick `k`, at which this is the last finished frame, and the tick of the next.
+    /// Does the events of tick `k`, with `frame` as the last finished frame, and finds the tick of
+    /// the next event.
     pub fn play(&mut self, frame: &Frame, k: u64)
         requires room { k < 2 ^ 48 }
         requires played { IsPlayed self.old k }

@@ -8,7 +8,7 @@ use raster::Frame;
 use std::alloc::Global;
 use std::marker::Model;
 
-/// The frames taken so far, the oldest first, and memory for those that are still to be taken.
+/// The frames taken, the oldest first, and memory for those to come.
 #[derive(Drop)]
 pub struct Shots {
     frames: Vec<Frame>,
@@ -26,7 +26,7 @@ impl Model for Shots {
     ghost invariant = { λ s. s.taken ≤ length s.frames.items };
 }
 
-// A black frame for each shot of these events.
+// Makes a black frame for each shot of `events`.
 fn black_frames(alloc: Global, events: &[Event]) -> Result<Vec<Frame>, NoMemory>
     ensures { IfOk result (λ v. length v.items ≡ shots events.now) }
 {
@@ -43,7 +43,7 @@ fn black_frames(alloc: Global, events: &[Event]) -> Result<Vec<Frame>, NoMemory>
 }
 
 impl Shots {
-    /// None is taken yet, and there is memory for all shots of these events.
+    /// Makes an empty list of frames, with memory for all shots of `events`.
     pub fn make(alloc: Global, events: &[Event]) -> Result<Shots, NoMemory>
         ensures { IfOk result (λ s. s ≡ record { frames = []; room = shots events.now }) }
     {
@@ -51,7 +51,7 @@ impl Shots {
         Ok(Shots { frames, taken: 0 })
     }
 
-    /// A shot takes this frame. It takes no memory.
+    /// Stores a frame as the next shot. It takes no memory.
     pub fn take(&mut self, frame: &Frame)
         requires room { 0 < self.old.room }
         ensures frames { (self.new).frames ≡ (self.old).frames ++ frame.now ∷ [] }
@@ -61,7 +61,7 @@ impl Shots {
         self.taken += 1;
     }
 
-    /// The frames taken so far.
+    /// Returns the frames taken.
     pub fn frames(&self) -> &[Frame]
         ensures { result.now ≡ (self.now).frames }
     {

@@ -7,10 +7,10 @@ use sn76489::SoundWrite;
 use std::alloc::Global;
 use std::marker::Model;
 
-/// How many writes are kept.
+/// The largest number of stored writes.
 const ROOM: usize = 1_048_576;
 
-/// The writes so far, and memory for all that are still to be kept.
+/// The stored writes, and memory for those to come.
 #[derive(Drop)]
 pub struct SoundLog {
     writes: Vec<SoundWrite>,
@@ -28,7 +28,7 @@ impl Model for SoundLog {
 }
 
 impl SoundLog {
-    /// No write yet, and memory for all.
+    /// Makes an empty list, with memory for all writes.
     pub fn make(alloc: Global) -> Result<SoundLog, NoMemory>
         ensures { IfOk result (λ s. s ≡ []) }
     {
@@ -36,7 +36,7 @@ impl SoundLog {
         Ok(SoundLog { writes })
     }
 
-    /// One more write, which is kept while there is room. It takes no memory.
+    /// Stores a write, if there is room. It takes no memory.
     pub fn tell(&mut self, write: SoundWrite)
         ensures { self.new ≡ with_write write self.old }
     {
@@ -45,7 +45,7 @@ impl SoundLog {
         }
     }
 
-    /// The writes, in their order.
+    /// Returns the writes, in their order.
     pub fn writes(&self) -> &[SoundWrite]
         ensures value { result.now ≡ self.now }
         ensures few { length result.now ≤ 1048576 }

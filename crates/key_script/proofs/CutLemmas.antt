@@ -35,11 +35,11 @@ has_word (b ∷ line) =
       | inr e ↦ record { first = b ∷ has.first; more = has.more; words = rw (e, has.words) }
     ]
 
--- four words behind the tick say nothing
+-- four words after the tick have no meaning
 pub too_many_words : (word second third fourth rest words : List ℕ) → words_of words ≡ second ∷ words_of rest → words_of rest ≡ third ∷ words_of fourth → None ≡ what_of (word ∷ words_of words)
 too_many_words word second third fourth rest words one two = let has = has_word fourth in rw (one, two, has.words) refl
 
--- what a cut says of the words
+-- the words, by a cut
 pub word_or_whole : (line : List ℕ) (r : Option (Bor (List ℕ) × Bor (List ℕ))) →
     MatchOption r (All (λ b. b ≢ 32) line) (λ parts. All (λ b. b ≢ 32) parts.0.now) → IfSome r (λ parts. line ≡ parts.0.now ++ 32 ∷ parts.1.now) →
     MatchOption r (words_of line ≡ line ∷ []) (λ parts. words_of line ≡ parts.0.now ∷ words_of parts.1.now)

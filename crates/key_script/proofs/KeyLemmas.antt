@@ -1,4 +1,4 @@
--- A key by one event more.
+-- A key after one more event.
 use Rattle.std.proofs.Common.{◌≡◌, ◌∙◌, sym, refl, ap, ℕ, Bool, false, List, [], ◌∷◌, ◌++◌, ◌+◌, ◌<◌, length, take, get_or, Option, Some, None}
 use Rattle.std.proofs.lemmas.List.{take_more}
 use Rattle.std.specs.Prelude.{unwrap_or}
@@ -14,7 +14,7 @@ or_none : (a : Option Bool) → or_earlier a None ≡ a
 or_none (Some down) = refl
 or_none None = refl
 
--- the last of the events is the one that is asked first
+-- the last of the events decides first
 last_behind : (key t : ℕ) (events : List Event) (e : Event) → last_made key t (events ++ e ∷ []) ≡ or_earlier (made_by key t e) (last_made key t events)
 last_behind key t [] e = sym (or_none (made_by key t e))
 last_behind key t (d ∷ events) e =

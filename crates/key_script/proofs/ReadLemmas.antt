@@ -1,4 +1,4 @@
--- Events pushed one by one, and the rules that they keep.
+-- Events pushed one at a time, and their rules.
 use Rattle.std.proofs.Common.{◌≡◌, ◌≢◌, ◌∙◌, sym, refl, ap, ℕ, ◌+◌, ◌<◌, ◌≤◌, ◌==◌, ◌&&◌, Bool, true, false, List}
 use Rattle.std.proofs.Common.{[], ◌∷◌, ◌++◌, length, length-append, zero-add, Some, None, Ok, Err, nat_lt, cond, if◌then◌else◌, inl, inr, arith}
 use Rattle.std.proofs.lemmas.Bool.{cases_Bool, ltb-false}
@@ -17,7 +17,8 @@ order_behind : (t : ℕ) (events : List Event) (e : Event) → NeverFallsFrom t 
 order_behind t [] e order h = (h, tt)
 order_behind t (d ∷ events) e order h = (order.0, order_behind (tick_of d) events e order.1 h)
 
--- What was read of a text, with what is left of it: the caches are right, and the rules are kept.
+-- The invariant of reading: the last tick and the count of shots are right, and the events obey the
+-- rules.
 pub record ReadSoFar (text : List ℕ) (events : List Event) (last taken : ℕ) (rest : List ℕ) : Type 0 where
   pub whole : script text ≡ events_behind events (events_of rest)
   pub last_is : last ≡ last_tick events
@@ -25,7 +26,7 @@ pub record ReadSoFar (text : List ℕ) (events : List Event) (last taken : ℕ) 
   pub rules : IsScript events
   pub size : length events + length rest ≤ length text
 
--- what goes with the events before it does not fall, and is no shot too many
+-- an event without a fault does not fall, and is no 257th shot
 goes : (line tick last : ℕ) (many : Bool) → (if nat_lt tick last then Some (BadOrder line) else if many then Some (TooManyShots line) else None) ≡ None
     → (last ≤ tick) × (many ≡ false)
 goes line tick last many e = elim (cases_Bool (nat_lt tick last)) [
@@ -37,7 +38,7 @@ goes line tick last many e = elim (cases_Bool (nat_lt tick last)) [
     by_shots true e = cc
     by_shots false e = refl
 
--- one shot more, if the event is one
+-- one more shot, if the event is one
 counted : (taken more : ℕ) (shot : Bool) → more ≡ cond shot 1 0 → taken ≤ 256 → (shot && taken == 256) ≡ false → taken + more ≤ 256
 counted taken more true is few h = let other : taken ≢ 256 = λ e. cc in omega arith
 counted taken more false is few h = omega arith
@@ -46,7 +47,7 @@ shots_behind : (events : List Event) (e : Event) → shots (events ++ e ∷ []) 
 shots_behind events e =
     sum_by-append (λ (x : Event). cond (is_shot x) 1 0) events (e ∷ []) ∙ ap (λ n. shots events + n) (zero-add (cond (is_shot e) 1 0))
 
--- an event that goes with those before it
+-- an event without a fault after those before it
 pub read_more : (text : List ℕ) (events : List Event) (last taken more : ℕ) (rest others : List ℕ) (e : Event) →
     ReadSoFar text events last taken rest → events_of rest ≡ Some e ∷ events_of others → IsEvent e → length others < length rest →
     fault (length events + 1) last taken e ≡ None → more ≡ cond (is_shot e) 1 0 →

@@ -1,4 +1,4 @@
--- The events of a key script, and the rules that they keep.
+-- The events of a key script, and their rules.
 use Rattle.std.specs.Prelude.{ℕ, ◌≤◌, ◌<◌, Bool, true, false, List, [], ◌∷◌, All, count_by}
 use Rattle.key_script.specs.declared.Event.{Event}
 use Rattle.key_script.specs.declared.What.{What}
@@ -17,11 +17,11 @@ takes_frame (Level channel level) = false
 abbrev pub is_shot : Event → Bool
 is_shot e = takes_frame e.what
 
--- how many shots events have
+-- the number of shots among events
 abbrev pub shots : List Event → ℕ
 shots events = count_by is_shot events
 
--- the tick of the last event behind one at tick t, or t
+-- the tick of the last event after one at tick t, or t
 abbrev pub last_tick_from : ℕ → List Event → ℕ
 last_tick_from t [] = t
 last_tick_from t (e ∷ events) = last_tick_from (tick_of e) events
@@ -43,7 +43,7 @@ IsInRange Shot = Unit {0}
 IsInRange Break = Unit {0}
 IsInRange (Level channel level) = channel < 4
 
--- an event by itself: its tick is at most the longest run's, and its key or channel is one
+-- the rules of one event: its tick is at most the longest run's, and its key or channel exists
 pub record IsEvent (e : Event) : Type 0 where
   pub tick : tick_of e ≤ 1073741824
   pub numbers : IsInRange e.what

@@ -1,5 +1,6 @@
--- One line of a key script: `at T down KK`, `at T up KK`, `at T shot`, `at T break` or `at T adc C VVVV`, with T in decimal, without leading zeros
--- and at most 1073741824, KK in two upper-case hexadecimal digits from 00 to 7F, C from 0 to 3, and VVVV in four such digits. (This project's own
+-- One line of a key script: `at T down KK`, `at T up KK`, `at T shot`, `at T break` or `at T adc C
+-- VVVV`. T is decimal, without leading zeros and at most 1073741824. KK is two upper-case
+-- hexadecimal digits from 00 to 7F, C is 0 to 3, and VVVV four such digits. (This project's own
 -- format.)
 use Rattle.std.specs.Prelude.{ℕ, ◌-◌, ◌==◌, ◌&&◌, nat_eq, nat_lt, List, [], ◌∷◌, length, take, Option, Some, None, option_map, codes, if◌then◌else◌}
 use Rattle.std.specs.List.{ends_with, list_all}
@@ -11,7 +12,7 @@ use Rattle.key_script.specs.declared.What.{What}
 use Rattle.key_script.specs.declared.What.TheVariants.{Down, Up, Shot, Break, Level}
 use Rattle.key_script.specs.Words.{words_of}
 
--- the number of so many digits, below a bound
+-- the number of a word with `digits` digits, below `bound`
 abbrev pub number_of : ℕ → ℕ → List ℕ → Option ℕ
 number_of digits bound word =
     if length word == digits && list_all is_hex word && nat_lt (hex_number word) bound then Some (hex_number word) else None
@@ -51,7 +52,7 @@ level_with None level = None
 abbrev pub what_of_level : List ℕ → List ℕ → List ℕ → Option What
 what_of_level word channel level = if bytes_eq word (codes "adc") then level_with (channel_of channel) (level_of level) else None
 
--- what the words behind the tick say
+-- the meaning of the words after the tick
 abbrev pub what_of : List (List ℕ) → Option What
 what_of [] = None
 what_of (word ∷ []) = what_alone word
@@ -69,6 +70,6 @@ event_of_words [] = None
 event_of_words (first ∷ []) = None
 event_of_words (first ∷ tick ∷ words) = if bytes_eq first (codes "at") then event_at (decimal_number 1073741824 tick) (what_of words) else None
 
--- The event of a line with its line feed, or none where the bytes are outside the form.
+-- The event of a line with its line feed, or none if the bytes are outside the form.
 abbrev pub event_of : List ℕ → Option Event
 event_of line = if ends_with nat_eq line (10 ∷ []) then event_of_words (words_of (take (length line - 1) line)) else None

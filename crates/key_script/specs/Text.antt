@@ -7,21 +7,21 @@ use Rattle.key_script.specs.declared.ScriptError.TheVariants.{BadLine, BadOrder,
 use Rattle.key_script.specs.Events.{tick_of, is_shot, shots, last_tick}
 use Rattle.key_script.specs.Line.{event_of}
 
--- What is wrong with an event on a line behind others, of which the last is at tick `last` and this many are shots: its tick falls below that,
--- or it is one shot more than 256.
+-- The fault of an event after others: its tick falls below `last`, that of the last of them, or it
+-- is a shot and `taken`, the shots among them, is 256.
 abbrev pub fault : ℕ → ℕ → ℕ → Event → Option ScriptError
 fault line last taken e =
     if nat_lt (tick_of e) last then Some (BadOrder line)
     else if is_shot e && taken == 256 then Some (TooManyShots line)
     else None
 
--- an error, if there is one, in place of what is read
+-- the error, if there is one, otherwise the result
 abbrev pub unless : Option ScriptError → Result (List Event) ScriptError → Result (List Event) ScriptError
 unless (Some error) read = Err error
 unless None read = read
 
--- What lines mean behind those of some events: all events, or the first line that is outside the form, or whose event does not go with those
--- before it.
+-- The meaning of lines after those of some events: all events, or an error at the first line that
+-- is outside the form, or whose event breaks a rule.
 abbrev pub events_behind : List Event → List (Option Event) → Result (List Event) ScriptError
 events_behind before [] = Ok before
 events_behind before (None ∷ lines) = Err (BadLine (length before + 1))
@@ -35,6 +35,6 @@ events_of text = map event_of (text_lines text)
 abbrev pub BeginsBadly : List ℕ → Type 0
 BeginsBadly text = (more : List (Option Event)) × (events_of text ≡ None ∷ more)
 
--- What a text means as a key script. Lines count from 1.
+-- The meaning of a text as a key script. Lines count from 1.
 unfoldable pub script : List ℕ → Result (List Event) ScriptError
 script text = events_behind [] (events_of text)

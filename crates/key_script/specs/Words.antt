@@ -1,7 +1,7 @@
 -- The words of a line.
 use Rattle.std.specs.Prelude.{ℕ, ◌==◌, List, [], ◌∷◌, if◌then◌else◌}
 
--- a byte in front of the first word
+-- the words with a byte before the first of them
 abbrev pub begin_word : ℕ → List (List ℕ) → List (List ℕ)
 begin_word b [] = (b ∷ []) ∷ []
 begin_word b (word ∷ words) = (b ∷ word) ∷ words

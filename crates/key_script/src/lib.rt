@@ -1,5 +1,5 @@
-//! The text of a key script: which keys are put down and up at which ticks, when BREAK is pressed, when a frame is taken, and which levels the
-//! channels of the analogue converter get.
+//! The text of a key script: the ticks of keys that go down and up, of BREAK, of shots, and of
+//! levels for the channels of the analogue converter.
 #![tactic(auto)]
 
 mod line;
@@ -11,7 +11,7 @@ pub use script::Script;
 pub use text::read;
 use thiserror::Error;
 
-/// What happens at one tick.
+/// The action of an event.
 #[derive(Clone, Copy, Debug, PartialEq, Eq)]
 pub enum What {
     /// A key goes down. Its number is 16 times its row plus its column, below 80 hexadecimal.
@@ -20,9 +20,10 @@ pub enum What {
     Up(u8),
     /// The last finished frame is taken.
     Shot,
-    /// The BREAK key is pressed. It resets the machine and is no key of the keyboard's matrix, so it has no number.
+    /// The BREAK key is pressed. It resets the machine and is no key of the keyboard's matrix, so
+    /// it has no number.
     Break,
-    /// A channel of the analogue converter, 0 to 3, gets this level.
+    /// A channel of the analogue converter, 0 to 3, gets a level.
     Level(u8, u16),
 }
 
@@ -33,7 +34,7 @@ pub struct Event {
     pub what: What,
 }
 
-/// Why a text is no script. Lines count from 1.
+/// The reason for which a text is no script. Lines count from 1.
 #[derive(Clone, Copy, Debug, PartialEq, Eq, Error)]
 pub enum ScriptError {
     #[error("line {line} is outside the form of a script")]

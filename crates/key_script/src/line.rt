@@ -12,7 +12,8 @@ use digits::{all_hex, decimal_number, hex_number};
 /// The tick of the longest run.
 const LAST_TICK: u64 = 1_073_741_824;
 
-// What stands before the first space, and behind it.
+// Returns the bytes before the first space, and those after it. Returns `None` if there is no
+// space.
 fn split_at_space(line: &[u8]) -> Option<(&[u8], &[u8])>
     ensures none { MatchOption result (All (λ b. b ≢ 32) line.now) (λ parts. All (λ b. b ≢ 32) parts.0.now) }
     ensures parts { IfSome result (λ parts. line.now ≡ parts.0.now ++ 32 ∷ parts.1.now) }
@@ -21,7 +22,8 @@ fn split_at_space(line: &[u8]) -> Option<(&[u8], &[u8])>
     Some((&line[..place], &line[place + 1..]))
 }
 
-// The first word of a line and what stands behind the space, if more words do.
+// Returns the first word of a line and the bytes after its space. Returns `None` if the line is one
+// word.
 fn split_word(line: &[u8]) -> Option<(&[u8], &[u8])>
     ensures { MatchOption result (words_of line.now ≡ line.now ∷ []) (λ parts. words_of line.now ≡ parts.0.now ∷ words_of parts.1.now) }
 {
@@ -34,7 +36,7 @@ fn is_word(word: &[u8], want: &[u8]) -> bool
     word == want
 }
 
-// The number of a word of so many digits, if it is below a bound.
+// Returns the number of a word of `digits` digits, if it is below `bound`.
 fn number_of(word: &[u8], digits: usize, bound: u64) -> Option<u64>
     requires { digits ≤ 16 }
     ensures value { result ≡ number_of digits bound word.now }
@@ -106,7 +108,7 @@ fn what_of_level(word: &[u8], channel: &[u8], level: &[u8]) -> Option<What>
     }
 }
 
-// What the words behind the tick say, the first of which is given.
+// Returns the meaning of the words after the tick: `word`, and those in `words`.
 fn what_of_more(word: &[u8], words: &[u8]) -> Option<What>
     ensures value { result ≡ what_of (word.now ∷ words_of words.now) }
     ensures ranged { IfSome result IsInRange }
@@ -120,7 +122,7 @@ fn what_of_more(word: &[u8], words: &[u8]) -> Option<What>
     }
 }
 
-// What the words behind the tick say.
+// Returns the meaning of the words after the tick.
 fn what_of(words: &[u8]) -> Option<What>
     ensures value { result ≡ what_of (words_of words.now) }
     ensures ranged { IfSome result IsInRange }
@@ -131,7 +133,8 @@ fn what_of(words: &[u8]) -> Option<What>
     }
 }
 
-// The event of a line without its line feed, or none where the bytes are outside the form.
+// Returns the event of a line without its line feed. Returns `None` if the bytes are outside the
+// form.
 fn event_of_words(line: &[u8]) -> Option<Event>
     ensures value { result ≡ event_of_words (words_of line.now) }
     ensures event { IfSome result IsEvent }
@@ -149,7 +152,8 @@ fn event_of_words(line: &[u8]) -> Option<Event>
     })
 }
 
-/// The event of a line with its line feed, or none where the bytes are outside the form.
+/// Returns the event of a line with its line feed. Returns `None` if the bytes are outside the
+/// form.
 pub(crate) fn event_of(line: &[u8]) -> Option<Event>
     ensures value { result ≡ event_of line.now }
     ensures event { IfSome result IsEvent }

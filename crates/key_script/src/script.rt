@@ -7,8 +7,8 @@ use crate::{Event, What};
 use beeb_bits::Tick;
 use std::marker::Model;
 
-/// The events of a script: their ticks never fall and are at most 1,073,741,824, their keys are below 80 hexadecimal, their
-/// channels below 4, and at most 256 of them are shots.
+/// The events of a script: their ticks never fall and are at most 1,073,741,824, their keys are
+/// below 80 hexadecimal, their channels below 4, and at most 256 of them are shots.
 #[derive(Drop)]
 pub struct Script {
     events: Vec<Event>,
@@ -26,7 +26,7 @@ impl Model for Script {
     ghost invariant = { λ s. IsScript s.events.items };
 }
 
-// What an event makes of a key, if it is of that key.
+// Returns the state of a key after an event for it.
 fn made_of(key: u8, what: What) -> Option<bool>
     ensures { result ≡ made_of key what }
 {
@@ -37,7 +37,7 @@ fn made_of(key: u8, what: What) -> Option<bool>
     }
 }
 
-// The same of an event with a tick up to this one.
+// Returns the state of a key after an event for it, if the event has a tick at most `t`.
 fn made_by(key: u8, t: Tick, event: Event) -> Option<bool>
     ensures { result ≡ made_by key t.0 event }
 {
@@ -48,7 +48,7 @@ fn made_by(key: u8, t: Tick, event: Event) -> Option<bool>
     }
 }
 
-// The state of a key at a tick, by these events.
+// Returns the state of a key at a tick, by `events`.
 fn is_down(events: &[Event], key: u8, t: Tick) -> bool
     ensures { result ≡ is_down key t.0 events.now }
 {
@@ -60,7 +60,7 @@ fn is_down(events: &[Event], key: u8, t: Tick) -> bool
 }
 
 impl Script {
-    /// A script of these events.
+    /// Makes a script of `events`.
     pub fn make(events: Vec<Event>) -> Script
         requires { IsScript events.items }
         ensures { result ≡ events.items }
@@ -68,7 +68,7 @@ impl Script {
         Script { events }
     }
 
-    /// The events, in the order of the lines.
+    /// Returns the events, in the order of the lines.
     pub fn events(&self) -> &[Event]
         ensures events { result.now ≡ self.now }
         ensures rules { IsScript self.now }
@@ -77,7 +77,8 @@ impl Script {
         events
     }
 
-    /// Whether a key is down at a tick: as the last event for it with a tick up to that one makes it, and up if there is none.
+    /// Reports if a key is down at tick `t`: the last event for it with a tick at most `t` decides.
+    /// It is up if there is none.
     pub fn is_down(&self, key: u8, t: Tick) -> bool
         ensures { result ≡ is_down key t.0 self.now }
     {

@@ -1,4 +1,4 @@
-//! Reading a script.
+//! The reader of scripts.
 ghost use Rattle.std.specs.Prelude.{◌≡◌, ◌<◌, ◌⊎◌, ◌∷◌, Ok, Err, IfSome, MatchResult, MatchOption, length, Some};
 ghost use Rattle.key_script.specs.declared.ScriptError.TheVariants.{NoMemory};
 ghost use Rattle.key_script.specs.Events.{IsEvent, is_shot};
@@ -10,10 +10,11 @@ use beeb_bits::Tick;
 use digits::first_line;
 use std::alloc::Global;
 
-/// How many shots a script may have.
+/// The largest number of shots of a script.
 const MOST_SHOTS: usize = 256;
 
-// The event of a text's first line, if it is in form, and the text behind it.
+// Returns the event of a text's first line and the text after it. Returns `None` if the line is
+// outside the form.
 fn next_event(text: &[u8]) -> Option<(Event, &[u8])>
     requires { 0 < length text.now }
     ensures lines { MatchOption result (BeginsBadly text.now) (λ next. events_of text.now ≡ Some next.0 ∷ events_of next.1.now) }
@@ -31,7 +32,7 @@ fn is_shot(event: Event) -> bool
     event.what == What::Shot
 }
 
-// What is wrong with an event behind others.
+// Returns the fault of an event after others, if it has one.
 fn fault(line: u64, last: Tick, shots: usize, event: Event) -> Option<ScriptError>
     ensures { result ≡ fault line last.0 shots event }
 {
@@ -44,14 +45,16 @@ fn fault(line: u64, last: Tick, shots: usize, event: Event) -> Option<ScriptErro
     }
 }
 
-/// The script of a text. Each line is `at T down KK`, `at T up KK`, `at T shot`, `at T break` or `at T adc C VVVV` and a line feed: T is the
-/// tick in decimal, without leading zeros and at most 1,073,741,824, KK the number of a key in two upper-case hexadecimal digits from 00 to 7F,
-/// C a channel from 0 to 3, and VVVV its level in four upper-case hexadecimal digits. T never falls from line to line, and there are at most 256
-/// shots.
+/// Reads a script. Each line is `at T down KK`, `at T up KK`, `at T shot`, `at T break` or
+/// `at T adc C VVVV` and a line feed. T is the tick in decimal, without leading zeros and at most
+/// 1,073,741,824. KK is the number of a key in two upper-case hexadecimal digits from 00 to 7F. C
+/// is a channel from 0 to 3, and VVVV its level in four such digits. T never falls from line to
+/// line, and there are at most 256 shots.
 ///
 /// # Errors
-/// The first line that is outside this form, or has a tick below that of the line before it, or has the 257th shot. On one line the
-/// earlier of these comes. A last line without its line feed is outside the form.
+/// The first line that is outside this form, or has a tick below that of the line before it, or has
+/// the 257th shot. If a line has several faults, the first in this list is returned. A last line
+/// without its line feed is outside the form.
 #[tactic(auto, unfolding(crate::specs::Text::script))]
 pub fn read(alloc: Global, bytes: &[u8]) -> Result<Script, ScriptError>
     ensures value { MatchResult result (λ s. script bytes.now ≡ Ok s) (λ e. (e ≡ NoMemory) ⊎ (script bytes.now ≡ Err e)) }

@@ -1,4 +1,4 @@
--- Whether any key is down.
+-- Any key is down, or none.
 use Rattle.std.proofs.Common.{◌≡◌, ◌≢◌, ◌∙◌, sym, refl, ap, ℕ, zero, suc, ◌+◌, ◌*◌, ◌%◌, ◌<◌, ◌≤◌, ◌||◌, Bool, true, false, List, [], ◌∷◌, length}
 use Rattle.std.proofs.Common.{◌-◌, length-drop, take, drop, get_or, slice_set, replicate, Some, None, arith, inl, inr}
 use Rattle.std.specs.Prelude.{if◌then◌else◌}
@@ -40,7 +40,7 @@ pub none_is_down : (n : ℕ) → false ≡ any None (keys_of (replicate n false)
 unfolding any
 none_is_down n = sym (ap (any None) (all_up n) ∙ none_down (range_with_len 16 112))
 
--- keys that are the same where it is asked for them
+-- keys with equal states at these numbers
 same_any : (f g : ℕ → Bool) (a n : ℕ) → ((i : ℕ) → a ≤ i → i < a + n → f i ≡ g i) → list_any f (range_with_len a n) ≡ list_any g (range_with_len a n)
 same_any f g a zero same = refl
 same_any f g a (suc n) same =
@@ -56,19 +56,19 @@ none_of keys a (suc n) i none low high =
       | inr here ↦ let is : i ≡ a = omega arith in rw is parts.0
     ]
 
--- where no key is down, none is in a column
+-- if no key is down, none is in a column
 none_in_column : (keys : Keys) (column : ℕ) → column < 16 → any None keys ≡ false → any (Some column) keys ≡ false
 unfolding any
 none_in_column keys column inside none =
     same_any (λ row. keys (16 * row + column)) no_key 1 7 (λ row low high. none_of keys 16 112 (16 * row + column) none (omega arith) (omega arith))
     ∙ none_down (range_with_len 1 7)
 
--- nor in what CA2 is asked for
+-- if no key is down, CA2 is 0
 pub none_at : (keys : Keys) (scans : Bool) (column : ℕ) → column < 16 → any None keys ≡ false → any (if scans then None else Some column) keys ≡ false
 none_at keys true column inside none = none
 none_at keys false column inside none = none_in_column keys column inside none
 
--- a key changes its own column alone
+-- a key changes only its own column
 other_column : (down : List Bool) (key column : ℕ) (is_down : Bool) → column < 16 → column ≢ key % 16 →
     any (Some column) (keys_of (slice_set down key is_down)) ≡ any (Some column) (keys_of down)
 unfolding any
@@ -76,7 +76,7 @@ other_column down key column is_down inside other =
     same_any (λ row. keys_of (slice_set down key is_down) (16 * row + column)) (λ row. keys_of down (16 * row + column)) 1 7
     (λ row low high. get_or-set_other down key (16 * row + column) is_down false (λ e. other (omega arith)))
 
--- the columns after a key was put down or up
+-- the columns after a key changed
 pub columns_kept : (columns down : List Bool) (key column place : ℕ) (is_down own : Bool) → length columns ≡ 16 → column ≡ key % 16 → place ≡ column →
     own ≡ any (Some column) (keys_of (slice_set down key is_down)) → AreColumns columns (keys_of down) →
     AreColumns (slice_set columns place own) (keys_of (slice_set down key is_down))

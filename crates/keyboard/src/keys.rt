@@ -8,14 +8,16 @@ ghost use Rattle.keyboard.specs.Latch.{port_a_bit_7, ca2};
 use crate::Latch;
 use std::marker::Model;
 
-/// How many keys there are.
+/// The number of keys.
 const KEYS: usize = 128;
 
-/// Which keys are down. A key has the number 16 times its row plus its column, below 80 hexadecimal.
+/// The keys that are down. A key has the number 16 times its row plus its column, below 80
+/// hexadecimal.
 #[derive(Drop)]
 pub struct Keys {
     down: [bool; 128],
-    // A key of rows 1 to 7 is down, in each column and in any: it is asked for in each microsecond.
+    // A key of rows 1 to 7 is down, in each column and in any. Each microsecond reads one of the
+    // flags.
     columns: [bool; 16],
     is_any_down: bool,
 }
@@ -32,7 +34,7 @@ impl Model for Keys {
     ghost invariant = { λ s. (s.is_any_down ≡ any None (keys_of s.down)) × AreColumns s.columns (keys_of s.down) };
 }
 
-// A key of rows 1 to 7 is down in this column.
+// Reports if a key of rows 1 to 7 is down in `column`.
 #[tactic(auto, unfolding(crate::specs::Keys::any))]
 fn is_any_in(down: &[bool], column: u8) -> bool
     requires keys { length down.now ≡ KEYS }
@@ -48,7 +50,7 @@ fn is_one(states: &[bool]) -> bool
     states.iter().any(|down| *down)
 }
 
-// A key of rows 1 to 7 is down.
+// Reports if a key of rows 1 to 7 is down.
 fn is_any(down: &[bool]) -> bool
     requires { length down.now ≡ KEYS }
     ensures { result ≡ any None (keys_of down.now) }
@@ -57,7 +59,7 @@ fn is_any(down: &[bool]) -> bool
 }
 
 impl Keys {
-    /// All keys are up.
+    /// Returns a keyboard with all keys up.
     pub fn new() -> Keys
         ensures { keys_of result ≡ no_key }
     {
@@ -68,7 +70,7 @@ impl Keys {
         }
     }
 
-    /// Puts a key down or up.
+    /// Changes a key to down or up.
     pub fn set(&mut self, key: u8, down: bool)
         requires { key < KEYS }
         ensures { keys_of self.new ≡ with_key key down (keys_of self.old) }
@@ -79,7 +81,7 @@ impl Keys {
         self.is_any_down = is_any(&self.down);
     }
 
-    /// Whether a key is down.
+    /// Reports if a key is down.
     pub fn is_down(&self, key: u8) -> bool
         requires { key < KEYS }
         ensures { result ≡ keys_of self.now key }
@@ -87,7 +89,7 @@ impl Keys {
         self.down[usize::from(key)]
     }
 
-    /// Whether a key of rows 1 to 7 is down: in this column, below 16, or in any.
+    /// Reports if a key of rows 1 to 7 is down: in `column`, below 16, or in any.
     pub fn any(&self, column: Option<u8>) -> bool
         requires { ForSome column (λ c. c < 16) }
         ensures { result ≡ any column (keys_of self.now) }
@@ -98,16 +100,17 @@ impl Keys {
         }
     }
 
-    /// Bit 7 of the system VIA's port A, with the latch and the output bits of port A: the state of the key that its low seven bits
-    /// number, while the latch enables it.
+    /// Returns bit 7 of the system VIA's port A, by the latch and the output bits of port A: the
+    /// state of the key whose number is in bits 0 to 6, or 0 while the keyboard scans by itself.
     pub fn port_a_bit_7(&self, latch: &Latch, port_a: u8) -> bool
         ensures { result ≡ port_a_bit_7 latch.now.bits port_a (keys_of self.now) }
     {
         !latch.scans_itself() && self.is_down(port_a % 128)
     }
 
-    /// The system VIA's CA2, with the latch and the output bits of port A: a key of rows 1 to 7 is down, in the column that the low
-    /// four bits number while the latch enables it, else in any.
+    /// Returns the system VIA's CA2, by the latch and the output bits of port A. It is 1 if a key
+    /// of rows 1 to 7 is down in the column of bits 0 to 3. While the keyboard scans by itself, the
+    /// key may be in any column.
     pub fn ca2(&self, latch: &Latch, port_a: u8) -> bool
         ensures { result ≡ ca2 latch.now.bits port_a (keys_of self.now) }
     {

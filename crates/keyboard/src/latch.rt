@@ -11,28 +11,29 @@ pub struct Latch {
 }
 
 impl Latch {
-    /// The latch at power-on: all bits are 0.
+    /// Returns the latch at power-on: all bits are 0.
     pub fn new() -> Latch
         ensures { result.bits ≡ replicate 8 false }
     {
         Latch { bits: [false; 8] }
     }
 
-    /// A write to register 0 or 2 of the system VIA leaves port B with these pins: bit `p AND 7` becomes bit 3 of `p`.
+    /// Takes the pins `p` of port B after a write to register 0 or 2 of the system VIA: latch bit
+    /// `p AND 7` becomes bit 3 of `p`.
     pub fn write(&mut self, p: u8)
         ensures { self.new.bits ≡ latch_after p self.old.bits }
     {
         self.bits[usize::from(p % 8)] = bit(p, 3);
     }
 
-    /// Bit 3, keyboard write enable, is set: the keyboard is not asked for one key, and scans its columns by itself.
+    /// Reports if bit 3, keyboard write enable, is set: the keyboard scans its columns by itself.
     pub fn scans_itself(&self) -> bool
         ensures { result ≡ scans_itself self.now.bits }
     {
         self.bits[3]
     }
 
-    /// How many bytes the screen has, by bits 5 and 4.
+    /// Returns the bytes of the screen, by bits 5 and 4.
     pub fn screen_size(&self) -> u16
         ensures { result ≡ screen_size self.now.bits }
     {

@@ -1,4 +1,4 @@
-//! The keyboard, and the addressable latch that it stands behind.
+//! The keyboard, and the addressable latch that controls it.
 #![tactic(auto)]
 
 mod keys;

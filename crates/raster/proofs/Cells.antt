@@ -24,7 +24,7 @@ pub cell_long : (font : Font) (code ra fields : ℕ) (t : Text) → length (cell
 unfolding cell_on
 cell_long font code ra fields t = refl
 
--- One cell more beside those so far.
+-- One more cell beside those before it.
 pub cell_more : (font : Font) (codes : ℕ → ℕ) (ra fields i x y : ℕ) (t : Text) (dots old canvas : List ℕ) → canvas ≡ dots_set 208 x y (side_by_side (cells font codes ra fields t) i) old →
     dots ≡ cells font codes ra fields t i → dots_set 208 (x + 16 * i) y dots canvas ≡ dots_set 208 x y (side_by_side (cells font codes ra fields t) (i + 1)) old
 cell_more font codes ra fields i x y t dots old canvas so is =
@@ -96,7 +96,7 @@ cells_row ram size font span m (suc n) s h few shown teletext off small =
     ∙ ap (λ (w : List ℕ). built (suc n) (texts codes (suc n) s.text) w s)
     (beside 208 s.place.x s.place.y (n * d) (side_by_side strip n) (strip n) s.working (omega arith) long)
 
--- codes that are the same leave the same
+-- equal codes lead to equal states
 same_texts : (f g : ℕ → ℕ) (n : ℕ) (t : Text) → ((k : ℕ) → k < n → f k ≡ g k) → texts f n t ≡ texts g n t
 same_texts f g zero t h = refl
 same_texts f g (suc n) t h =

@@ -42,7 +42,7 @@ set_inside left x y colour frame h = rw (tells_inside left x y h) refl
 set_outside : (left x y colour : ℕ) (frame : List ℕ) → is_in_frame left x y ≡ false → dot_set left x y colour frame ≡ frame
 set_outside left x y colour frame h = rw h refl
 
--- dots that are all in the frame take the place of as many of it
+-- dots that are all in the frame replace as many of its dots
 pub all_inside : (left x y at : ℕ) (dots frame : List ℕ) → left ≤ x → x + length dots ≤ left + 640 → 40 ≤ y → y < 296 → at ≡ 640 * (y - 40) + (x - left) →
     at + length dots ≤ length frame → dots_set left x y dots frame ≡ take at frame ++ (dots ++ drop (at + length dots) frame)
 all_inside left x y at [] frame from to top bottom is long = rw add-zero (sym (take-append-drop at frame))
@@ -99,7 +99,7 @@ halves dots sixteen =
     let few = length-drop 8 dots in
     ap (λ last. take 8 dots ++ last) (take_all 8 (drop 8 dots) (omega (arith, few, sixteen))) ∙ take-append-drop 8 dots
 
--- where the count of dots has come to its end, all of them are outside
+-- dots to the right of the frame change nothing
 pub past_the_end : (left x y : ℕ) (dots frame : List ℕ) → left + 640 ≤ x → dots_set left x y dots frame ≡ frame
 past_the_end left x y dots frame past = all_outside left x y dots frame (λ k h. is_false _ (λ e. let i = inside_tells left (x + k) y e in let to = i.to in omega arith))
 
@@ -110,7 +110,7 @@ counted left eights y dots frame l small =
       | inr end ↦ past_the_end left (8 * eights) y dots frame (omega arith) ∙ sym (past_the_end left (min (8 * eights) 4095) y dots frame (omega arith))
     ]
 
--- so many dots that are put into the frame's list
+-- dots that are put into the frame's list
 pub put_inside : (left x y at count : ℕ) (dots frame new : List ℕ) → length dots ≡ count → left ≤ x → x + count ≤ left + 640 → 40 ≤ y → y < 296 →
     at ≡ 640 * (y - 40) + (x - left) → length frame ≡ 163840 → new ≡ take at frame ++ (dots ++ drop (at + count) frame) → new ≡ dots_set left x y dots frame
 put_inside left x y at count dots frame new long from to top bottom place size is =

@@ -54,7 +54,7 @@ row_by_bytes ram size first u n low =
     same_row (first_dots ram size first u) (λ k. colours u (slice_index ram (byte_address ((first.ma + k) % 16384) first.ra size)) false) n
     (λ k below. sym (plain_dots u (slice_index ram (byte_address ((first.ma + k) % 16384) first.ra size)) first.ra low))
 
--- What the clocks behind the first leave, whatever the beam met as it came there.
+-- The state after the clocks that follow the first, for any beam of the first.
 pub row_behind : (ram : List ℕ) (size : ℕ) (font : Font) (first : Beam) (n : ℕ) (t : State) → AreBehind first n t → first.ma < 16384 → first.row_end ≡ false → first.restart ≡ false →
     char_clocks ram size font n (pass_leaves first (show_leaves ram size font first t))
     ≡ record t {
@@ -86,7 +86,7 @@ row_behind ram size font first n t h small row frame =
     ∙ ap (λ (w : List ℕ). left (place_past (n * d) (place_past d t.place)) w) drawn
     ∙ ap (λ (p : Place). left p (dots_set 240 x y (byte_row ram size first.ma first.ra t.ula (suc n)) t.working)) (further d (n * d) (suc n * d) t.place (grind arith))
 
--- with a line that has more neither a row nor a frame ends
+-- no row and no frame ends with the first character of a longer line
 still_more : (c : CrtcState) → ends_line c ≡ false → ends_line (start_leaves c) ≡ false
 still_more c more = grind arith
 

@@ -1,4 +1,4 @@
--- Character clocks, one after the other, and microseconds by them.
+-- Character clocks, one after another, and microseconds by them.
 use Rattle.std.proofs.Common.{◌≡◌, ◌∙◌, sym, ap, refl, ℕ, zero, suc, ◌+◌, ◌*◌, Bool, true, false, List, arith}
 use Rattle.std.specs.Prelude.{if◌then◌else◌}
 use Rattle.beeb_bits.specs.Bits.{bit}
@@ -16,7 +16,7 @@ pub clocks_behind : (n : ℕ) (c : CrtcState) → clocks (suc n) c ≡ clock_lea
 clocks_behind zero c = refl
 clocks_behind (suc n) c = clocks_behind n (clock_leaves c)
 
--- how many clocks of the 6845 a microsecond has
+-- the number of clocks of the 6845 in a microsecond
 abbrev pub rate_by : Bool → ℕ
 rate_by b = if b then 2 else 1
 
@@ -42,7 +42,7 @@ module _ (ram : List ℕ) (size : ℕ) (font : Font) where
   unfolding char_clock_leaves
   char_ula s = show_ula (beam_of s.crtc) (begin_leaves (beam_of s.crtc) (record s { crtc = clock_leaves s.crtc }))
 
-  -- one clock more, and more of them
+  -- one more clock, and many more
   pub chars_behind : (n : ℕ) (s : State) → char_clocks ram size font (suc n) s ≡ char_clock_leaves ram size font (char_clocks ram size font n s)
   chars_behind zero s = refl
   chars_behind (suc n) s = chars_behind n (char_clock_leaves ram size font s)
@@ -72,7 +72,7 @@ module _ (ram : List ℕ) (size : ℕ) (font : Font) where
       ∙ micros_are n b next (ap (λ (u : UlaState). bit u.control 4) (chars_ula (rate_by b) s) ∙ e)
       ∙ chars_more (n * rate_by b) (rate_by b) s ∙ ap (λ k. char_clocks ram size font k s) z
 
-  -- one each where the clock of 1 MHz is set, and two each where that of 2 MHz is
+  -- one clock each at 1 MHz, and two each at 2 MHz
   pub slow_is : (n : ℕ) (s : State) → bit s.ula.control 4 ≡ false → microseconds ram size font n s ≡ char_clocks ram size font n s
   slow_is n s off = let z : n * 1 ≡ n = omega arith in micros_are n false s off ∙ ap (λ k. char_clocks ram size font k s) z
 

@@ -1,4 +1,4 @@
--- How a raster settles.
+-- The steps until a raster is quiet.
 use Rattle.std.proofs.Common.{◌≡◌, ◌∙◌, sym, ap, refl, ℕ, ◌+◌, Bool, true, false, min, List}
 use Rattle.std.specs.Prelude.{if◌then◌else◌}
 use Rattle.beeb_bits.specs.Bits.{bit}
@@ -23,11 +23,12 @@ one_clock b x y h = rw h refl
 pub cursor_far : (c : Cursor) → c ≡ first_cursor → c ≡ cursor_past false c
 cursor_far c h = rw h refl
 
--- how far along its line a character clock leaves the beam
+-- the beam's place in its line after a character clock
 abbrev along : CrtcState → ℕ → ℕ → ℕ
 along chip x dots = min ((if begins_horizontal_sync chip then 0 else x) + dots) 4095
 
--- what a quiet character clock leaves is quiet, if the beam came back to where it was
+-- after a character clock of a quiet 6845 the raster is quiet, if the beam is at the same place as
+-- before
 left_settled : (s : State) (chip : CrtcState) (finishes : Bool) (left : State) → left ≡ pass_leaves (quiet_beam finishes chip) (begin_leaves (quiet_beam finishes chip) (record s { crtc = chip })) →
     is_quiet chip ≡ true → bit left.ula.control 4 ≡ false → left.cursor ≡ first_cursor → left.place.x ≡ s.place.x → IsQuiet left
 left_settled s chip finishes left is rest clock far back =

@@ -1,4 +1,4 @@
--- What the beam reads, and what it does not.
+-- The bytes that the beam reads, and those that it does not.
 use Rattle.std.proofs.Common.{◌≡◌, ◌∙◌, sym, ap, subst, refl, ℕ, zero, suc, ◌+◌, ◌*◌, ◌%◌, ◌<◌, ◌≤◌, ◌≢◌, Bool, true, false, List, arith}
 use Rattle.std.specs.Prelude.{slice_index, slice_set, if◌then◌else◌}
 use Rattle.std.proofs.lemmas.List.{get_or-set_other}
@@ -18,7 +18,7 @@ use Rattle.raster.specs.CodeSteps.{char_clocks}
 use Rattle.raster.specs.Reads.{ReadsFrom, StaysInSync, SyncStaysOn}
 use Rattle.raster.proofs.Micros.{rate_by, char_crtc, chars_crtc, chars_ula, micros_are}
 
--- what is read goes on
+-- `ReadsFrom` continues to hold
 char_reads : (low size : ℕ) (ram : List ℕ) (font : Font) (s : State) → ReadsFrom low size s → ReadsFrom low size (char_clock_leaves ram size font s)
 char_reads low size ram font s reads n = rw (char_crtc ram size font s) (reads (suc n))
 
@@ -59,12 +59,12 @@ pub unseen : (low size n at v : ℕ) (ram : List ℕ) (font : Font) (s : State) 
 unseen low size n at v ram font s reads below =
     micros_are (slice_set ram at v) size font n _ s refl ∙ chars_unseen low size (n * rate_by (bit s.ula.control 4)) at v ram font s reads below ∙ sym (micros_are ram size font n _ s refl)
 
--- the 6845 goes by the clocks alone, whatever is drawn
+-- the 6845 depends only on the clocks, and not on what is drawn
 crtc_after : (n : ℕ) (b : Bool) (ram : List ℕ) (size : ℕ) (font : Font) (s : State) → bit s.ula.control 4 ≡ b →
     (microseconds ram size font n s).crtc ≡ clocks (n * rate_by b) s.crtc
 crtc_after n b ram size font s e = ap (λ (t : State). t.crtc) (micros_are ram size font n b s e) ∙ chars_crtc ram size font (n * rate_by b) s
 
--- vertical sync stays so long
+-- vertical sync stays for this number of microseconds
 pub calm_micro : (n calm : ℕ) (b : Bool) (s : State) → bit s.ula.control 4 ≡ b → CrtcStaysInSync calm s.crtc → n * rate_by b ≤ calm → StaysInSync n s
 calm_micro n calm b s e stays few ram size font k h =
     let less : k * rate_by b ≤ n * rate_by b = mul-le-mul_right (rate_by b) h in

@@ -1,4 +1,4 @@
--- Many microseconds of a raster that is quiet.
+-- Many microseconds of a quiet raster.
 use Rattle.std.proofs.Common.{◌≡◌, ◌∙◌, sym, ap, refl, ℕ, zero, suc, ◌+◌, ◌≤◌, Bool, true, false, min, List, [], None, arith}
 use Rattle.std.specs.Prelude.{if◌then◌else◌}
 use Rattle.beeb_bits.specs.Bits.{bit}
@@ -18,7 +18,7 @@ use Rattle.raster.specs.Clock.{tell_leaves, char_clock_leaves, microsecond, micr
 use Rattle.raster.specs.CodeQuiet.{IsQuiet}
 use Rattle.raster.proofs.Quiet.{sixteen, one_clock, cursor_far}
 
--- one of them, that finishes a frame or not
+-- one of them, with or without a finished frame
 left_by : Bool → CrtcState → State → ℕ → Cursor → Text → State
 left_by f chip s x cursor text = record s {
   crtc = chip;
@@ -148,7 +148,7 @@ many_settled (suc n) ram size font s law h =
     let on = law s.crtc h.rest in
     rw (falls_by ram size font s h on) (many_settled n ram size font (fallen_by f (clock_leaves s.crtc) s) law (settled_on f s h on))
 
--- what the code leaves, by the frames that are finished
+-- the state that the code leaves, by the number of finished frames
 
 many_of : (k n : ℕ) (s : State) → frames_in n s.crtc ≡ k →
     built s (clocks n s.crtc) (clocks_past_frame n s.place.y s.crtc) (working_by k s.working) (finished_by k s.working s.finished) ≡ rests_many n s

@@ -25,7 +25,7 @@ use Rattle.raster.proofs.Drawing.{dots_set-append, past_the_end, all_outside}
 use Rattle.raster.proofs.Quiet.{cursor_far}
 use Rattle.raster.proofs.Micros.{clocks_behind, chars_behind, chars_crtc, chars_ula, show_place, show_cursor, show_ula}
 
--- what a character of a plain span is
+-- a character of a plain span
 unfoldable pub plain_beam : Span → ℕ → Beam
 plain_beam span k = record {
   shown = span.shown;
@@ -68,7 +68,7 @@ shown_here ram size font span n s k text working h shown below =
 pub further : (a b c : ℕ) (p : Place) → a + b ≡ c → place_past b (place_past a p) ≡ place_past c p
 further a b c p e = ap (λ (x : ℕ). record p { x = x }) (omega (arith, e))
 
--- the beam passes a character on which the cursor is not
+-- the beam passes a character without the cursor
 pub passes : (beam : Beam) (t : State) (working : List ℕ) → beam.cursor ≡ false → beam.row_end ≡ false → beam.restart ≡ false → t.cursor ≡ first_cursor →
     pass_leaves beam (record t { working = working }) ≡ record t { place = place_past (dots_of t.ula.control) t.place; working = working }
 passes beam t working cursor row frame far = rw (cursor, row, frame, far) refl
@@ -94,7 +94,7 @@ fewer span n m s few h = record {
   far = h.far;
 }
 
--- characters that are not shown: where the beam is before horizontal sync, and from it on
+-- characters that are not shown: the beam's place before horizontal sync, and from it on
 abbrev place_next : Bool → ℕ → Place → Place
 place_next sync d p = place_past d (record { x = if sync then 0 else p.x; y = p.y })
 
@@ -172,7 +172,7 @@ row_long f d (suc n) all = one_longer n d (side_by_side f n) (f n) (row_long f d
 pub not_marked : (control : ℕ) (c : Cursor) → c ≡ first_cursor → bit control 1 ≡ false → is_marked control false c ≡ false
 not_marked control c far bits = grind arith
 
--- a character's dots, where the beam's place is counted to its end, are set beside the others
+-- a character's dots are set beside the others, also if the beam's place is at its largest
 capped_dots : (left y a : ℕ) (dots frame : List ℕ) → left ≤ 240 → dots_set left (min a 4095) y dots frame ≡ dots_set left a y dots frame
 capped_dots left y a dots frame l =
     elim (cases_lt a 4095) [
@@ -231,7 +231,7 @@ pub shown_drawn : (ram : List ℕ) (size : ℕ) (font : Font) (span : Span) (n :
 shown_drawn ram size font span n s h shown bits small =
     ap (λ (t : State). record t { crtc = s.crtc; place = s.place }) (sym (shown_row ram size font span n n s h (omega arith) shown bits small))
 
--- Whatever is drawn, so far comes the beam.
+-- The beam's place does not depend on what is drawn.
 record IsAhead (n : ℕ) (s t : State) : Type 0 where
   place : t.place ≡ place_past (n * dots_of s.ula.control) s.place
   cursor : t.cursor ≡ s.cursor
@@ -271,7 +271,7 @@ goes_ahead ram size font span m (suc n) s h few shown small =
       cursor = ap (λ (x : State). x.cursor) behind ∙ one.cursor ∙ i.cursor;
     }
 
--- what was drawn ahead is whole when the 6845 and the beam's place have come there
+-- after the 6845 and the beam's place catch up, the state is that of all clocks
 abbrev come : ℕ → ℕ → State → State
 come to n t = record t { crtc = clocks n t.crtc; place = place_in_span to n (dots_of t.ula.control) t.place }
 

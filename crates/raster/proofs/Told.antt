@@ -1,4 +1,4 @@
--- What a character clock does, by its parts.
+-- A character clock, by its parts.
 use Rattle.std.proofs.Common.{◌≡◌, ◌∙◌, sym, ap, refl, ℕ, ◌%◌, Bool, true, List}
 use Rattle.std.specs.Prelude.{slice_index, if◌then◌else◌}
 use Rattle.beeb_bits.specs.Bits.{bit}

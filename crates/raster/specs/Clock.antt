@@ -11,8 +11,8 @@ use Rattle.raster.specs.Beam.{place_at, place_past, byte_address, cursor_past, i
 use Rattle.raster.specs.Text.{text_at, cell_of, text_after, text_past}
 use Rattle.raster.specs.State.{State}
 
--- The beam comes to the character. Where a frame is finished, the working frame becomes the finished one, and a black one is begun; no
--- other moment changes the finished frame.
+-- The beam reaches the character. If a frame is finished, the working frame becomes the finished
+-- one, and a black one begins. The finished frame changes in no other case.
 abbrev pub begin_leaves : Beam → State → State
 begin_leaves beam s = record s {
   place = place_at beam s.place;
@@ -21,11 +21,11 @@ begin_leaves beam s = record s {
   finished = if beam.frame_end then s.working else s.finished;
 }
 
--- The dots of a character that is shown: those of its byte, but black on rasters 8 to 15 and 24 to 31.
+-- The dots of a shown character: those of its byte, but black on rasters 8 to 15 and 24 to 31.
 abbrev pub byte_dots : UlaState → ℕ → ℕ → Bool → List ℕ
 byte_dots u byte ra marked = if bit ra 3 then replicate (dots_of u.control) (under_cursor marked 0) else colours u byte marked
 
--- In teletext they are those of its cell, of which the first half is shown at 2 MHz.
+-- In teletext the dots are those of the character's cell. At 2 MHz only the first half is shown.
 abbrev pub cell_dots : UlaState → List ℕ → Bool → List ℕ
 cell_dots u cell marked = take (dots_of u.control) (map (under_cursor marked) cell)
 
@@ -47,7 +47,7 @@ draw_leaves ram size font beam s =
     let byte = slice_index ram (byte_address beam.ma beam.ra size) in
     if bit s.ula.control 1 then draw_cell_leaves font beam (byte % 128) s else draw_byte_leaves beam byte s
 
--- a character that is not shown draws nothing
+-- a character draws nothing if it is not shown
 abbrev pub show_leaves : List ℕ → ℕ → Font → Beam → State → State
 show_leaves ram size font beam s = if beam.shown then draw_leaves ram size font beam s else s
 
@@ -59,19 +59,21 @@ pass_leaves beam s = record s {
   text = text_past beam s.text;
 }
 
--- One character clock: the 6845 tells what it is, and the beam follows. `ram` has 32,768 bytes, and `size` is that of the screen.
+-- One character clock: the 6845 has its outputs, and the beam follows them. `ram` has 32,768 bytes,
+-- and `size` is that of the screen.
 abbrev pub tell_leaves : List ℕ → ℕ → Font → Beam → State → State
 tell_leaves ram size font beam s = pass_leaves beam (show_leaves ram size font beam (begin_leaves beam s))
 
 unfoldable pub char_clock_leaves : List ℕ → ℕ → Font → State → State
 char_clock_leaves ram size font s = tell_leaves ram size font (beam_of s.crtc) (record s { crtc = clock_leaves s.crtc })
 
--- One microsecond is two character clocks where the ULA's control byte has bit 4 set as it begins, else one.
+-- One microsecond is two character clocks if bit 4 of the ULA's control byte is set when it begins,
+-- otherwise one.
 abbrev pub microsecond : List ℕ → ℕ → Font → State → State
 microsecond ram size font s =
     if bit s.ula.control 4 then char_clock_leaves ram size font (char_clock_leaves ram size font s) else char_clock_leaves ram size font s
 
--- n microseconds, one after the other
+-- n microseconds, one after another
 abbrev pub microseconds : List ℕ → ℕ → Font → ℕ → State → State
 microseconds ram size font zero s = s
 microseconds ram size font (suc n) s = microseconds ram size font n (microsecond ram size font s)

@@ -1,4 +1,4 @@
--- What the code does of a character that is shown apart from the rest.
+-- Parts of drawing a shown character that the code does separately.
 use Rattle.std.specs.Prelude.{ℕ, zero, suc, ◌+◌, ◌-◌, ◌*◌, ◌%◌, ◌<◌, ◌≤◌, ◌≡◌, nat_lt, Bool, true, false, List, slice_index, if◌then◌else◌}
 use Rattle.beeb_bits.specs.Bits.{bit}
 use Rattle.crtc6845.specs.declared.Beam.{Beam}
@@ -26,24 +26,25 @@ cell_drawn_on font code ra fields marked s = record s {
   working = dots_set 208 s.place.x s.place.y (cell_dots s.ula (cell_on font code ra fields s.text) marked) s.working;
 }
 
--- n character clocks, one after the other
+-- n character clocks, one after another
 abbrev pub char_clocks : List ℕ → ℕ → Font → ℕ → State → State
 char_clocks ram size font zero s = s
 char_clocks ram size font (suc n) s = char_clocks ram size font n (char_clock_leaves ram size font s)
 
--- what they leave, but for the 6845 and the beam's place
+-- the state after n character clocks, but with the 6845 and the beam's place of before
 abbrev pub drawn_ahead : List ℕ → ℕ → Font → ℕ → State → State
 drawn_ahead ram size font n s = record (char_clocks ram size font n s) { crtc = s.crtc; place = s.place }
 
--- n characters come as the span tells them, the cursor is on none of them and not near, and where they are shown horizontal sync begins
--- with none.
+-- The next n characters are those of the span. The cursor is on none of them and was on none of the
+-- three before. If they are shown, horizontal sync begins with none of them.
 pub record ArePlain (span : Span) (n : ℕ) (s : State) : Type 0 where
   pub told : (k : ℕ) → k < n → beam_of (clocks k s.crtc) ≡ beam_in_span span k
   pub cursor : span.cursor ≡ false
   pub sync : span.shown ≡ true → n ≤ span.to_sync
   pub far : s.cursor ≡ first_cursor
 
--- Behind a character that a clock told come n that are shown beside it, and the cursor is on none of them and not near.
+-- After the shown character of `first`, n characters of a span are shown at the next addresses. The
+-- cursor is on none of them and was on none of the last three.
 pub record AreBehind (first : Beam) (n : ℕ) (s : State) : Type 0 where
   pub span : Span
   pub plain : ArePlain span n s
@@ -56,22 +57,24 @@ pub record AreBehind (first : Beam) (n : ℕ) (s : State) : Type 0 where
   pub dots : bit first.ra 3 ≡ false
   pub counted : s.place.x ≤ 4095
 
--- The dots of n characters by their bytes, of which none has the cursor.
+-- The dots of n characters by their bytes, without the cursor.
 abbrev pub byte_row : List ℕ → ℕ → ℕ → ℕ → UlaState → ℕ → List ℕ
 byte_row ram size ma ra u n = side_by_side (λ k. colours u (slice_index ram (byte_address ((ma + k) % 16384) ra size)) false) n
 
 abbrev pub bytes_put : List ℕ → ℕ → ℕ → ℕ → ℕ → State → State
 bytes_put ram size ma ra n s = record s { working = dots_set 240 s.place.x s.place.y (byte_row ram size ma ra s.ula n) s.working }
 
--- Where n characters of d dots leave the beam: horizontal sync begins behind so many of them, or later.
+-- The beam's place after n characters of d dots. Horizontal sync begins after `to_sync` of them, if
+-- n is above that.
 abbrev pub place_in_span : ℕ → ℕ → ℕ → Place → Place
 place_in_span to_sync n d p = if nat_lt to_sync n then place_past ((n - to_sync) * d) (record p { x = 0 }) else place_past (n * d) p
 
--- how many dots a character has
+-- the dots of a character
 abbrev pub wide : Bool → ℕ
 wide narrow = if narrow then 8 else 16
 
--- The bytes of n characters whose addresses count up from one on: `step` apart from `at` on, all of them in the RAM.
+-- The bytes of n characters at addresses from `ma` on are in the RAM, each `step` after the one
+-- before, from `at` on.
 pub record AreApart (ma : ℕ) (ra : ℕ) (size : ℕ) (n : ℕ) (at : ℕ) (step : ℕ) : Type 0 where
   pub stand : (k : ℕ) → k < n → byte_address ((ma + k) % 16384) ra size ≡ at + k * step
   pub within : (k : ℕ) → k < n → at + k * step < 32768
@@ -80,7 +83,7 @@ pub record AreApart (ma : ℕ) (ra : ℕ) (size : ℕ) (n : ℕ) (at : ℕ) (ste
 abbrev pub code_in : List ℕ → ℕ → ℕ → ℕ
 code_in bytes step k = slice_index bytes (k * step) % 128
 
--- what the first n codes leave of a row, and the cell of the k-th after those before it
+-- the row after the first n codes, and the cell of the k-th code after those before it
 abbrev pub texts : (ℕ → ℕ) → ℕ → Text → Text
 texts codes zero t = t
 texts codes (suc n) t = text_after (codes n) (texts codes n t)

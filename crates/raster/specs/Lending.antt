@@ -1,4 +1,5 @@
--- The two chips that the raster gives out: what the caller leaves there is the new chip, and all else stays.
+-- The two chips that the raster lends. The caller may change the chip, and the rest of the raster
+-- stays.
 use Rattle.std.specs.Borrow.{Lends, MutBor, Fml}
 use Rattle.crtc6845.specs.State.{State as CrtcState}
 use Rattle.crtc6845.specs.contracts.crtc.Crtc.{the_row as crtc_row}

@@ -1,4 +1,4 @@
--- The raster: both chips that make the picture, where the beam is, and the frames that it draws.
+-- The raster: both chips that make the picture, the beam's place, and the frames.
 use Rattle.std.specs.Prelude.{ℕ, List, false}
 use Rattle.crtc6845.specs.State.{State as CrtcState, power_on as crtc_power_on}
 use Rattle.video_ula.specs.State.{State as UlaState, power_on as ula_power_on}
@@ -12,7 +12,7 @@ pub record State : Type 0 where
   pub place : Place
   pub cursor : Cursor
   pub text : Text
-  -- the frame that is drawn, and the last one that was finished
+  -- the frame in progress, and the last finished one
   pub working : List ℕ
   pub finished : List ℕ
 

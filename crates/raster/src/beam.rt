@@ -1,4 +1,4 @@
-//! What the beam meets: the byte that is shown, and the cursor's marks.
+//! The byte that the beam shows, and the cursor's marks.
 ghost use Rattle.std.specs.Prelude.{◌≡◌, ◌<◌, ◌≤◌, ◌+◌, ◌%◌, true};
 ghost use Rattle.raster.specs.Beam.{IsScreenSize, byte_address, cursor_past, is_marked};
 ghost use Rattle.raster.specs.State.{first_cursor};
@@ -8,7 +8,7 @@ ghost use Rattle.raster.specs.CodeSteps.{AreApart};
 use beeb_bits::bit;
 use std::marker::Model;
 
-/// Where the byte that is shown stands in the RAM.
+/// Returns the RAM address of the byte that is shown.
 #[inline(always)]
 pub(crate) fn byte_address(ma: u16, ra: u8, size: u16) -> usize
     requires { IsScreenSize size }
@@ -25,16 +25,16 @@ pub(crate) fn byte_address(ma: u16, ra: u8, size: u16) -> usize
     }
 }
 
-/// Where the bytes of characters stand whose addresses count up: `step` apart from `at` on.
+/// The places of the bytes of characters whose addresses count up: from `at` on, `step` apart.
 #[derive(Clone, Copy)]
 pub(crate) struct Bytes {
     pub(crate) at: usize,
     pub(crate) step: usize,
-    /// How many of them come before the end of the RAM, past which they go on elsewhere.
+    /// The number of bytes before the end of the RAM. Later ones are elsewhere.
     pub(crate) count: u16,
 }
 
-/// The bytes of `n` characters in one block of 1,024 addresses.
+/// Returns the places of the bytes of `n` characters in one block of 1,024 addresses.
 #[inline(always)]
 pub(crate) fn bytes_from(ma: u16, ra: u8, size: u16, n: u16) -> Bytes
     requires size { IsScreenSize size }
@@ -60,7 +60,8 @@ pub(crate) fn bytes_from(ma: u16, ra: u8, size: u16, n: u16) -> Bytes
     }
 }
 
-/// An address of the RAM below which nothing is shown of so many characters from one on.
+/// Returns a RAM address. None of the `count` characters from `base` on is shown from a byte below
+/// it.
 pub(crate) fn lowest_of(base: u16, count: u16, size: u16) -> u16
     requires base { base < 16384 }
     requires size { IsScreenSize size }
@@ -70,7 +71,7 @@ pub(crate) fn lowest_of(base: u16, count: u16, size: u16) -> u16
     if count == 0 {
         0x8000
     } else if base >= 0x2000 && end <= 0x4000 {
-        // Bit 11 is set in all of them, or it is not known.
+        // If bit 11 may be clear in an address, the page at 3C00 may be shown.
         if base / 0x800 % 2 == 1 && (end - 1) / 0x800 == u32::from(base / 0x800) {
             0x7c00
         } else {
@@ -87,13 +88,13 @@ pub(crate) fn lowest_of(base: u16, count: u16, size: u16) -> u16
     }
 }
 
-/// On which of the last three characters the cursor was.
+/// The cursor among the last three characters.
 #[derive(Drop)]
 pub(crate) struct Cursor {
     one_ago: bool,
     two_ago: bool,
     three_ago: bool,
-    // It was on one of them, which is seldom.
+    // The cursor was on one of them, which is rare.
     is_near: bool,
 }
 
@@ -120,7 +121,7 @@ impl Cursor {
         }
     }
 
-    /// The cursor marks the character that the beam is on.
+    /// Reports if the cursor marks the character that the beam is on.
     #[inline(always)]
     pub(crate) fn is_marked(&self, control: u8, here: bool) -> bool
         ensures { result ≡ is_marked control here self.now }
@@ -141,14 +142,14 @@ impl Cursor {
         }
     }
 
-    /// It was on none of them.
+    /// Reports if the cursor was on none of the last three characters.
     pub(crate) fn is_clear(&self) -> bool
         ensures { result ≡ true → self.now ≡ first_cursor }
     {
         !self.is_near
     }
 
-    /// The beam leaves the character.
+    /// Moves past a character, which had the cursor if `here`.
     #[inline(always)]
     pub(crate) fn pass(&mut self, here: bool)
         ensures { self.new ≡ cursor_past here self.old }

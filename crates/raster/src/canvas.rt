@@ -1,4 +1,4 @@
-//! A frame that is drawn or shown, and whether it is still black.
+//! A frame that is drawn or shown, with a flag for a black one.
 ghost use Rattle.std.specs.Prelude.{ℕ, ◌≡◌, ◌≤◌, ◌<◌, ◌+◌, ◌-◌, ◌*◌, ◌%◌, ◌++◌, true, false, length, take, replicate, IfOk, if◌then◌else◌};
 ghost use Rattle.video_ula.specs.Pixels.{dots_of, row_colours};
 ghost use Rattle.raster.specs.Frame.{black, is_in_frame, dots_set};
@@ -11,20 +11,21 @@ use std::alloc::Global;
 use std::marker::Model;
 use video_ula::Ula;
 
-/// How many lines above the frame the beam meets after vertical sync.
+/// The lines from the beginning of vertical sync to the frame's top.
 const TOP: u16 = 40;
 
-/// How many lines a frame has.
+/// The lines of a frame.
 const LINES: u16 = 256;
 
-/// How many dots a line of the frame has.
+/// The dots of a line of the frame.
 const WIDTH: u16 = 640;
 
-/// A frame that is not cleared again while nothing is drawn: a 6845 without a program finishes one every few microseconds.
+/// A frame that is cleared only if something was drawn. A 6845 that is not programmed finishes a
+/// frame every 16 microseconds.
 #[derive(Drop)]
 pub(crate) struct Canvas {
     pub(crate) frame: Frame,
-    // Nothing was drawn since it was cleared.
+    // Nothing was drawn after the last clearing.
     is_clear: bool,
 }
 
@@ -39,7 +40,7 @@ impl Model for Canvas {
     ghost invariant = { λ p. p.is_clear ≡ true → p.frame ≡ black };
 }
 
-/// A dot lies in the frame.
+/// Reports if a dot is in the frame.
 #[inline(always)]
 fn is_in_frame(left: u16, x: u16, y: u16) -> bool
     requires { left ≤ 240 }
@@ -48,7 +49,7 @@ fn is_in_frame(left: u16, x: u16, y: u16) -> bool
     left <= x && x < left + WIDTH && TOP <= y && y < TOP + LINES
 }
 
-// How many dots a character has.
+// Returns the number of dots of a character.
 #[inline(always)]
 fn wide(narrow: bool) -> usize
     ensures { result ≡ wide narrow }
@@ -56,7 +57,7 @@ fn wide(narrow: bool) -> usize
     if narrow { 8 } else { 16 }
 }
 
-// How many characters of 8 or 16 dots so many times eight dots have room for.
+// Returns the number of characters of 8 or 16 dots that fit in `eights` times eight dots.
 #[inline(always)]
 fn characters(eights: u16, narrow: bool) -> u16
     ensures { result * wide narrow ≤ 8 * eights }
@@ -64,7 +65,8 @@ fn characters(eights: u16, narrow: bool) -> u16
     if narrow { eights } else { eights / 2 }
 }
 
-/// How many of the next `n` characters, the first of them at this place, are surely outside the frame: 0 where the first may not be.
+/// Returns a number, at most `n`, of next characters outside the frame, the first of them at
+/// `place`. Returns 0 if the first may be inside.
 #[inline(always)]
 pub(crate) fn outside(left: u16, place: &Place, narrow: bool, n: u16) -> u16
     requires { (left ≤ 240) × (left % 8 ≡ 0) }
@@ -78,7 +80,8 @@ pub(crate) fn outside(left: u16, place: &Place, narrow: bool, n: u16) -> u16
     }
 }
 
-/// How many of the next `n` characters, the first of them at this place, are surely in the frame: 0 where the first may not be.
+/// Returns a number, at most `n`, of next characters inside the frame, the first of them at
+/// `place`. Returns 0 if the first may be outside.
 #[inline(always)]
 pub(crate) fn inside(left: u16, place: &Place, narrow: bool, n: u16) -> u16
     requires { (left ≤ 240) × (left % 8 ≡ 0) }
@@ -93,7 +96,7 @@ pub(crate) fn inside(left: u16, place: &Place, narrow: bool, n: u16) -> u16
     }
 }
 
-// Where the dot at a place in the frame stands there.
+// Returns the index in the frame of the dot at `place`.
 #[inline(always)]
 fn dot_at(left: u16, place: &Place) -> usize
     requires left { left ≤ 240 }
@@ -115,7 +118,7 @@ impl Canvas {
         })
     }
 
-    /// Becomes black.
+    /// Makes the frame black.
     pub(crate) fn clear(&mut self)
         ensures { self.new ≡ black }
     {
@@ -125,7 +128,7 @@ impl Canvas {
         }
     }
 
-    /// Draws dots that lie in the frame, one beside the other, the first of them at `x` and `y`.
+    /// Draws dots that are in the frame, side by side, the first of them at `x` and `y`.
     #[inline(always)]
     pub(crate) fn put(&mut self, left: u16, x: u16, y: u16, dots: &[u8])
         requires along { (left ≤ x) × (x + length dots.now ≤ left + 640) }
@@ -137,8 +140,9 @@ impl Canvas {
         self.frame.put(at, dots);
     }
 
-    /// Draws eight dots, the first of them at `x` and `y`, as far as they lie in the frame, whose left edge is at `left`. Both are
-    /// multiples of eight, so that all of them lie in it or none.
+    /// Draws eight dots, the first of them at `x` and `y`, if they are in the frame, whose left
+    /// edge is at `left`. `x` and `left` are multiples of eight, so all of the dots are in the
+    /// frame or none is.
     #[inline(always)]
     fn draw_eight(&mut self, left: u16, x: u16, y: u16, dots: &[u8])
         requires left { (left ≤ 240) × (left % 8 ≡ 0) }
@@ -151,7 +155,7 @@ impl Canvas {
         }
     }
 
-    // Draws sixteen dots, as far as they lie in the frame.
+    // Draws those of sixteen dots that are in the frame.
     #[inline(always)]
     fn draw_sixteen(&mut self, left: u16, x: u16, y: u16, dots: &[u8; 16])
         requires left { (left ≤ 240) × (left % 8 ≡ 0) }
@@ -165,7 +169,7 @@ impl Canvas {
         }
     }
 
-    // Draws them eight and eight.
+    // Draws sixteen dots, eight at a time.
     #[inline(always)]
     fn draw_apart(&mut self, left: u16, x: u16, y: u16, dots: &[u8; 16])
         requires left { (left ≤ 240) × (left % 8 ≡ 0) }
@@ -190,7 +194,8 @@ impl Canvas {
         }
     }
 
-    /// Draws the dots of `n` characters side by side, all of which lie in the frame, where the ULA has them ready, and tells whether it has.
+    /// Draws the dots of `n` characters side by side, all in the frame, if the ULA has them ready.
+    /// Returns `false`, with the frame unchanged, if it has not.
     #[inline(always)]
     pub(crate) fn draw_row(
         &mut self,
@@ -215,7 +220,7 @@ impl Canvas {
             .put_row(at, count, ula, bytes, step, usize::from(n))
     }
 
-    /// Draws `n` characters side by side that are black.
+    /// Draws `n` black characters side by side.
     #[inline(never)]
     pub(crate) fn draw_black(&mut self, left: u16, place: &Place, narrow: bool, n: u16)
         requires along { (left ≤ place.now.x) × (place.now.x + n * wide narrow ≤ left + 640) }

@@ -9,14 +9,15 @@ use std::alloc::Global;
 use std::marker::Model;
 use video_ula::Ula;
 
-/// How many dots a frame has: 256 lines of 640.
+/// The dots of a frame: 256 lines of 640.
 const FRAME_SIZE: usize = 163_840;
 
 const LINES: usize = 256;
 
 const LINE: usize = 640;
 
-/// A frame of 256 lines of 640 dots, by lines from the top. Each dot is a colour from 0 to 7: bit 0 is red, bit 1 green and bit 2 blue.
+/// A frame of 256 lines of 640 dots, by lines from the top. Each dot is a colour from 0 to 7: bit 0
+/// is red, bit 1 green and bit 2 blue.
 #[derive(Drop)]
 pub struct Frame {
     /// The colours, 163,840 of them.
@@ -42,7 +43,7 @@ fn clear_line(dots: &mut [u8])
     dots.fill(0);
 }
 
-// Makes all dots black, a line at a time: a fill of so few bytes takes stores of many of them each.
+// Makes all dots black, one line at a time: a fill of only 640 bytes uses wide stores.
 fn clear_lines(dots: &mut [u8])
     requires { length dots.old ≡ FRAME_SIZE }
     ensures { dots.new ≡ black }
@@ -53,10 +54,10 @@ fn clear_lines(dots: &mut [u8])
 }
 
 impl Frame {
-    /// A black frame.
+    /// Makes a black frame.
     ///
     /// # Errors
-    /// Want of memory.
+    /// Out of memory.
     pub fn black(alloc: Global) -> Result<Frame, NoMemory>
         ensures { IfOk result (λ f. f ≡ black) }
     {
@@ -64,14 +65,14 @@ impl Frame {
         Ok(Frame { colours })
     }
 
-    /// Becomes a copy of another frame. It takes no memory.
+    /// Copies another frame into this one, and takes no memory.
     pub fn copy_from(&mut self, other: &Frame)
         ensures { self.new ≡ other.now }
     {
         self.colours.copy_from_slice(&other.colours);
     }
 
-    /// Becomes black.
+    /// Makes the frame black.
     pub(crate) fn clear(&mut self)
         ensures { self.new ≡ black }
     {
@@ -88,7 +89,8 @@ impl Frame {
         self.colours[at..at + dots.len()].copy_from_slice(dots);
     }
 
-    /// Sets the dots of `n` characters side by side, from `at` on, `count` in all, where the ULA has them ready, and tells whether it has.
+    /// Sets `count` dots from `at` on to those of `n` characters side by side, if the ULA has them
+    /// ready. Returns `false`, with the frame unchanged, if it has not.
     #[inline(always)]
     pub(crate) fn put_row(
         &mut self,
@@ -109,7 +111,7 @@ impl Frame {
         ula.row_ready(bytes, step, n, &mut self.colours[at..at + count])
     }
 
-    /// Makes dots black, `count` of them from `at` on.
+    /// Makes `count` dots black, from `at` on.
     pub(crate) fn blacken(&mut self, at: usize, count: usize)
         requires within { at + count ≤ FRAME_SIZE }
         ensures size { length self.old ≡ FRAME_SIZE }

@@ -1,17 +1,18 @@
 //! Laws over whole runs.
 ghost use Rattle.raster.specs.Reads.{ReadsGoOn, StoresBelowAreUnseen, SyncStaysOn};
 
-/// What is not read from now on is not read later, until a register is written.
+/// States that a byte that is not read from now on is not read later, until a register is written.
 pub fn reads_go_on()
     ensures { ReadsGoOn }
 {}
 
-/// A byte that is not read from now on may be written sooner or later: the picture is the same.
+/// States that the picture does not depend on a byte that is not read from now on.
 pub fn stores_below_are_unseen()
     ensures { StoresBelowAreUnseen }
 {}
 
-/// For how long vertical sync surely stays what it is, less the microseconds that are done, is how long it stays from then on.
+/// States that vertical sync, unchanged for n microseconds, stays for the other n - m after m of
+/// them.
 pub fn sync_stays_on()
     ensures { SyncStaysOn }
 {}

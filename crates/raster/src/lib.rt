@@ -1,4 +1,5 @@
-//! The picture: the beam of the 6845 over the colours of the video ULA and of the teletext chip, frame after frame.
+//! The picture: the beam of the 6845 draws the colours of the video ULA and of the teletext chip,
+//! frame after frame.
 #![tactic(auto)]
 
 mod beam;

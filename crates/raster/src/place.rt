@@ -7,13 +7,13 @@ ghost use Rattle.raster.specs.CodeSteps.{place_in_span};
 use crtc6845::{Beam, Finished};
 use std::marker::Model;
 
-/// A number of lines that the beam's count does not pass.
+/// The largest number of lines that the beam counts.
 const MOST_LINES: u16 = 1023;
 
-/// A number of times eight dots that its count does not pass.
+/// The largest number of eights of dots that the beam counts.
 const MOST_EIGHTS: u16 = 512;
 
-/// A number of dots that the beam's place does not pass.
+/// The largest number of dots in the beam's place.
 const MOST_DOTS: u16 = 4095;
 
 #[derive(Drop)]
@@ -42,7 +42,7 @@ impl Place {
         Place { eights: 0, y: 0 }
     }
 
-    /// The dots since the beginning of horizontal sync, as far as they are counted.
+    /// Returns the dots since the beginning of horizontal sync, at most 4,095.
     #[inline(always)]
     pub(crate) fn x(&self) -> u16
         ensures value { result ≡ self.now.x }
@@ -51,7 +51,7 @@ impl Place {
         (8 * self.eights).min(MOST_DOTS)
     }
 
-    /// The beam comes to a character.
+    /// Moves to a character. A line or a frame may start with it, and horizontal sync may begin.
     pub(crate) fn meet(&mut self, beam: &Beam)
         ensures { self.new ≡ place_at beam.now self.old }
     {
@@ -65,7 +65,7 @@ impl Place {
         }
     }
 
-    /// It goes down so many lines of a character each, some of which begin vertical sync.
+    /// Moves down `n` lines of one character each. Some of them may begin vertical sync.
     pub(crate) fn rest(&mut self, n: u64, done: Finished)
         ensures place { self.new ≡ record self.old {
           y = min (if done.frames == 0 then self.old.y + n else done.past) 1023;
@@ -80,7 +80,7 @@ impl Place {
         self.y = done.past.min(1023) as u16;
     }
 
-    /// Horizontal sync begins.
+    /// Begins horizontal sync.
     #[inline(always)]
     pub(crate) fn start_sync(&mut self)
         ensures { self.new ≡ record self.old { x = 0 } }
@@ -88,7 +88,7 @@ impl Place {
         self.eights = 0;
     }
 
-    /// It leaves a character of 8 or 16 dots.
+    /// Moves past a character of 8 or 16 dots.
     #[inline(always)]
     pub(crate) fn pass(&mut self, narrow: bool)
         ensures { self.new ≡ place_past (if narrow then 8 else 16) self.old }
@@ -97,7 +97,8 @@ impl Place {
         self.eights = (self.eights + eights).min(MOST_EIGHTS);
     }
 
-    /// It leaves `n` characters of 8 or 16 dots: horizontal sync begins behind so many of them, or later.
+    /// Moves past `n` characters of 8 or 16 dots. Horizontal sync begins after `to_sync` of them,
+    /// if `n` is above that.
     #[inline(always)]
     pub(crate) fn pass_span(&mut self, narrow: bool, to_sync: u16, n: u16)
         ensures { self.new ≡ place_in_span to_sync n (if narrow then 8 else 16) self.old }
@@ -110,7 +111,7 @@ impl Place {
         }
     }
 
-    /// It leaves `n` characters of 8 or 16 dots.
+    /// Moves past `n` characters of 8 or 16 dots.
     #[inline(always)]
     pub(crate) fn pass_many(&mut self, narrow: bool, n: u16)
         ensures { self.new ≡ place_past (n * (if narrow then 8 else 16)) self.old }

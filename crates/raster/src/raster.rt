@@ -1,4 +1,4 @@
-//! The raster, with a short way for where the beam goes down a line and nothing else changes.
+//! The raster. It does many clocks at once if they only move the beam down.
 ghost use Rattle.std.specs.Prelude.{◌≡◌, ◌<◌, ◌≤◌, length, IfOk};
 ghost use Rattle.std.specs.Borrow.{sem};
 ghost use Rattle.raster.specs.Beam.{IsScreenSize};
@@ -20,11 +20,11 @@ use std::alloc::Global;
 use std::marker::Model;
 use video_ula::Ula;
 
-/// The 6845, the video ULA and the teletext chip, the beam that they lead, and the frames that it draws.
+/// The 6845, the video ULA and the teletext chip, their beam, and the frames that it draws.
 #[derive(Drop)]
 pub struct Raster {
     screen: Screen,
-    // It is known to be quiet, as that of a quiet 6845 is soon.
+    // The screen is known to be quiet. It soon is if the 6845 is quiet.
     quiet: bool,
 }
 
@@ -41,10 +41,10 @@ impl Model for Raster {
 }
 
 impl Raster {
-    /// The raster at power-on, with two black frames.
+    /// Makes the raster at power-on, with two black frames.
     ///
     /// # Errors
-    /// Want of memory. No other call takes any.
+    /// Out of memory. No other call takes memory.
     pub fn make(alloc: Global) -> Result<Raster, NoMemory>
         ensures { IfOk result (λ r. r ≡ power_on) }
     {
@@ -55,7 +55,7 @@ impl Raster {
         })
     }
 
-    /// The 6845. What the caller leaves there is the new chip, and all else stays.
+    /// Lends the 6845. The caller may change it, and the rest of the raster stays.
     pub fn crtc(&mut self) -> &mut Crtc
         ensures* lends { sem 𝓛 (LendsCrtc self.entry result) }
         ensures value { result.now ≡ self.old.crtc }
@@ -64,7 +64,7 @@ impl Raster {
         &mut self.screen.crtc
     }
 
-    /// The video ULA. What the caller leaves there is the new chip, and all else stays.
+    /// Lends the video ULA. The caller may change it, and the rest of the raster stays.
     pub fn ula(&mut self) -> &mut Ula
         ensures* lends { sem 𝓛 (LendsUla self.entry result) }
         ensures value { result.now ≡ self.old.ula }
@@ -73,14 +73,14 @@ impl Raster {
         &mut self.screen.ula
     }
 
-    /// The last frame that was finished, a black one at power-on.
+    /// Returns the last finished frame, a black one at power-on.
     pub fn frame(&self) -> &Frame
         ensures { result.now ≡ self.now.finished }
     {
         self.screen.frame()
     }
 
-    /// Vertical sync is on.
+    /// Reports if vertical sync is on.
     #[inline(always)]
     pub fn vsync(&self) -> bool
         ensures { result ≡ vsync_of self.now }
@@ -88,7 +88,8 @@ impl Raster {
         self.screen.crtc.vsync()
     }
 
-    /// Does one character clock. `ram` has 32,768 bytes, and `size` is that of the screen: 16384, 8192, 20480 or 10240 bytes.
+    /// Does one character clock. `ram` has 32,768 bytes, and `size` is that of the screen: 16384,
+    /// 8192, 20480 or 10240 bytes.
     #[inline(always)]
     pub fn char_clock(&mut self, ram: &[u8], size: u16, font: &Letters)
         requires ram { length ram.now ≡ 32768 }
@@ -98,14 +99,13 @@ impl Raster {
         self.quiet = self.screen.clock(ram, size, font);
     }
 
-    /// Does `n` microseconds: of two character clocks each where the ULA has set the clock of 2 MHz, else of one. `ram` and `size` are as
-    /// at `char_clock`.
+    /// Does `n` microseconds, each of two character clocks if the ULA selects the 2 MHz clock,
+    /// otherwise of one. `ram` and `size` are as in `char_clock`.
     pub fn advance(&mut self, ram: &[u8], size: u16, font: &Letters, n: u64)
         requires ram { length ram.now ≡ 32768 }
         requires size { IsScreenSize size }
         ensures { self.new ≡ microseconds ram.now size font.now.font n self.old }
     {
-        // Two character clocks each, or one.
         if self.is_fast() {
             self.char_clock_pairs(ram, size, font, n);
         } else {
@@ -113,7 +113,7 @@ impl Raster {
         }
     }
 
-    // Does `n` times two character clocks: in one row, where so many can be counted.
+    // Does `2 * n` character clocks, at once if that number fits.
     fn char_clock_pairs(&mut self, ram: &[u8], size: u16, font: &Letters, n: u64)
         requires ram { length ram.now ≡ 32768 }
         requires size { IsScreenSize size }
@@ -128,7 +128,7 @@ impl Raster {
         }
     }
 
-    // Does `n` character clocks, those that are alike at once.
+    // Does `n` character clocks, and those that are alike at once.
     fn char_clocks(&mut self, ram: &[u8], size: u16, font: &Letters, n: u64)
         requires ram { length ram.now ≡ 32768 }
         requires size { IsScreenSize size }
@@ -140,7 +140,7 @@ impl Raster {
         }
     }
 
-    // Does some of the next `most` character clocks, at least one, and tells how many.
+    // Does at least one and at most `most` of the next character clocks, and returns their number.
     #[inline(always)]
     fn some_clocks(&mut self, ram: &[u8], size: u16, font: &Letters, most: u64) -> u64
         requires ram { length ram.now ≡ 32768 }
@@ -163,7 +163,7 @@ impl Raster {
         }
     }
 
-    /// A number of microseconds for which vertical sync surely stays what it is.
+    /// Returns a number of microseconds during which vertical sync does not change.
     pub fn calm(&self) -> u64
         ensures { StaysInSync result self.now }
     {
@@ -183,7 +183,8 @@ impl Raster {
         bit(self.screen.ula.mode(), 4)
     }
 
-    /// An address of the RAM below which nothing is read from now on, until a register is written. `size` is as at `char_clock`.
+    /// Returns a RAM address. No byte below it is read from now on, until a register is written.
+    /// `size` is as in `char_clock`.
     pub fn lowest(&self, size: u16) -> u16
         requires { IsScreenSize size }
         ensures { ReadsFrom result size self.now }

@@ -1,4 +1,4 @@
-//! The picture's chips, and the beam over their frames.
+//! The chips of the picture, and the beam that draws their frames.
 ghost use Rattle.std.specs.Prelude.{◌≡◌, ◌<◌, ◌≤◌, ◌+◌, ◌-◌, ◌*◌, ◌%◌, min, ℕ, List, false, true, length, map, take, IfOk, if◌then◌else◌};
 ghost use Rattle.beeb_bits.specs.Bits.{bit};
 ghost use Rattle.video_ula.specs.Pixels.{dots_of, under_cursor, side_by_side};
@@ -28,7 +28,8 @@ use std::marker::Model;
 use std::mem::swap;
 use video_ula::Ula;
 
-/// Where the frame's left edge is, in dots from the beginning of horizontal sync: without teletext, and in it.
+/// The frame's left edge, in dots from the beginning of horizontal sync: without teletext, and with
+/// it.
 const LEFT: u16 = 240;
 
 const TEXT_LEFT: u16 = 208;
@@ -61,7 +62,7 @@ impl Model for Screen {
     } };
 }
 
-// The dots of a byte on a raster, and what stands behind the first eight where there are no more.
+// Returns the dots of a byte on a raster. If a character has only eight, the others do not count.
 #[inline(always)]
 fn dots_on(ula: &Ula, byte: u8, ra: u8, marked: bool) -> [u8; 16]
     ensures { take (dots_of ula.now.control) result ≡ byte_dots ula.now byte ra marked }
@@ -73,7 +74,7 @@ fn dots_on(ula: &Ula, byte: u8, ra: u8, marked: bool) -> [u8; 16]
     dots
 }
 
-// The colours of a cell, inverted where the cursor marks it.
+// Inverts the colours of a cell if the cursor marks it.
 #[inline(always)]
 fn mark(dots: &mut [u8; 16], marked: bool)
     ensures { dots.new ≡ map (under_cursor marked) dots.old }
@@ -84,7 +85,8 @@ fn mark(dots: &mut [u8; 16], marked: bool)
     }
 }
 
-// A span goes on behind a character, in the same block of 1,024 addresses and with no cursor.
+// Reports if a span follows a character, in the same block of 1,024 addresses, without the cursor
+// and the beginning of horizontal sync.
 #[inline(always)]
 fn follows(span: &Span, first: &Beam) -> bool
     ensures shown { result ≡ true → span.now.shown ≡ true }
@@ -102,7 +104,7 @@ fn follows(span: &Span, first: &Beam) -> bool
         && span.ma - 1 == first.ma
 }
 
-// Draws teletext cells side by side that are in the frame and that the cursor does not mark.
+// Draws teletext cells side by side. All are in the frame, and the cursor marks none.
 #[inline(never)]
 fn draw_cells(
     text: &mut Text,
@@ -131,10 +133,10 @@ fn draw_cells(
 }
 
 impl Screen {
-    /// Both chips at power-on, with two black frames.
+    /// Makes both chips at power-on, with two black frames.
     ///
     /// # Errors
-    /// Want of memory. No other call takes any.
+    /// Out of memory. No other call takes memory.
     pub(crate) fn make(alloc: Global) -> Result<Screen, NoMemory>
         ensures { IfOk result (λ s. s ≡ power_on) }
     {
@@ -151,14 +153,14 @@ impl Screen {
         })
     }
 
-    /// The last frame that was finished.
+    /// Returns the last finished frame.
     pub(crate) fn frame(&self) -> &Frame
         ensures { result.now ≡ self.now.finished }
     {
         &self.finished.frame
     }
 
-    /// Does `n` microseconds of a screen that is quiet.
+    /// Does `n` microseconds of a quiet screen.
     pub(crate) fn rest(&mut self, n: u64)
         requires { IsQuiet self.old }
         ensures state { (ram : List ℕ) (size : ℕ) (font : Font) → self.new ≡ microseconds ram size font n self.old }
@@ -176,7 +178,7 @@ impl Screen {
         self.finish();
     }
 
-    // The 6845 and the beam's line do that, and it answers how many frames are finished.
+    // Does `n` clocks of the 6845 and the beam's line, and returns the number of finished frames.
     fn fall(&mut self, n: u64) -> u64
         requires { is_quiet self.old.crtc ≡ true }
         ensures state { self.new ≡ record self.old {
@@ -191,7 +193,8 @@ impl Screen {
         done.frames
     }
 
-    // The 6845 was quiet, the beam is at `x` again, and no cursor and no second character clock makes a difference.
+    // Reports if the 6845 was quiet, the beam is at `x` again, and a microsecond has one character
+    // clock. The cursor must have been on none of the last three characters.
     #[inline(always)]
     fn is_settled(&self, rests: bool, x: u16) -> bool
         ensures rests { result ≡ true → rests ≡ true }
@@ -202,7 +205,7 @@ impl Screen {
         rests && self.place.x() == x && self.cursor.is_clear() && !bit(self.ula.mode(), 4)
     }
 
-    /// Does one character clock, and tells whether the screen is known to be quiet then.
+    /// Does one character clock. Reports if the screen is then known to be quiet.
     #[inline(never)]
     pub(crate) fn clock(&mut self, ram: &[u8], size: u16, font: &Letters) -> bool
         requires ram { length ram.now ≡ 32768 }
@@ -220,7 +223,8 @@ impl Screen {
         self.is_settled(rests, before)
     }
 
-    /// Does character clocks from the first of a line on that has more, at least one and at most `most`, and tells how many.
+    /// Does at least one and at most `most` character clocks, from the first of a line that has
+    /// more than one. Returns their number.
     #[inline(always)]
     pub(crate) fn stretch_from_start(
         &mut self,
@@ -250,7 +254,7 @@ impl Screen {
         u64::from(n)
     }
 
-    // The beam goes past the first characters of a line, the first of which the 6845 has done.
+    // Moves the beam past the first `n` characters of a line. The 6845 has done the first of them.
     #[inline(always)]
     fn pass_row(&mut self, n: u16)
         requires some { 0 < n }
@@ -265,8 +269,8 @@ impl Screen {
         self.crtc.pass(n - 1);
     }
 
-    // Draws the character that was just told and some behind it, at most `most` in all, and tells how many: 0 where it is to be done by
-    // itself.
+    // Draws the character of `first` and some after it, at most `most` in all, and returns their
+    // number. Returns 0, with nothing drawn, if the character must be drawn by itself.
     #[inline(always)]
     fn draw_from_first(&mut self, ram: &[u8], size: u16, first: &Beam, most: u64) -> u16
         requires ram { length ram.now ≡ 32768 }
@@ -295,7 +299,8 @@ impl Screen {
         self.put_bytes(ram, size, first.ma, first.ra, n)
     }
 
-    /// Does character clocks inside a line, at least one and at most `most`, and tells how many.
+    /// Does at least one and at most `most` character clocks inside a line, and returns their
+    /// number.
     #[inline(always)]
     pub(crate) fn stretch(&mut self, ram: &[u8], size: u16, font: &Letters, most: u64) -> u64
         requires ram { length ram.now ≡ 32768 }
@@ -318,7 +323,8 @@ impl Screen {
         u64::from(n)
     }
 
-    // The beam goes past characters of a span: horizontal sync begins behind so many of them, or later.
+    // Moves past `n` characters of a span. Horizontal sync begins after `to_sync` of them, if `n`
+    // is above that.
     #[inline(always)]
     fn pass_span(&mut self, to_sync: u16, n: u16)
         requires start { starts_line self.old.crtc ≡ false }
@@ -332,7 +338,7 @@ impl Screen {
         self.crtc.pass(n);
     }
 
-    // The cursor was on none of the last three characters.
+    // Reports if the cursor was on none of the last three characters.
     #[inline(always)]
     fn is_cursor_far(&self) -> bool
         ensures far { result ≡ true → self.now.cursor ≡ first_cursor }
@@ -342,7 +348,8 @@ impl Screen {
         self.cursor.is_clear()
     }
 
-    // Draws some of the next characters of a span, at most `n`, and tells how many: 0 where the first is to be done by itself.
+    // Draws some of the next characters of a span, at most `n`, and returns their number. Returns
+    // 0, with nothing drawn, if the first must be drawn by itself.
     #[inline(always)]
     fn draw_some(&mut self, ram: &[u8], size: u16, font: &Letters, span: Span, n: u16) -> u16
         requires ram { length ram.now ≡ 32768 }
@@ -371,7 +378,7 @@ impl Screen {
         }
     }
 
-    // Draws some of the next characters of a span that is shown, in teletext.
+    // Draws some of the next characters of a shown span, in teletext, and returns their number.
     #[inline(always)]
     fn draw_text(&mut self, ram: &[u8], size: u16, font: &Letters, span: Span, n: u16) -> u16
         requires ram { length ram.now ≡ 32768 }
@@ -405,7 +412,8 @@ impl Screen {
         bytes.count
     }
 
-    // Draws some of the next characters of a span that is shown, without teletext.
+    // Draws some of the next characters of a shown span, without teletext, and returns their
+    // number.
     #[inline(always)]
     fn draw_span(&mut self, ram: &[u8], size: u16, span: Span, n: u16) -> u16
         requires ram { length ram.now ≡ 32768 }
@@ -430,7 +438,8 @@ impl Screen {
         self.put_bytes(ram, size, span.ma, span.ra, seen)
     }
 
-    // Draws the bytes of characters that are in the frame: as many as stand before the end of the RAM, or none where the dots are not ready.
+    // Draws the bytes of `n` characters in the frame, up to the end of the RAM, and returns their
+    // number. Returns 0, with nothing drawn, if the ULA does not have the dots ready.
     #[inline(always)]
     fn put_bytes(&mut self, ram: &[u8], size: u16, ma: u16, ra: u8, n: u16) -> u16
         requires ram { length ram.now ≡ 32768 }
@@ -456,7 +465,7 @@ impl Screen {
         }
     }
 
-    // The beam comes to a character.
+    // Moves the beam to a character.
     fn begin(&mut self, beam: &Beam)
         ensures { self.new ≡ begin_leaves beam.now self.old }
     {
@@ -467,7 +476,7 @@ impl Screen {
         }
     }
 
-    // The working frame becomes the finished one, and a black one is begun.
+    // Finishes the working frame, and begins a black one.
     #[inline(never)]
     fn finish(&mut self)
         ensures { self.new ≡ record self.old { working = black; finished = self.old.working } }
@@ -476,7 +485,7 @@ impl Screen {
         self.working.clear();
     }
 
-    // A character that is not shown draws nothing.
+    // Draws a character, if it is shown.
     #[inline(always)]
     fn show(&mut self, ram: &[u8], size: u16, font: &Letters, beam: &Beam)
         requires ram { length ram.now ≡ 32768 }
@@ -488,7 +497,7 @@ impl Screen {
         }
     }
 
-    // Draws a character that is shown.
+    // Draws a shown character.
     #[inline(always)]
     fn draw(&mut self, ram: &[u8], size: u16, font: &Letters, beam: &Beam)
         requires ram { length ram.now ≡ 32768 }
@@ -527,7 +536,8 @@ impl Screen {
         }
     }
 
-    // The cell of a control code, out of the way of the others.
+    // Draws the cell of a control code. It is not inlined, so that `draw_cell` stays small for the
+    // other codes.
     #[inline(never)]
     fn draw_control(&mut self, font: &Letters, code: u8, ra: u8, fields: u32, marked: bool)
         requires { code < 128 }
@@ -548,7 +558,7 @@ impl Screen {
             .draw(TEXT_LEFT, &self.place, &dots, bit(self.ula.mode(), 4));
     }
 
-    // The beam leaves the character.
+    // Moves the beam past the character.
     fn pass(&mut self, beam: &Beam)
         ensures { self.new ≡ pass_leaves beam.now self.old }
     {

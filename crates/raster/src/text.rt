@@ -10,9 +10,9 @@ use std::marker::Model;
 #[derive(Drop)]
 pub(crate) struct Text {
     codes: RowState,
-    // The row shows the lower halves of characters of double height.
+    // The row shows the lower halves of double-height characters.
     bottom: bool,
-    // One of its lines so far has had a code for double height.
+    // One of the row's lines had a code for double height.
     doubled: bool,
 }
 
@@ -35,7 +35,7 @@ impl Text {
         }
     }
 
-    /// The beam comes to a character: the codes are taken from the start of each line.
+    /// Moves to a character. At the start of a line the codes start again.
     pub(crate) fn meet(&mut self, beam: &Beam)
         ensures { self.new ≡ text_at beam.now self.old }
     {
@@ -44,7 +44,7 @@ impl Text {
         }
     }
 
-    /// Takes the code of a character that is shown, and gives its sixteen colours.
+    /// Takes the code of a shown character, and stores its sixteen colours in `to`.
     #[inline(always)]
     #[tactic(auto, unfolding(crate::specs::Text::codes_after, crate::specs::CodeSteps::cell_on))]
     pub(crate) fn put(&mut self, font: &Letters, code: u8, ra: u8, fields: u32, to: &mut [u8; 16])
@@ -58,7 +58,7 @@ impl Text {
         }
     }
 
-    /// The beam leaves the character, and the row or the frame may end with it.
+    /// Moves past the character. The row or the frame may end with it.
     pub(crate) fn pass(&mut self, beam: &Beam)
         ensures { self.new ≡ text_past beam.now self.old }
     {

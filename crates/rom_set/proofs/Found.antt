@@ -1,4 +1,4 @@
--- The ROM of a slot is at the place that is kept.
+-- The ROM of a slot is at the stored place.
 use Rattle.std.proofs.Common.{ℕ, zero, suc, ◌≡◌, ◌≤◌, ◌<◌, ◌+◌, ◌-◌, refl, ap, sym, ◌∙◌, Bool, true, false, not, List, [], ◌∷◌, Option, Some}
 use Rattle.std.proofs.Common.{None, length, get_or, ◌==◌, ◌||◌, ◌⊎◌, inl, inr, if◌then◌else◌, arith}
 use Rattle.std.proofs.lemmas.Bool.{cases_Bool}
@@ -11,7 +11,7 @@ use Rattle.rom_set.specs.declared.RomError.TheVariants.{BadOs, BadSlot}
 use Rattle.rom_set.specs.Roms.{Rom, rom_seen, roms_seen, in_slot, byte_in, rom_byte, fits, bad_slot, first_refused, bad_font, refusal}
 use Rattle.rom_set.specs.Places.{in_this}
 
--- What a place says of the list from its number i on.
+-- The meaning of a place for the list from its number i on.
 pub record IsAt (t : Rom → Bool) (roms : List Rom) (i place : ℕ) : Type 0 where
   pub low : i ≤ place
   pub within : place - i < length roms
@@ -42,7 +42,7 @@ absent t (r ∷ roms) i e = elim (cases_Bool (t r)) [
   | inr is ↦ rw is (absent t roms (i + 1) (rw is at e))
 ]
 
--- where none passes, each fails
+-- if none passes, each fails
 all-more : (t : Rom → Bool) (r : Rom) (roms : List Rom) → find t (r ∷ roms) ≡ None → (t r ≡ false) × (find t roms ≡ None)
 all-more t r roms e = elim (cases_Bool (t r)) [ inl is ↦ let no : Some r ≡ None = rw is at e in cc | inr is ↦ (is, rw is at e) ]
 
@@ -51,7 +51,7 @@ none-passes t [] k d e low = absurd (omega (arith, low))
 none-passes t (r ∷ roms) zero d e low = (all-more t r roms e).0
 none-passes t (r ∷ roms) (suc k) d e low = none-passes t roms k d (all-more t r roms e).1 (omega (arith, low))
 
--- the bytes of the ROM at the place that is kept
+-- the bytes of the ROM at the stored place
 rom-at : (slots : List (ℕ × Vec ℕ Global)) (place : ℕ) (d : ℕ × Vec ℕ Global) → place < length slots → get_or (roms_seen slots) place (rom_seen d) ≡ rom_seen (get_or slots place d)
 rom-at [] place d low = absurd (omega (arith, low))
 rom-at (s ∷ slots) zero d low = refl
@@ -61,7 +61,7 @@ as-long : (slots : List (ℕ × Vec ℕ Global)) → length (roms_seen slots) �
 as-long [] = refl
 as-long (s ∷ slots) = ap suc (as-long slots)
 
--- it has one of both lengths
+-- the ROM has one of both lengths
 long-by : (n : ℕ) → not (n == 8192 || n == 16384) ≡ false → (n ≡ 8192) ⊎ (n ≡ 16384)
 long-by n e = grind (arith, common_steps)
 

@@ -1,4 +1,4 @@
--- One more place is kept.
+-- One more place is stored.
 use Rattle.std.proofs.Common.{ℕ, ◌≡◌, ◌<◌, ◌+◌, ◌==◌, refl, ap, sym, ◌∙◌, Bool, true, false, cond, List, ◌∷◌, Option, Some, None, length, get_or, drop, add-one, drop-cons, arith}
 use Rattle.std.proofs.Math.ListN.{set}
 use Rattle.std.proofs.lemmas.Grind.{common_steps}

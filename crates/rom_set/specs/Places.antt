@@ -1,4 +1,4 @@
--- What the code of a set of images keeps: where in the list the ROM of each slot is.
+-- The place in the list of each slot's ROM, as the code stores it.
 use Rattle.std.specs.Prelude.{ℕ, ◌≡◌, ◌<◌, ◌==◌, Bool, List, Option, None, Vec, slice_index_or}
 use Rattle.std.specs.List.{position_from}
 use Rattle.std.specs.declared.alloc.Global.{Global}

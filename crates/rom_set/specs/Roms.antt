@@ -1,5 +1,6 @@
--- The images of the host's ROMs and of its teletext font. (Acorn, BBC Microcomputer Advanced User Guide, paged ROMs; sixteen separate
--- slots, and FF where one is empty, are this project's profile, as is the layout of the font's image.)
+-- The images of the host's ROMs and of its teletext font. (Acorn, BBC Microcomputer Advanced User
+-- Guide, paged ROMs. Sixteen separate slots, FF for an empty one, and the layout of the font's
+-- image are this project's profile.)
 use Rattle.std.specs.Prelude.{ℕ, ◌+◌, ◌-◌, ◌*◌, ◌==◌, ◌||◌, Bool, not, List, ◌++◌, Option, None, Some, option_map, Vec, length, find, map, slice_index, if◌then◌else◌}
 use Rattle.std.specs.Option.{option_or}
 use Rattle.std.specs.declared.alloc.Global.{Global}
@@ -11,8 +12,8 @@ pub record Rom : Type 0 where
   pub slot : ℕ
   pub bytes : List ℕ
 
--- What contracts see of a set: the operating system's ROM, those of the slots in the order in which they were handed in, and the
--- image of the teletext font, if there is one.
+-- A set as contracts see it: the operating system's ROM, the ROMs of slots in the order of the
+-- list, and the image of the teletext font, if there is one.
 pub record Roms : Type 0 where
   pub os : List ℕ
   pub slots : List Rom
@@ -24,29 +25,30 @@ rom_seen rom = record { slot = rom.0; bytes = rom.1.items }
 abbrev pub roms_seen : List (ℕ × Vec ℕ Global) → List Rom
 roms_seen slots = map rom_seen slots
 
--- A ROM of 8,192 bytes stands twice in its slot, which has room for 16,384.
+-- A ROM of 8,192 bytes is twice in its slot, which has room for 16,384.
 abbrev pub in_slot : List ℕ → List ℕ
 in_slot bytes = if length bytes == 8192 then bytes ++ bytes else bytes
 
--- FF where no ROM is in the slot
+-- FF if the slot has no ROM
 abbrev pub byte_in : Option Rom → ℕ → ℕ
 byte_in None at = 0xFF
 byte_in (Some rom) at = slice_index (in_slot rom.bytes) at
 
--- The byte of a slot. Of two ROMs for one slot the first is in it.
+-- The byte of a slot. If two ROMs are for one slot, the first is in it.
 abbrev pub rom_byte : List Rom → ℕ → ℕ → ℕ
 rom_byte roms slot at = byte_in (find (λ rom. rom.slot == slot) roms) at
 
 abbrev pub font_seen : Option (Vec ℕ Global) → Option (List ℕ)
 font_seen font = option_map (λ bytes. bytes.items) font
 
--- A row of a character's shape, the rows from the top: the font has ten bytes a code, from code 20 on. Without a font all is blank.
+-- A row of a character's shape, counted from the top. The font has ten bytes a code, from code 20
+-- on. Without a font all is blank.
 abbrev pub font_shape : Option (List ℕ) → ℕ → ℕ → ℕ
 font_shape None code row = 0
 font_shape (Some font) code row = slice_index font ((code - 0x20) * 10 + row)
 
--- Which images are refused: an operating system of another length than 16,384 bytes, or else the first ROM that has neither 8,192 nor
--- 16,384 of them, or else a font of another length than 960 bytes.
+-- The first image that is refused, in this order: an operating system that is not 16,384 bytes
+-- long, the first ROM that is not 8,192 or 16,384 bytes long, a font that is not 960 bytes long.
 abbrev pub fits : Rom → Bool
 fits rom = length rom.bytes == 8192 || length rom.bytes == 16384
 

@@ -9,45 +9,45 @@ ghost use Rattle.rom_set.specs.Places.{IsPlaced};
 use std::marker::Model;
 use thiserror::Error;
 
-/// How many bytes the operating system's ROM has, and how many a slot has room for.
+/// The bytes of the operating system's ROM, and of a slot.
 const ROM_SIZE: usize = 16_384;
 
-/// How many bytes a ROM of half that size has.
+/// The bytes of a ROM of half that size.
 const HALF_SIZE: usize = 8_192;
 
-/// How many slots there are.
+/// The number of slots.
 const SLOTS: usize = 16;
 
-/// How many bytes the font has: ten rows for each code from 20 to 7F.
+/// The bytes of the font: ten rows for each code from 20 to 7F.
 const FONT_SIZE: usize = 960;
 
-/// How many rows the shape of a character has.
+/// The rows of a character's shape.
 const FONT_ROWS: usize = 10;
 
-/// The code whose shape stands first in the font.
+/// The code of the font's first shape.
 const FIRST_CODE: u8 = 0x20;
 
-/// Why a set of images is refused.
+/// The reason for which a set of images is refused.
 #[derive(Clone, Copy, Debug, PartialEq, Eq, Error)]
 pub enum RomError {
-    /// The operating system's ROM has another length than 16,384 bytes.
+    /// The operating system's ROM is not 16,384 bytes long.
     #[error("the operating system has {len} bytes")]
     BadOs { len: u64 },
-    /// A slot's ROM has neither 8,192 nor 16,384 bytes.
+    /// A slot's ROM is not 8,192 or 16,384 bytes long.
     #[error("the ROM of slot {slot} has {len} bytes")]
     BadSlot { slot: u8, len: u64 },
-    /// The font has another length than 960 bytes.
+    /// The font is not 960 bytes long.
     #[error("the font has {len} bytes")]
     BadFont { len: u64 },
 }
 
-/// The operating system's ROM, and those of the sixteen slots (Acorn, BBC Microcomputer Advanced User Guide, paged ROMs), and the
-/// font of the teletext characters, if there is one.
+/// The operating system's ROM, those of the sixteen slots (Acorn, BBC Microcomputer Advanced User
+/// Guide, paged ROMs), and the font of the teletext characters, if there is one.
 #[derive(Drop)]
 pub struct RomSet {
     os: Vec<u8>,
     slots: Vec<(u8, Vec<u8>)>,
-    // Where in the list the ROM of each slot is.
+    // The place in the list of each slot's ROM.
     places: [Option<usize>; SLOTS],
     font: Option<Vec<u8>>,
 }
@@ -64,7 +64,8 @@ impl Model for RomSet {
     ghost invariant = { λ r. (refusal r.os.items (roms_seen r.slots.items) (font_seen r.font) ≡ None) × IsPlaced r.slots.items r.places };
 }
 
-/// The first ROM that has neither of both lengths, as the reason.
+/// Tests the lengths of the slots' ROMs. Returns the first that is not 8,192 or 16,384 bytes long
+/// as an error.
 fn test_slots(slots: &[(u8, Vec<u8>)]) -> Result<(), RomError>
     ensures { MatchResult result (λ _. first_refused (roms_seen slots.now) ≡ None) (λ e. first_refused (roms_seen slots.now) ≡ Some e) }
 {
@@ -80,7 +81,8 @@ fn test_slots(slots: &[(u8, Vec<u8>)]) -> Result<(), RomError>
     Ok(())
 }
 
-/// Where the ROM of each slot is. It goes backwards, so that the first of two for one slot stands.
+/// Returns the place in the list of each slot's ROM. It goes backwards, so that the first of two
+/// ROMs for one slot remains.
 fn places(slots: &[(u8, Vec<u8>)]) -> [Option<usize>; SLOTS]
     requires { All (λ slot. slot.0 < 16) slots.now }
     ensures { IsPlaced slots.now result }
@@ -94,7 +96,7 @@ fn places(slots: &[(u8, Vec<u8>)]) -> [Option<usize>; SLOTS]
     places
 }
 
-/// The byte of a slot with this ROM.
+/// Returns a byte of a slot with the ROM `bytes`.
 #[inline(always)]
 fn byte_of(bytes: &[u8], at: u16) -> u8
     requires length { (length bytes.now ≡ HALF_SIZE) ⊎ (length bytes.now ≡ ROM_SIZE) }
@@ -109,7 +111,7 @@ fn byte_of(bytes: &[u8], at: u16) -> u8
     }
 }
 
-/// A font has ten bytes for each of its codes.
+/// Tests that a font has ten bytes for each of its codes.
 fn test_font(font: &Option<Vec<u8>>) -> Result<(), RomError>
     ensures { MatchResult result (λ _. bad_font (font_seen font.now) ≡ None) (λ e. bad_font (font_seen font.now) ≡ Some e) }
 {
@@ -122,13 +124,14 @@ fn test_font(font: &Option<Vec<u8>>) -> Result<(), RomError>
 }
 
 impl RomSet {
-    /// The set of an operating system's ROM, the ROMs of some slots, each with the number of its slot, below 16, and perhaps a font. A
-    /// ROM of 8,192 bytes stands twice in its slot, and of two for one slot the first is in it. A font has ten bytes for each code
-    /// from 20 on.
+    /// Makes the set of an operating system's ROM, the ROMs of some slots, each with its slot's
+    /// number below 16, and perhaps a font. A ROM of 8,192 bytes is twice in its slot. If two are
+    /// for one slot, the first is in it. A font has ten bytes for each code from 20 on.
     ///
     /// # Errors
-    /// `BadOs` exactly where the operating system is not 16,384 bytes long, and else `BadSlot` exactly at the first ROM that is
-    /// neither 8,192 nor 16,384 bytes long, and else `BadFont` exactly where the font is not 960 bytes long.
+    /// `BadOs` exactly if the operating system is not 16,384 bytes long. Otherwise `BadSlot`
+    /// exactly at the first ROM that is not 8,192 or 16,384 bytes long. Otherwise `BadFont` exactly
+    /// if the font is not 960 bytes long.
     pub fn read(
         os: Vec<u8>,
         slots: Vec<(u8, Vec<u8>)>,
@@ -155,7 +158,8 @@ impl RomSet {
         })
     }
 
-    /// The ROM of a slot below 16, of 8,192 or 16,384 bytes. None where the slot is empty.
+    /// Returns the ROM of a slot below 16, of 8,192 or 16,384 bytes. Returns `None` if the slot is
+    /// empty.
     pub fn rom(&self, slot: u8) -> Option<&[u8]>
         requires { slot < 16 }
         ensures bytes { MatchOption result ((at : ℕ) → rom_byte self.now.slots slot at ≡ 0xFF)
@@ -168,7 +172,7 @@ impl RomSet {
         }
     }
 
-    /// A byte of a slot below 16, `at` from the slot's start on, below 16,384; FF where the slot is empty.
+    /// Returns byte `at`, below 16,384, of a slot below 16, or FF if the slot is empty.
     #[inline(always)]
     pub fn byte(&self, slot: u8, at: u16) -> u8
         requires slot { slot < 16 }
@@ -181,7 +185,7 @@ impl RomSet {
         }
     }
 
-    /// A byte of the operating system, `at` from its start on, below 16,384.
+    /// Returns byte `at`, below 16,384, of the operating system.
     #[inline(always)]
     pub fn os(&self, at: u16) -> u8
         requires { at < 16384 }
@@ -190,8 +194,8 @@ impl RomSet {
         self.os[at as usize]
     }
 
-    /// A row of the shape of a code from 20 to 7F, the rows from 0 at the top to 9: bit 5 is the leftmost of six dots. Without a font
-    /// all shapes are blank.
+    /// Returns a row of the shape of a code from 20 to 7F. Row 0 is the top and row 9 the bottom,
+    /// and bit 5 is the leftmost of six dots. Without a font all shapes are blank.
     #[inline(always)]
     pub fn shape(&self, code: u8, row: u8) -> u8
         requires code { (0x20 ≤ code) × (code ≤ 0x7F) }

@@ -34,11 +34,11 @@ at_once code low e =
     let both = agree_below_at (λ k. holds_at_once controls k && nat_lt k 0x20) (holds_at_once controls) 128 code refl low in
     (and_parts (holds_at_once controls code) (nat_lt code 0x20) (both ∙ e)).1
 
--- what holds in the code's own cell, and what is left after it, are all of it
+-- the effect in the code's own cell and that after it are the whole effect
 pub in_two_parts : (code : ℕ) (s : Style) → code < 128 → style_past code (style_at code s) ≡ style_after code s
 in_two_parts code s low = elim (cases_Bool (holds_at_once controls code)) [ inl h ↦ rw (h, at_once code low h) | inr h ↦ rw h ]
 
--- a code that is no control code changes nothing of its own cell's style, and is none for double height
+-- a code that is no control code does not change its own cell's style, and is no double-height code
 pub kept_in_its_cell : (code : ℕ) (s : Style) → 0x20 ≤ code → code < 128 → s ≡ style_at code s
 kept_in_its_cell code s above low = elim (cases_Bool (holds_at_once controls code)) [
   | inl h ↦ let control = at_once code low h in let none = le-ltb code 0x20 above in cc

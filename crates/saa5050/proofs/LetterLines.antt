@@ -1,4 +1,4 @@
--- The lines of the letters one after another: one more, and one that is looked up.
+-- The lines of the letters in the table: one more, and a look-up.
 use Rattle.std.proofs.Common.{ℕ, ◌≡◌, ◌<◌, ◌≤◌, ◌+◌, ◌-◌, ◌*◌, ◌/◌, ◌%◌, ap, ◌∙◌, List, length, inl, inr, slice_index, slice_set, arith}
 use Rattle.std.proofs.lemmas.Bool.{cases_eq}
 use Rattle.std.proofs.lemmas.List.{get_or-set_same, get_or-set_other}

@@ -1,4 +1,4 @@
--- Cells of letters in their usual way.
+-- Cells of steady letters of normal height.
 use Rattle.std.proofs.Common.{ℕ, ◌≡◌, refl, ◌∙◌, Bool, false}
 use Rattle.std.specs.Prelude.{nat_lt, nat_le}
 use Rattle.std.proofs.lemmas.Bool.{or_parts}

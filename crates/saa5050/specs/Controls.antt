@@ -1,9 +1,11 @@
--- The control codes of a teletext row: what each makes of the row's style, and from where on. (SAA5050 data sheet, control characters;
--- from where on each holds, and what they make of the held shape, is this project's profile.)
+-- The control codes of a teletext row: the effect of each on the row's style, and the first cell
+-- that has it. (SAA5050 data sheet, control characters; that first cell and the effect on the held
+-- shape are this project's profile.)
 use Rattle.std.specs.Prelude.{ℕ, ◌%◌, ◌&&◌, nat_le, Bool, true, false, List, [], ◌∷◌, None, if◌then◌else◌}
 use Rattle.saa5050.specs.declared.style.Style.{Style}
 
--- at a row's start: white letters on black, steady, shown, of normal height; contiguous graphics that are not held, and no shape to hold
+-- at a row's start: white letters on black, steady, not concealed, of normal height; contiguous
+-- graphics, released, and no held shape
 abbrev pub plain : Style
 plain = record {
   foreground = 7;
@@ -17,7 +19,7 @@ plain = record {
   held = None;
 }
 
--- The effects. A code that names a colour has it in its low three bits, and ends concealing.
+-- The effects. The low three bits of a colour code are its colour. Such a code ends conceal.
 abbrev pub letters : ℕ → Style → Style
 letters code s = record s { graphics = false; foreground = code % 8; concealed = false; held = None }
 
@@ -58,8 +60,8 @@ hold_graphics code s = record s { holding = true }
 abbrev pub release_graphics : ℕ → Style → Style
 release_graphics code s = record s { holding = false }
 
--- A line of the table: the first and the last of its codes, their effect, and whether it holds for the code's own cell already, or only
--- for those after it.
+-- A line of the table: the first and the last of its codes, and their effect. If `at_once`, the
+-- effect holds from the code's own cell on, otherwise from the next cell on.
 pub record Control : Type 0 where
   pub first : ℕ
   pub last : ℕ
@@ -93,12 +95,12 @@ controls =
 abbrev pub has : Control → ℕ → Bool
 has control code = nat_le control.first code && nat_le code control.last
 
--- what a code of these lines makes of the style; it stays where no line has the code
+-- the style after a code, by the lines of a table; it does not change if no line has the code
 abbrev pub effect_of : List Control → ℕ → Style → Style
 effect_of [] code s = s
 effect_of (c ∷ controls) code s = if has c code then c.effect code s else effect_of controls code s
 
--- whether a code of these lines holds for its own cell
+-- the line of a code in a table holds for the code's own cell
 abbrev pub holds_at_once : List Control → ℕ → Bool
 holds_at_once [] code = false
 holds_at_once (c ∷ controls) code = if has c code then c.at_once else holds_at_once controls code

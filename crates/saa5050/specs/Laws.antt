@@ -7,6 +7,6 @@ use Rattle.saa5050.specs.Row.{row_of, row_after}
 abbrev pub OneCodeMore : Type 0
 OneCodeMore = (codes : List ℕ) (code : ℕ) → row_of (codes ++ code ∷ []) ≡ row_after code (row_of codes)
 
--- A row has a code of double height where one of its codes is 0D.
+-- A row has a double-height code if one of its codes is 0D.
 abbrev pub DoubleIsAmongCodes : Type 0
 DoubleIsAmongCodes = (codes : List ℕ) → (row_of codes).had_double ≡ list_any (λ code. code == 0x0D) codes

@@ -10,7 +10,7 @@ use crate::style::{Shape, Style};
 use beeb_bits::bit;
 use rom_set::RomSet;
 
-/// How many rows of dots a letter has.
+/// The rows of dots of a letter.
 const ROWS: u8 = 10;
 
 /// Six dots, each of them twice: a row of a letter in half dots.
@@ -22,7 +22,7 @@ static DOUBLED: [u16; 64] = [
     0xf30, 0xf33, 0xf3c, 0xf3f, 0xfc0, 0xfc3, 0xfcc, 0xfcf, 0xff0, 0xff3, 0xffc, 0xfff,
 ];
 
-// A row of a letter's dots. Those outside 0 to 9 are blank.
+// Returns a row of a letter's dots. Rows outside 0 to 9 are blank.
 fn letter_row(font: &RomSet, code: u8, row: u8) -> u8
     requires code { (0x20 ≤ code) × (code ≤ 0x7F) }
     ensures { result ≡ letter_row font.now.font code row }
@@ -30,7 +30,7 @@ fn letter_row(font: &RomSet, code: u8, row: u8) -> u8
     if row < ROWS { font.shape(code, row) } else { 0 }
 }
 
-// The row of a letter's dots that a line is rounded by.
+// Returns the row of a letter's dots that rounds a line.
 fn near_row(font: &RomSet, code: u8, line: u8) -> u8
     requires code { (0x20 ≤ code) × (code ≤ 0x7F) }
     ensures { result ≡ near_row font.now.font code line }
@@ -45,7 +45,7 @@ fn near_row(font: &RomSet, code: u8, line: u8) -> u8
     }
 }
 
-// The dots of a row, each of them twice.
+// Returns the dots of a row, each of them twice.
 fn doubled(row: u8) -> u16
     ensures line { IsLine result (doubled_dot row) }
     ensures bound { result < 4096 }
@@ -53,8 +53,8 @@ fn doubled(row: u8) -> u16
     DOUBLED[(row % 64) as usize]
 }
 
-// A row of dots, rounded by the row near it. The half dot to the side is of the same dot or of the next: of the same dot, it changes
-// nothing, so that all twelve are done at once.
+// Returns a row of dots, rounded by the row near it. A shift by one half dot reaches the dot beside
+// it or its own dot. Its own dot changes nothing, so all twelve half dots are done at once.
 fn rounded(row: u8, near: u8) -> u16
     ensures { IsLine result (rounded_dot row near) }
 {
@@ -63,7 +63,7 @@ fn rounded(row: u8, near: u8) -> u16
     dots | (dots * 2 & (near ^ (near & near * 2))) | (dots / 2 & (near ^ (near & near / 2)))
 }
 
-// The two columns of a block, as one or with gaps.
+// Returns the two columns of a sixel, with or without gaps.
 #[inline(always)]
 fn columns(left: bool, right: bool, separated: bool) -> u16
     ensures { IsLine result (columns left right separated) }
@@ -79,7 +79,7 @@ fn columns(left: bool, right: bool, separated: bool) -> u16
     }
 }
 
-// The bits of a code for the left and the right part of a line.
+// Returns the bits of a code for the left and the right part of a line.
 fn parts(line: u8) -> (u8, u8)
     ensures left { result.0 ≡ part_bit line 0 }
     ensures right { result.1 ≡ part_bit line 6 }
@@ -94,14 +94,14 @@ fn parts(line: u8) -> (u8, u8)
     }
 }
 
-// A line between two parts, or below the last.
+// Reports if a line is between two parts, or the end of the last.
 fn is_gap(line: u8) -> bool
     ensures { result ≡ is_among line gap_lines }
 {
     matches!(line, 4 | 5 | 12 | 13 | 18 | 19)
 }
 
-// A line of a block of six parts.
+// Returns a line of a sixel.
 #[inline(always)]
 fn sixel(code: u8, separated: bool, line: u8) -> u16
     ensures { IsLine result (sixel_dot code separated line) }
@@ -114,7 +114,7 @@ fn sixel(code: u8, separated: bool, line: u8) -> u16
     }
 }
 
-/// A line of a letter, made of the rows of the font.
+/// Returns a line of a letter, from the rows of the font.
 pub(crate) fn rounded_line(font: &RomSet, code: u8, line: u8) -> u16
     requires code { (0x20 ≤ code) × (code ≤ 0x7F) }
     ensures { IsLine result (letter_dot font.now.font code line) }
@@ -122,8 +122,8 @@ pub(crate) fn rounded_line(font: &RomSet, code: u8, line: u8) -> u16
     rounded(letter_row(font, code, line / 2), near_row(font, code, line))
 }
 
-/// The half dots of the cell of a code on a line of the row, in its style there: the leftmost is bit 11. Most are those of letters of
-/// normal height that are shown.
+/// Returns the half dots of the cell of a code on a line of the row, with the cell's style: the
+/// leftmost is bit 11. Most cells are letters of normal height that are shown.
 #[inline(always)]
 pub(crate) fn half_dots(
     style: &Style,
@@ -143,7 +143,7 @@ pub(crate) fn half_dots(
     }
 }
 
-// The half dots of any cell.
+// Returns the half dots of any cell.
 #[inline(always)]
 fn special_dots(style: &Style, font: &Letters, code: u8, ra: u8, bottom: bool, fields: u32) -> u16
     requires { code < 0x80 }
@@ -160,7 +160,7 @@ fn special_dots(style: &Style, font: &Letters, code: u8, ra: u8, bottom: bool, f
     }
 }
 
-// The colour of a half dot.
+// Returns the colour of a half dot.
 #[inline(always)]
 fn colour(dots: u16, place: u8, foreground: u8, background: u8) -> u8
     requires { place < 12 }
@@ -173,7 +173,8 @@ fn colour(dots: u16, place: u8, foreground: u8, background: u8) -> u8
     }
 }
 
-/// The pixels of a line of a cell, the leftmost first: three half dots are four pixels, of which the first two show the first.
+/// Returns the pixels of a line of a cell, the leftmost first. Three half dots become four pixels,
+/// and the first two of these show the first half dot.
 #[inline(always)]
 pub(crate) fn pixels(dots: u16, foreground: u8, background: u8) -> [u8; 16]
     ensures { result ≡ line_pixels (λ x. bit dots (11 - x)) foreground background }

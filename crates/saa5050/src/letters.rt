@@ -13,17 +13,17 @@ use std::marker::Model;
 /// The code of the first letter.
 const FIRST: u8 = 0x20;
 
-/// How many lines each has.
+/// The lines of a letter.
 const LINES: usize = 20;
 
-/// How many lines all of them have.
+/// The lines of all letters.
 const SIZE: usize = 1_920;
 
-/// A set of ROM images, with the lines of the letters of its font as half dots, made once.
+/// A set of ROM images, with the lines of its font's letters as half dots, made once.
 #[derive(Drop)]
 pub struct Letters {
     roms: RomSet,
-    // Of each letter its lines, from the top: twelve half dots each, the leftmost in bit 11.
+    // The lines of each letter, from the top: twelve half dots each, the leftmost in bit 11.
     lines: Vec<u16>,
 }
 
@@ -38,7 +38,7 @@ impl Model for Letters {
     ghost invariant = { λ l. AreLetters l.roms.font l.lines.items };
 }
 
-// The lines of all letters.
+// Makes the lines of all letters.
 fn all_lines(alloc: Global, roms: &RomSet) -> Result<Vec<u16>, NoMemory>
     ensures { IfOk result (λ lines. AreLetters roms.now.font lines.items) }
 {
@@ -49,7 +49,7 @@ fn all_lines(alloc: Global, roms: &RomSet) -> Result<Vec<u16>, NoMemory>
     Ok(lines)
 }
 
-// One line of them.
+// Returns one of the lines.
 #[inline(always)]
 fn line_at(lines: &[u16], place: usize) -> u16
     requires { place < length lines.now }
@@ -59,10 +59,10 @@ fn line_at(lines: &[u16], place: usize) -> u16
 }
 
 impl Letters {
-    /// The letters of the font of these images.
+    /// Makes the letters of the font of `roms`.
     ///
     /// # Errors
-    /// Want of memory.
+    /// Out of memory.
     pub fn make(alloc: Global, roms: RomSet) -> Result<Letters, NoMemory>
         ensures { IfOk result (λ letters. letters ≡ roms) }
     {
@@ -70,7 +70,7 @@ impl Letters {
         Ok(Letters { roms, lines })
     }
 
-    /// The images.
+    /// Returns the images.
     #[inline(always)]
     pub fn roms(&self) -> &RomSet
         ensures { result.now ≡ self.now }
@@ -78,7 +78,7 @@ impl Letters {
         &self.roms
     }
 
-    /// A line of a letter.
+    /// Returns a line of a letter.
     #[inline(always)]
     pub(crate) fn line(&self, code: u8, line: u8) -> u16
         requires code { (0x20 ≤ code) × (code ≤ 0x7F) }

@@ -1,5 +1,5 @@
-//! The SAA5050, the character generator of teletext (SAA5050 data sheet): the codes of a row one after another, and the pixels of each
-//! on a line.
+//! The SAA5050, the teletext character generator (SAA5050 data sheet): the codes of a row, one
+//! after another, and the pixels of each on a line.
 #![tactic(auto)]
 
 mod dots;

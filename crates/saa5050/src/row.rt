@@ -7,7 +7,7 @@ use crate::letters::Letters;
 use crate::style::Style;
 use std::marker::Model;
 
-/// What the codes of a teletext row so far leave for its cells to come.
+/// The state after some codes of a teletext row, for the cells to come.
 #[derive(Drop)]
 pub struct RowState {
     style: Style,
@@ -22,7 +22,7 @@ impl Model for RowState {
     ghost view = { λ s. record { style = s.style; had_double = s.had_double } };
 }
 
-// The pixels of the cell of a code, in its style there.
+// Returns the pixels of the cell of a code, with the cell's style.
 #[inline(always)]
 fn styled_cell(
     style: &Style,
@@ -40,7 +40,8 @@ fn styled_cell(
 }
 
 impl RowState {
-    /// The state at a row's start: white letters on black, steady, shown, of normal height.
+    /// Returns the state at a row's start: white letters on black, steady, not concealed, of normal
+    /// height.
     pub fn start() -> RowState
         ensures { result ≡ row_start }
     {
@@ -50,8 +51,9 @@ impl RowState {
         }
     }
 
-    /// Takes the next code of the row, below 80, and gives the sixteen colours of its cell on the scan line `ra`, the leftmost first.
-    /// `bottom` says that the row has the lower halves of the row above, and flashing goes by the number of fields.
+    /// Takes the next code of the row, below 80, and stores the sixteen colours of its cell on the
+    /// scan line `ra`, the leftmost first. If `bottom`, the row shows the lower halves of the row
+    /// above. The number of fields times the flashing.
     #[inline(always)]
     pub fn put(
         &mut self,
@@ -73,7 +75,7 @@ impl RowState {
         }
     }
 
-    // Any code.
+    // Takes any code.
     #[inline(never)]
     #[tactic(auto, using(crate::proofs::Codes::in_two_parts))]
     fn put_control(
@@ -95,7 +97,7 @@ impl RowState {
         self.had_double = self.had_double || code == 0x0d;
     }
 
-    // A code that is no control code.
+    // Takes a code that is no control code.
     #[inline(always)]
     #[tactic(auto, using(crate::proofs::Codes::kept_in_its_cell, crate::proofs::Codes::none_for_double))]
     fn put_character(
@@ -115,7 +117,7 @@ impl RowState {
         self.style.take(code);
     }
 
-    /// Whether one of the codes so far was 0D, double height.
+    /// Reports if one of the codes was 0D, double height.
     #[inline(always)]
     pub fn had_double(&self) -> bool
         ensures { result ≡ self.now.had_double }

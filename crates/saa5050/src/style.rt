@@ -1,21 +1,21 @@
-//! What the control codes of a row make of the cells to come.
+//! The style of the cells to come, by the control codes of a row.
 ghost use Rattle.std.specs.Prelude.{◌≡◌, ◌<◌};
 ghost use Rattle.saa5050.specs.Controls.{plain, letters, graphics, normal_height, double_height, controls, effect_of, holds_at_once};
 ghost use Rattle.saa5050.specs.Row.{is_sixel, sixel_of, held_shape, style_at, style_after, shape_of, shape_line, is_blank};
 ghost use Rattle.saa5050.specs.CodeSteps.{style_past, is_special};
 ghost use Rattle.saa5050.specs.CodeDots.{IsInFont};
 
-/// How many lines a cell has.
+/// The lines of a cell.
 const LINES: u8 = 20;
 
-/// A block of six parts, those that a code turns on, as one or with gaps between them.
+/// A block of six parts, turned on by the bits of a code, with or without gaps between them.
 #[derive(Clone, Copy)]
 pub struct Sixel {
     pub code: u8,
     pub separated: bool,
 }
 
-/// What a cell shows.
+/// The shape in a cell.
 #[derive(Clone, Copy)]
 pub enum Shape {
     /// Nothing.
@@ -26,26 +26,26 @@ pub enum Shape {
     Graphic(Sixel),
 }
 
-/// How the cells to come are shown.
+/// The style of the cells to come.
 #[derive(Clone, Copy)]
 pub struct Style {
     /// The colours, by their numbers from 0 to 7.
     pub foreground: u8,
     pub background: u8,
-    /// Codes are graphics, else letters.
+    /// Codes are graphics, otherwise letters.
     pub graphics: bool,
     pub flashing: bool,
     pub concealed: bool,
-    /// Of double height.
+    /// Double height.
     pub double: bool,
-    /// Graphics with gaps between their parts.
+    /// Graphics have gaps between their parts.
     pub separated: bool,
-    /// Control codes show the held shape, which is blank where there is none.
+    /// Control codes show the held shape, which is blank if there is none.
     pub holding: bool,
     pub held: Option<Sixel>,
 }
 
-/// A code of the table that holds for its own cell already.
+/// Reports if a control code is set-at: it holds from its own cell on.
 #[inline(always)]
 fn holds_at_once(code: u8) -> bool
     ensures { result ≡ holds_at_once controls code }
@@ -53,7 +53,7 @@ fn holds_at_once(code: u8) -> bool
     matches!(code, 0x09 | 0x0c | 0x18 | 0x19 | 0x1a | 0x1c | 0x1d | 0x1e)
 }
 
-/// In graphics the code is a block of six parts.
+/// Reports if the code is a sixel in graphics.
 #[inline(always)]
 fn is_sixel(code: u8) -> bool
     ensures { result ≡ is_sixel code }
@@ -61,7 +61,7 @@ fn is_sixel(code: u8) -> bool
     matches!(code, 0x20..=0x3f | 0x60..=0x7f)
 }
 
-// A held shape in a cell.
+// Returns the held shape as that of a cell.
 fn held_shape(held: Option<Sixel>) -> Shape
     ensures shape { result ≡ held_shape held }
     ensures letter { IsInFont result }
@@ -73,7 +73,7 @@ fn held_shape(held: Option<Sixel>) -> Shape
 }
 
 impl Style {
-    /// The style at a row's start.
+    /// Returns the style at a row's start.
     pub(crate) fn plain() -> Style
         ensures { result ≡ plain }
     {
@@ -90,7 +90,7 @@ impl Style {
         }
     }
 
-    // Letters in the colour of a code.
+    // Selects letters, in the colour of a code.
     fn letters(&mut self, code: u8)
         ensures { self.new ≡ letters code self.old }
     {
@@ -100,7 +100,7 @@ impl Style {
         self.held = None;
     }
 
-    // Graphics in the colour of a code.
+    // Selects graphics, in the colour of a code.
     fn graphics(&mut self, code: u8)
         ensures { self.new ≡ graphics code self.old }
     {
@@ -109,7 +109,7 @@ impl Style {
         self.concealed = false;
     }
 
-    // A change of the height makes the held shape blank.
+    // Selects normal height. A change of the height makes the held shape blank.
     fn normal_height(&mut self)
         ensures { self.new ≡ normal_height 0x0C self.old }
     {
@@ -128,7 +128,7 @@ impl Style {
         }
     }
 
-    // What a control code makes of the style.
+    // Does the effect of a control code.
     #[inline(never)]
     fn obey(&mut self, code: u8)
         ensures { self.new ≡ effect_of controls code self.old }
@@ -151,7 +151,7 @@ impl Style {
         }
     }
 
-    // The block of a code, in the style's graphics.
+    // Returns the sixel of a code, separated or contiguous.
     #[inline(always)]
     fn sixel(&self, code: u8) -> Sixel
         ensures { result ≡ sixel_of code self.now }
@@ -162,7 +162,7 @@ impl Style {
         }
     }
 
-    /// What any code leaves for the cells after it.
+    /// Takes a code: the style becomes that of the cells after it.
     #[inline(always)]
     pub(crate) fn take(&mut self, code: u8)
         ensures { self.new ≡ style_after code self.old }
@@ -174,7 +174,7 @@ impl Style {
         }
     }
 
-    /// The style of a code's own cell.
+    /// Does the effect of a set-at code, for the code's own cell.
     #[inline(always)]
     pub(crate) fn come_to(&mut self, code: u8)
         ensures { self.new ≡ style_at code self.old }
@@ -184,7 +184,7 @@ impl Style {
         }
     }
 
-    /// After its own cell, a code that did not hold there holds for the cells to come.
+    /// Does the effect of any other code, after the code's own cell.
     #[inline(always)]
     pub(crate) fn leave(&mut self, code: u8)
         ensures { self.new ≡ style_past code self.old }
@@ -194,7 +194,7 @@ impl Style {
         }
     }
 
-    /// What the cell of a code shows, in its style there.
+    /// Returns the shape in the cell of a code, with the cell's style.
     #[inline(always)]
     pub(crate) fn shape(&self, code: u8) -> Shape
         requires { code < 0x80 }
@@ -214,7 +214,8 @@ impl Style {
         }
     }
 
-    /// The cell of a code may show something else than a letter, or a letter in another way than most.
+    /// Reports if the cell of a code may show something other than a steady letter of normal
+    /// height.
     #[inline(always)]
     pub(crate) fn is_special(&self, code: u8, ra: u8, bottom: bool) -> bool
         ensures { result ≡ is_special code ra bottom self.now }
@@ -228,7 +229,7 @@ impl Style {
             || self.double
     }
 
-    /// The line of the shape that is shown on a line of the row.
+    /// Returns the line of the shape for a line of the row.
     #[inline(always)]
     pub(crate) fn line(&self, ra: u8, bottom: bool) -> u8
         ensures { result ≡ shape_line self.now ra bottom }
@@ -242,7 +243,7 @@ impl Style {
         }
     }
 
-    /// Nothing of a cell is shown on a line of the row.
+    /// Reports if a cell is blank on a line of the row.
     #[inline(always)]
     pub(crate) fn is_blank(&self, ra: u8, bottom: bool, fields: u32) -> bool
         ensures { result ≡ is_blank self.now ra bottom fields }

@@ -13,12 +13,13 @@ le_true a b h = grind (arith, nat_tests)
 pub le_false : (a b : ℕ) → b < a → nat_le a b ≡ false
 le_false a b h = grind (arith, nat_tests)
 
--- What is left to do of these writes, whose chip is c, is what is left of others whose chip is d.
+-- These writes of chip c and the others of chip d lead to the same state, and leave the same
+-- writes.
 pub record SameEnd (m : ℕ) (writes : List SoundWrite) (c : State) (others : List SoundWrite) (d : State) : Type 0 where
   pub chip : caught_up m writes c ≡ caught_up m others d
   pub left : pending_writes m writes ≡ pending_writes m others
 
--- what the first write makes of the words, if it is due or not
+-- the definitions by the first write, if it is due and if it is not
 pub now_chip : (m : ℕ) (behind : List SoundWrite) (w : SoundWrite) (c : State) → w.moment ≤ m → caught_up m (w ∷ behind) c ≡ caught_up m behind (write_leaves w.byte c)
 unfolding caught_up
 now_chip m behind w c now = rw (le_true w.moment m now) refl

@@ -42,7 +42,7 @@ passes_none white zero k r some within = absurd (omega (arith, within))
 passes_none white (suc n) zero r some within = not_yet white n r some
 passes_none white (suc n) (suc k) r some within = passes_none white n k (shift_leaves white r) (walks_on white n r some) (omega (arith, within))
 
--- After p shifts the register is as it began, and not before.
+-- After p shifts, and no fewer, the register has its first value.
 record Repeats (white : Bool) (p : ℕ) : Type 0 where
   pub some : 0 < p
   pub back : shifts white p start ≡ start

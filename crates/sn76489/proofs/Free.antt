@@ -12,7 +12,7 @@ use Rattle.sn76489.proofs.Playing.{IsBefore, not_before, at_clock, behind_clock}
 use Rattle.sn76489.proofs.Runs.{no_clocks, one_clock_more}
 use Rattle.sn76489.proofs.Sampling.{sampled, unsampled}
 
--- what is left behind a moment is later
+-- the writes that are left after a moment are later
 pub left_later : (m from : ℕ) (writes : List SoundWrite) → NeverFallFrom from writes → NeverFallFrom (m + 1) (pending_writes m writes)
 unfolding pending_writes
 left_later m from [] order = tt
@@ -32,7 +32,7 @@ unfolding pending_writes
 all_left m [] order = refl
 all_left m (w ∷ writes) order = later_left m writes w (omega (arith, order.0))
 
--- so many clocks and one more were played, the first behind its writes
+-- these clocks and one more are played, the first after its writes
 pub record ArePlayed (writes : List SoundWrite) (q m : ℕ) (after : List SoundWrite) (d : State) : Type 0 where
   pub before : IsBefore writes (q + m + 1) after d
   pub last : d ≡ chip_before_step writes (4 * (q + m) + 1)
@@ -72,7 +72,7 @@ none_sampled writes q (suc m) low =
     let before : q + m ≤ (q + 7) / 8 * 8 = omega (arith, low) in
     ap (samples writes) same ∙ unsampled writes (q + m) (λ e. omega (arith, low, e)) ∙ none_sampled writes q m before
 
--- ---- a number of clocks that is not 0
+-- ---- a number of clocks above 0
 
 pub some_played : (writes left after : List SoundWrite) (q some : ℕ) (c d f : State) → 0 < some → IsBefore writes q left c → d ≡ caught_up (4 * q) left c →
     after ≡ pending_writes (4 * q) left → NeverFallFrom (4 * (q + (some - 1)) + 1) after → f ≡ clocks some d →

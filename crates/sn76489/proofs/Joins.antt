@@ -1,4 +1,4 @@
--- Pieces put behind each other.
+-- Lists appended to each other.
 use Rattle.std.proofs.Common.{◌≡◌, ◌∙◌, ap, ℕ, List, ◌++◌, append_assoc}
 
 -- b is a and then x

@@ -22,7 +22,7 @@ due_now m w writes is = rw (test_true w.moment m is) refl
 not_due : (m : ℕ) (w : SoundWrite) (writes : List SoundWrite) → w.moment ≢ m → writes_at m (w ∷ writes) ≡ writes_at m writes
 not_due m w writes other = rw (test_false w.moment m other) refl
 
--- what never falls from a moment does not from an earlier one
+-- moments that never fall from one on do not fall from an earlier one on
 pub not_before : (from m : ℕ) (writes : List SoundWrite) → NeverFallFrom from writes → m ≤ from → NeverFallFrom m writes
 not_before from m [] order low = tt
 not_before from m (w ∷ writes) order low = (omega (arith, order.0), order.1)
@@ -32,7 +32,7 @@ none_before from m [] order low = refl
 none_before from m (w ∷ writes) order low =
     not_due m w writes (λ e. omega (arith, e, order.0)) ∙ none_before w.moment m writes order.1 (omega (arith, order.0))
 
--- where no write is earlier, those up to a moment are those of it
+-- if no write is earlier, the writes up to a moment are those of that moment
 those_due : (m : ℕ) (writes : List SoundWrite) (c : State) → NeverFallFrom m writes → caught_up m writes c ≡ after_writes (writes_at m writes) c
 unfolding caught_up
 those_due m [] c order = refl
@@ -63,7 +63,7 @@ next_due m from (w ∷ writes) c order =
           ∙ ap (λ l. after_writes l (caught_up m (w ∷ writes) c)) (sym (not_due (m + 1) w writes (λ e. omega (arith, e))))
     ]
 
--- what is left behind a moment
+-- the writes that are left after a moment
 later_same : (m n : ℕ) (writes : List SoundWrite) → m < n → writes_at n (pending_writes m writes) ≡ writes_at n writes
 unfolding pending_writes
 later_same m n [] later = refl
@@ -102,7 +102,8 @@ clock_step writes m whole = played_more writes m ∙ rw (test_true (m % 4) 0 who
 other_step : (writes : List SoundWrite) (m : ℕ) → m % 4 ≢ 0 → chip_before_step writes (m + 1) ≡ after_writes (writes_at m writes) (chip_before_step writes m)
 other_step writes m part = played_more writes m ∙ rw (test_false (m % 4) 0 part) refl
 
--- The chip before the clock of number q, counted from 0: once the writes that are left are done up to that moment, it is as at its step.
+-- The chip before clock q, counted from 0. After the writes that are left up to that moment, it is
+-- the chip of that step.
 pub record IsBefore (writes : List SoundWrite) (q : ℕ) (left : List SoundWrite) (c : State) : Type 0 where
   pub order : NeverFallFrom 0 left
   pub same : (m : ℕ) → 4 * q ≤ m → writes_at m left ≡ writes_at m writes
@@ -117,7 +118,7 @@ pub at_clock : (writes left : List SoundWrite) (q : ℕ) (c d : State) → IsBef
     d ≡ chip_before_step writes (4 * q + 1)
 at_clock writes left q c d before is = is ∙ ap clock_leaves before.chip ∙ sym (clock_step writes (4 * q) (omega arith))
 
--- one step more of what is left, from one that is played
+-- one more step of the writes that are left, from one that is played
 one_more : (writes left : List SoundWrite) (m n : ℕ) (d : State) → NeverFallFrom 0 left → n ≡ m + 1 → writes_at n left ≡ writes_at n writes →
     caught_up m left d ≡ chip_before_step writes n → caught_up n left d ≡ after_writes (writes_at n writes) (chip_before_step writes n)
 one_more writes left m n d order is same so_far =

@@ -1,4 +1,4 @@
--- Clocks in which counters only go down.
+-- Quiet clocks: counters only go down.
 use Rattle.std.proofs.Common.{◌≡◌, ◌≢◌, ◌∙◌, sym, ap, refl, ℕ, zero, suc, ◌+◌, ◌-◌, ◌%◌, ◌<◌, ◌≤◌, Bool, false, arith, inl, inr}
 use Rattle.std.proofs.lemmas.Bool.{cases_eq}
 use Rattle.std.proofs.lemmas.Bool.Decides.{nat_tests}
@@ -66,7 +66,7 @@ pub lowered_is : (n : ℕ) (c : State) (t1 t2 t3 : Tone) (k : ℕ) → IsQuiet n
 lowered_is n c t1 t2 t3 k q is1 is2 is3 count =
     (λ i. record c { tone1 = is1 i; tone2 = is2 i; tone3 = is3 i; count = count i }) ∙ quiet_clocks n c q
 
--- clocks, and clocks behind them
+-- clocks, and more clocks after them
 pub clocks_behind : (a b : ℕ) (c : State) → clocks (a + b) c ≡ clocks b (clocks a c)
 clocks_behind a zero c = let same : a + 0 ≡ a = omega arith in ap (λ n. clocks n c) same ∙ sym (no_clocks (clocks a c))
 clocks_behind a (suc b) c =

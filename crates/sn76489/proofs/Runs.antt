@@ -1,4 +1,4 @@
--- Clocks one after the other.
+-- Clocks one after another.
 use Rattle.std.proofs.Common.{◌≡◌, refl, ℕ, suc, ◌+◌, add-one}
 use Rattle.sn76489.specs.State.{State}
 use Rattle.sn76489.specs.Clock.{clock_leaves, clocks}

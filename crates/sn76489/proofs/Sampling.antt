@@ -27,7 +27,7 @@ one writes m whole = more writes m ∙ rw (test_true (m % 32) 0 whole) refl
 none : (writes : List SoundWrite) (m n : ℕ) → n ≡ m + 1 → m % 32 ≢ 0 → samples writes n ≡ samples writes m
 none writes m n is part = ap (samples writes) is ∙ more writes m ∙ rw (test_false (m % 32) 0 part) (append-nil (samples writes m))
 
--- up to the next clock there is none but that of the clock's step
+-- up to the next clock the only sample is that of the clock's step
 pub sampled : (writes : List SoundWrite) (q : ℕ) → q % 8 ≡ 0 → samples writes (4 * (q + 1)) ≡ samples writes (4 * q) ++ pos (level (chip_before_step writes (4 * q + 1))) ∷ []
 sampled writes q whole =
     none writes (4 * q + 3) (4 * (q + 1)) (omega arith) (λ e. omega (arith, e)) ∙ none writes (4 * q + 2) (4 * q + 3) (omega arith) (λ e. omega (arith, e))
@@ -38,7 +38,7 @@ unsampled writes q part =
     none writes (4 * q + 3) (4 * (q + 1)) (omega arith) (λ e. omega (arith, e)) ∙ none writes (4 * q + 2) (4 * q + 3) (omega arith) (λ e. omega (arith, e))
     ∙ none writes (4 * q + 1) (4 * q + 2) (omega arith) (λ e. omega (arith, e)) ∙ none writes (4 * q) (4 * q + 1) (omega arith) (λ e. part (omega (arith, e)))
 
--- the steps behind the last clock have none
+-- the steps after the last clock have no sample
 pub padded : (writes : List SoundWrite) (s q : ℕ) → q ≡ (s + 3) / 4 → samples writes (4 * q) ≡ samples writes s
 padded writes s q is =
     elim (cases_eq (s % 4) 0) [

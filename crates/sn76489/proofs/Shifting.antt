@@ -6,7 +6,7 @@ use Rattle.sn76489.specs.Clock.{rises, is_white, shift_clocks, shift_leaves, noi
 use Rattle.sn76489.specs.Laws.{shifts, NoiseShiftsInTime}
 use Rattle.sn76489.proofs.Playing.{test_true, test_false}
 
--- What holds of 32, 64 and 128.
+-- A property of 32, 64 and 128.
 pub of_each : (Q : ℕ → Type 0) → Q 32 → Q 64 → Q 128 → (rate : ℕ) → Q (shift_clocks rate)
 of_each Q slow slower slowest rate = elim (cases_eq rate 0) [
   | inl is ↦ rw (test_true rate 0 is) slow
@@ -57,7 +57,7 @@ stays_now number rises r n slow not_now = rw (test_false (n.control % 4) 3 slow,
 each_of : State → ℕ
 each_of c = shift_clocks (c.noise.control % 4)
 
--- how many shifts there were after n clocks
+-- the number of shifts after n clocks
 count_of : ℕ → State → ℕ
 count_of n c = (c.count % each_of c + n) / each_of c
 
@@ -78,7 +78,7 @@ at_first c =
       count = ap (λ k. k % each_of c) same;
     }
 
--- one clock more
+-- one more clock
 next_noise : (n : ℕ) (c : State) (number : ℕ) (rises : Bool) → c.noise.control % 4 ≢ 3 → number % each_of c ≡ (c.count % each_of c + suc n) % each_of c →
     noise_clock_leaves number rises (with_register (register_of n c) c.noise) ≡ with_register (register_of (suc n) c) c.noise
 unfolding each_of count_of register_of

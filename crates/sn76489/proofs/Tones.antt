@@ -20,11 +20,11 @@ after_behind (suc n) t = after_behind n (tone_clock_leaves t)
 some_clocks : (period : ℕ) → 0 < period_clocks period
 some_clocks period = grind (arith, nat_tests)
 
--- behind a turn the next one is a period away
+-- after a change of the output the next one is a period later
 turn_behind : (n clocks : ℕ) → clocks ≤ n → (n - clocks) % clocks ≡ n % clocks
 turn_behind n clocks on = let same : clocks + (n - clocks) ≡ n = omega arith in sym (add-mod_left clocks (n - clocks)) ∙ ap (λ k. k % clocks) same
 
--- the turns of a tone one clock on are its own
+-- the changes of a tone's output do not depend on the clock from which clocks count
 same_turns : (n : ℕ) (t : Tone) → 0 < n → turns_at n (tone_clock_leaves t) ≡ turns_at (n + 1) t
 same_turns n t some =
     let p = period_clocks t.period in
@@ -45,7 +45,7 @@ turns_each (suc n) t =
     let e : suc n + 1 ≡ n + 1 + 1 = omega arith in
     turns_each n (tone_clock_leaves t) ∙ ap (λ b. output_after b (after n (tone_clock_leaves t)).output) (same_turns (n + 1) t (omega arith) ∙ ap (λ k. turns_at k t) (sym e))
 
--- a tone of the chip goes by itself
+-- a tone of the chip depends only on itself
 abbrev IsTone : (State → Tone) → Type 0
 IsTone tone = (c : State) → tone (clock_leaves c) ≡ tone_clock_leaves (tone c)
 
@@ -67,7 +67,8 @@ all_turn = record {
   tone3 = one_turns (λ c. c.tone3) (λ c. refl);
 }
 
--- a tone whose counter has run out turns over in the first clock, and then in each period
+-- a tone with its counter at most 1 changes its output in the first clock, and then once in each
+-- period
 from_first : (n clocks : ℕ) (t : Tone) → t.counter ≤ 1 → period_clocks t.period ≡ clocks → turns_at (n + 1) t ≡ (n % clocks == 0)
 from_first n clocks t low are =
     let one : max t.counter 1 ≡ 1 = omega arith in

@@ -1,18 +1,18 @@
--- Working words of the code that does many clocks at once, which no public clause names: clocks in which no tone turns over and the noise does
--- not shift, so that counters only go down.
+-- Words of the code that does many clocks at once. No public clause uses them. In a quiet clock no
+-- output of a tone changes and the noise does not shift: counters only go down.
 use Rattle.std.specs.Prelude.{ℕ, ◌+◌, ◌-◌, ◌<◌, ◌≤◌, ◌%◌}
 use Rattle.sn76489.specs.State.{State, Tone, Noise}
 use Rattle.sn76489.specs.Clock.{shift_clocks}
 
--- how many clocks come in which a tone's counter only goes down
+-- the number of next clocks that only lower a tone's counter
 abbrev pub tone_quiet : Tone → ℕ
 tone_quiet t = t.counter - 1
 
--- how many come for sure, behind the clock of this number, in which the noise does not shift by its rate
+-- a number of clocks after the clock `number` without a shift of the noise by its rate
 abbrev pub noise_quiet : ℕ → Noise → ℕ
 noise_quiet number n = shift_clocks (n.control % 4) - 1 - number % shift_clocks (n.control % 4)
 
--- what so many of these clocks leave
+-- the state after n quiet clocks
 abbrev pub tone_lowered : ℕ → Tone → Tone
 tone_lowered n t = record t { counter = t.counter - n }
 
@@ -24,7 +24,7 @@ lower_leaves n c = record c {
   count = (c.count + n) % 128;
 }
 
--- the next n clocks are such ones
+-- the next n clocks are quiet
 pub record IsQuiet (n : ℕ) (c : State) : Type 0 where
   pub tone1 : n ≤ tone_quiet c.tone1
   pub tone2 : n ≤ tone_quiet c.tone2

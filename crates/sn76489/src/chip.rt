@@ -18,9 +18,9 @@ pub struct Sound {
     tone2: Tone,
     tone3: Tone,
     noise: Noise,
-    // Which register a byte with bit 7 clear is for.
+    // The register that a byte with bit 7 clear is for.
     latched: u8,
-    // How many clocks there were, modulo 128.
+    // The number of clocks, modulo 128.
     count: u8,
 }
 
@@ -43,7 +43,7 @@ impl Model for Sound {
 }
 
 impl Sound {
-    /// The chip at power-on: it is silent, with all volumes 15.
+    /// Returns the chip at power-on. It is silent: all volumes are 15.
     pub fn new() -> Sound
         ensures { result ≡ power_on }
     {
@@ -57,8 +57,9 @@ impl Sound {
         }
     }
 
-    /// Writes a byte. Where bit 7 is set it latches a register and sets its low bits; else it is for the latched register, of a period the
-    /// upper six bits.
+    /// Writes a byte. If bit 7 is set, the byte latches a register and sets its low bits. Otherwise
+    /// it is for the latched register: the upper six bits of a period, or a volume or the noise
+    /// control.
     pub fn write(&mut self, v: u8)
         ensures { self.new ≡ write_leaves v self.old }
     {
@@ -68,7 +69,7 @@ impl Sound {
         self.write_register(self.latched, v);
     }
 
-    // A byte for this register.
+    // Writes a byte to `register`.
     fn write_register(&mut self, register: u8, v: u8)
         ensures { self.new ≡ register_written register v self.old }
     {
@@ -109,7 +110,8 @@ impl Sound {
         }
     }
 
-    // Does clocks in which counters only go down, so many at most, and answers how many.
+    // Does at most `most` quiet clocks, and returns their number. In a quiet clock counters only go
+    // down.
     fn rest(&mut self, most: u64) -> u64
         ensures clocks { self.new ≡ clocks result self.old }
         ensures bound { result ≤ most }
@@ -119,7 +121,7 @@ impl Sound {
         some
     }
 
-    // How many clocks come for sure in which no tone turns over and the noise does not shift.
+    // Returns a number of next clocks without a change of a tone's output or a shift of the noise.
     fn quiet(&self) -> u16
         ensures { IsQuiet result self.now }
     {
@@ -128,7 +130,7 @@ impl Sound {
         tones.min(rest)
     }
 
-    // Does so many of these clocks.
+    // Does `n` quiet clocks.
     fn lower(&mut self, n: u16)
         requires { IsQuiet n self.old }
         ensures { self.new ≡ clocks n self.old }
@@ -139,7 +141,7 @@ impl Sound {
         self.count = ((u16::from(self.count) + n) % 128) as u8;
     }
 
-    /// The level that is heard: the sum, over the outputs that are 1, of the amplitudes of their volumes.
+    /// Returns the output level: the sum of the amplitudes of all voices whose output is 1.
     pub fn level(&self) -> i16
         ensures { result ≡ pos (level self.now) }
     {

@@ -1,4 +1,4 @@
-//! The SN76489AN, the sound chip, a clock at a time, and what is heard of it (SN76489AN data sheet).
+//! The SN76489AN, the sound chip, one clock at a time, and its samples (SN76489AN data sheet).
 #![tactic(auto)]
 
 mod chip;

@@ -10,7 +10,7 @@ use crate::tone::loudness;
 use beeb_bits::bit;
 use std::marker::Model;
 
-/// What the shift register begins with.
+/// The first value of the shift register.
 const START: u16 = 0x4000;
 
 #[derive(Drop)]
@@ -32,7 +32,7 @@ impl Model for Noise {
     ghost invariant = { λ n. (n.control < 8) × (n.register < 32768) × (n.volume < 16) };
 }
 
-// How many clocks there are from one shift to the next, at rates 0, 1 and 2.
+// Returns the number of clocks from one shift to the next, at rates 0, 1 and 2.
 fn shift_clocks(rate: u8) -> u8
     ensures value { result ≡ shift_clocks rate }
     ensures some { 0 < result }
@@ -44,7 +44,7 @@ fn shift_clocks(rate: u8) -> u8
     }
 }
 
-// The register after a shift.
+// Returns the register after a shift.
 fn shifted(white: bool, register: u16) -> u16
     requires { register < 32768 }
     ensures value { result ≡ shift_leaves white register }
@@ -59,7 +59,7 @@ fn shifted(white: bool, register: u16) -> u16
 }
 
 impl Noise {
-    /// The noise at power-on.
+    /// Returns the noise at power-on.
     pub(crate) fn new() -> Noise
         ensures { result ≡ power_on.noise }
     {
@@ -70,7 +70,7 @@ impl Noise {
         }
     }
 
-    // The clock of this number is one of a shift.
+    // Reports if the noise shifts in the clock `number`.
     fn shifts_at(&self, number: u8, tone3_rises: bool) -> bool
         ensures { result ≡ shifts_at number tone3_rises self.now }
     {
@@ -80,7 +80,7 @@ impl Noise {
         }
     }
 
-    /// Does the clock of this number, in which tone 3 rises or not.
+    /// Does the clock `number`. Tone 3 rises in it or not.
     pub(crate) fn clock(&mut self, number: u8, tone3_rises: bool)
         ensures { self.new ≡ noise_clock_leaves number tone3_rises self.old }
     {
@@ -89,7 +89,7 @@ impl Noise {
         }
     }
 
-    /// How many clocks come for sure, behind the one of this number, in which its rate does not shift it.
+    /// Returns a number of clocks after the clock `number` without a shift by the rate.
     pub(crate) fn quiet(&self, number: u8) -> u16
         ensures { result ≡ noise_quiet number self.now }
     {
@@ -97,7 +97,7 @@ impl Noise {
         u16::from(each - 1 - number % each)
     }
 
-    /// A byte that is written to the control: the register begins anew.
+    /// Writes a byte to the noise control. The shift register is reset.
     pub(crate) fn set_control(&mut self, v: u8)
         ensures { self.new ≡ noise_with_control v self.old }
     {
@@ -105,14 +105,14 @@ impl Noise {
         self.register = START;
     }
 
-    /// A byte that is written to the volume.
+    /// Writes a byte to the volume.
     pub(crate) fn set_volume(&mut self, v: u8)
         ensures { self.new ≡ noise_with_volume v self.old }
     {
         self.volume = v % 16;
     }
 
-    /// What is heard of the noise.
+    /// Returns the amplitude of the noise.
     pub(crate) fn loudness(&self) -> u16
         ensures value { result ≡ loudness (noise_output self.now) (self.now).volume }
         ensures bound { result ≤ 8191 }

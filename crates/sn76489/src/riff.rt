@@ -5,7 +5,7 @@ ghost use Rattle.sn76489.specs.Wav.{chunk, format, header, sample_bytes, wav};
 use beeb_bits::NoMemory;
 use std::alloc::{AllocError, Global};
 
-/// How many bytes stand before the samples.
+/// The bytes before the samples.
 const HEADER_SIZE: usize = 44;
 
 /// Pulse code modulation.
@@ -21,19 +21,19 @@ const BYTES_A_SAMPLE: u16 = 2;
 
 const BITS_A_SAMPLE: u16 = 16;
 
-/// How many bytes the format has, and the file behind its first eight without any samples.
+/// The bytes of the format, and those of the file after its first eight, without any samples.
 const FORMAT_SIZE: u32 = 16;
 
 const REST_SIZE: u32 = 36;
 
-// A sample as its two bytes.
+// Returns a sample as its two bytes.
 fn sample_bytes(sample: i16) -> [u8; 2]
     ensures { result ≡ sample_bytes sample }
 {
     sample.cast_unsigned().to_le_bytes()
 }
 
-// Puts the name and the size of a chunk.
+// Appends the name and the size of a chunk.
 fn put_chunk(bytes: &mut Vec<u8>, name: &[u8], size: u32) -> Result<(), AllocError>
     ensures { IfOk result (λ _. bytes.new.items ≡ bytes.old.items ++ chunk name.now size) }
 {
@@ -42,7 +42,7 @@ fn put_chunk(bytes: &mut Vec<u8>, name: &[u8], size: u32) -> Result<(), AllocErr
     Ok(())
 }
 
-// Puts the format of the samples.
+// Appends the format of the samples.
 fn put_format(bytes: &mut Vec<u8>) -> Result<(), AllocError>
     ensures { IfOk result (λ _. bytes.new.items ≡ bytes.old.items ++ format) }
 {
@@ -55,7 +55,7 @@ fn put_format(bytes: &mut Vec<u8>) -> Result<(), AllocError>
     Ok(())
 }
 
-// Puts what stands before so many bytes of samples.
+// Appends the bytes before `size` bytes of samples.
 fn put_header(bytes: &mut Vec<u8>, size: u32) -> Result<(), AllocError>
     requires { size < 2 ^ 31 }
     ensures { IfOk result (λ _. bytes.new.items ≡ bytes.old.items ++ header size) }
@@ -68,7 +68,7 @@ fn put_header(bytes: &mut Vec<u8>, size: u32) -> Result<(), AllocError>
     Ok(())
 }
 
-// The file of these samples.
+// Makes the file of `samples`.
 fn file(alloc: Global, samples: &[i16]) -> Result<Vec<u8>, AllocError>
     requires { length samples.now ≤ 2 ^ 24 }
     ensures { IfOk result (λ bytes. bytes.items ≡ wav samples.now) }
@@ -82,10 +82,10 @@ fn file(alloc: Global, samples: &[i16]) -> Result<Vec<u8>, AllocError>
     Ok(bytes)
 }
 
-/// The sound file of these samples: one channel, 31,250 samples a second, 16 bits each.
+/// Makes the sound file of `samples`: one channel, 31,250 samples a second, 16 bits each.
 ///
 /// # Errors
-/// Want of memory.
+/// Out of memory.
 pub fn wav(alloc: Global, samples: &[i16]) -> Result<Vec<u8>, NoMemory>
     requires { length samples.now ≤ 2 ^ 24 }
     ensures { IfOk result (λ bytes. bytes.items ≡ wav samples.now) }

@@ -1,4 +1,4 @@
-//! What is heard of a list of writes.
+//! The samples of a list of writes.
 ghost use Rattle.std.specs.Prelude.{◌≡◌, ◌≤◌, ◌<◌, ◌+◌, ◌-◌, ◌*◌, ◌/◌, ◌^◌, IfOk, length};
 ghost use Rattle.sn76489.specs.Samples.{NeverFallFrom, samples};
 ghost use Rattle.sn76489.specs.CodeWrites.{caught_up, pending_writes};
@@ -9,7 +9,7 @@ use beeb_bits::NoMemory;
 use std::alloc::Global;
 
 impl Sound {
-    // Does the writes up to this moment, and answers those that are left.
+    // Does the writes up to `moment`, and returns those that are left.
     fn catch_up<'a>(&mut self, writes: &'a [SoundWrite], moment: u64) -> &'a [SoundWrite]
         ensures chip { self.new ≡ caught_up moment writes.now self.old }
         ensures left { result.now ≡ pending_writes moment writes.now }
@@ -26,8 +26,8 @@ impl Sound {
     }
 }
 
-// How many clocks from this number on, below `clocks`, can be done at once: up to the next one behind which there is a sample, where no write is
-// due before it, or one.
+// Returns a number of clocks, from `clock` on and below `clocks`, that can be done at once: up to
+// the next one with a sample after it. Returns 1 if a write is due before that.
 fn clocks_at_once(writes: &[SoundWrite], clock: u64, clocks: u64) -> u64
     requires order { NeverFallFrom (4 * clock + 1) writes.now }
     requires some { clock < clocks }
@@ -44,11 +44,11 @@ fn clocks_at_once(writes: &[SoundWrite], clock: u64, clocks: u64) -> u64
     }
 }
 
-/// The samples of these writes over so many steps of a microsecond, from power-on: there is a clock at each fourth step and a sample at each
-/// 32nd, the first at step 0.
+/// Returns the samples of `writes` over `steps` steps of a microsecond, from power-on. There is a
+/// clock at each fourth step and a sample at each 32nd, the first at step 0.
 ///
 /// # Errors
-/// Want of memory.
+/// Out of memory.
 pub fn render(alloc: Global, writes: &[SoundWrite], steps: u64) -> Result<Vec<i16>, NoMemory>
     requires order { NeverFallFrom 0 writes.now }
     requires steps { steps ≤ 2 ^ 28 }

@@ -1,4 +1,4 @@
-//! A tone, and what is heard of a voice.
+//! A tone, and the amplitude of a voice.
 ghost use Rattle.std.specs.Prelude.{◌≡◌, ◌<◌, ◌≤◌};
 ghost use Rattle.sn76489.specs.State.{silent_tone};
 ghost use Rattle.sn76489.specs.Writes.{tone_with_period, tone_with_volume};
@@ -14,7 +14,7 @@ const AMPLITUDES: [u16; 16] = [
     8191, 6506, 5168, 4105, 3261, 2590, 2057, 1634, 1298, 1031, 819, 650, 517, 410, 326, 0,
 ];
 
-/// What is heard of an output at a volume.
+/// Returns the amplitude of an output at a volume.
 pub(crate) fn loudness(output: bool, volume: u8) -> u16
     requires { volume < 16 }
     ensures value { result ≡ loudness output volume }
@@ -46,7 +46,7 @@ impl Model for Tone {
     ghost invariant = { λ t. (t.period < 1024) × (t.volume < 16) };
 }
 
-// How many clocks a period is.
+// Returns the number of clocks of a period.
 fn period_clocks(period: u16) -> u16
     ensures { result ≡ period_clocks period }
 {
@@ -54,7 +54,7 @@ fn period_clocks(period: u16) -> u16
 }
 
 impl Tone {
-    /// A tone at power-on.
+    /// Returns a tone at power-on.
     pub(crate) fn new() -> Tone
         ensures { result ≡ silent_tone }
     {
@@ -66,7 +66,7 @@ impl Tone {
         }
     }
 
-    /// Does a clock, and answers whether the output became 1.
+    /// Does a clock, and reports if the output became 1.
     pub(crate) fn clock(&mut self) -> bool
         ensures tone { self.new ≡ tone_clock_leaves self.old }
         ensures rises { result ≡ rises self.old }
@@ -80,14 +80,14 @@ impl Tone {
         self.output
     }
 
-    /// How many clocks come in which the counter only goes down.
+    /// Returns the number of next clocks that only lower the counter.
     pub(crate) fn quiet(&self) -> u16
         ensures { result ≡ tone_quiet self.now }
     {
         self.counter.saturating_sub(1)
     }
 
-    /// Does so many of these clocks.
+    /// Does `n` clocks that only lower the counter.
     pub(crate) fn lower(&mut self, n: u16)
         requires { n ≤ tone_quiet self.old }
         ensures { self.new ≡ tone_lowered n self.old }
@@ -95,7 +95,7 @@ impl Tone {
         self.counter -= n;
     }
 
-    /// A byte that is written to the period.
+    /// Writes a byte to the period.
     pub(crate) fn set_period(&mut self, v: u8)
         ensures { self.new ≡ tone_with_period v self.old }
     {
@@ -106,14 +106,14 @@ impl Tone {
         };
     }
 
-    /// A byte that is written to the volume.
+    /// Writes a byte to the volume.
     pub(crate) fn set_volume(&mut self, v: u8)
         ensures { self.new ≡ tone_with_volume v self.old }
     {
         self.volume = v % 16;
     }
 
-    /// What is heard of the tone.
+    /// Returns the amplitude of the tone.
     pub(crate) fn loudness(&self) -> u16
         ensures value { result ≡ loudness (self.now).output (self.now).volume }
         ensures bound { result ≤ 8191 }

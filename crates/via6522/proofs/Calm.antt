@@ -1,4 +1,4 @@
--- How long the chip asks for an interrupt as it does now.
+-- The steps during which the chip's interrupt request does not change.
 use Rattle.std.proofs.Common.{◌≡◌, ◌∙◌, ap, sym, refl, ℕ, zero, suc, ◌+◌, ◌-◌, ◌<◌, ◌≤◌, ◌&&◌, ◌||◌, nat_lt, Bool, true, false, arith, inl, inr}
 use Rattle.std.proofs.lemmas.Bool.{cases_lt}
 use Rattle.beeb_bits.specs.Bits.{bit}
@@ -40,7 +40,7 @@ asking_is_calm p n c h m within = keeps_asking p m c h ∙ sym h
 pub now_is_calm : (p : Pins) (c : State) → AsksAlike p 0 c
 now_is_calm p c m within = let none : m ≡ 0 = omega arith in ap (λ (k : ℕ). asks (steps p k c)) none ∙ ap asks (no_steps p c)
 
--- where no enabled flag is set
+-- if no enabled flag is set
 
 kept : (f x e : Bool) → (e ≡ true → x ≡ false) → ((f || x) && e) ≡ (f && e)
 kept f x e h = grind arith

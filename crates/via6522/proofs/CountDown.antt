@@ -1,4 +1,4 @@
--- Timer 2, and timer 1 where it does not run free, after many steps in which they count.
+-- Timer 2, and timer 1 in one-shot mode, after many steps that count.
 use Rattle.std.proofs.Common.{◌≡◌, ◌∙◌, ap, sym, refl, ℕ, zero, suc, ◌+◌, ◌-◌, ◌*◌, ◌%◌, ◌<◌, ◌≤◌, ◌&&◌, ◌||◌, nat_lt, Bool, true, false, not, arith}
 use Rattle.std.proofs.lemmas.Bool.Decides.{nat_tests}
 use Rattle.via6522.specs.State.{Timer1, Timer2}
@@ -9,7 +9,7 @@ use Rattle.via6522.specs.Jumps.{timer1_later, timer1_flags_within, timer2_later,
 abbrev pub counter_later : ℕ → ℕ → ℕ
 counter_later n counter = (counter + 65535 * n) % 65536
 
--- each timer so, where it counts once: it is armed as long as its counter did not run out
+-- each timer n steps later, in one-shot mode: it stays armed until its counter underflows
 abbrev pub put1 : ℕ → ℕ → Bool → Timer1 → Timer1
 put1 n counter armed t = record t { counter = counter_later n counter; armed = armed && not (nat_lt counter n) }
 
@@ -42,7 +42,7 @@ counts_once2 (suc n) t small begun =
     let more = more2 n t.counter t.armed t small begun in
     (ap (timer2_after false) before.0 ∙ more.0, rw (before.1, before.0) more.1)
 
--- while it stands still nothing changes
+-- a timer that does not count does not change
 pub stands_still : (n : ℕ) (t : Timer2) → (timer2_later true n t ≡ t) × (timer2_flags_within true n t ≡ false)
 stands_still zero t = (refl, refl)
 stands_still (suc n) t = let before = stands_still n t in (before.0, rw before.1 refl)

@@ -13,7 +13,7 @@ test_false a b h = grind (arith, nat_tests)
 pub word_small : (high low : ℕ) → high < 256 → low < 256 → word high low < 65536
 word_small high low h l = omega arith
 
--- in a period of v + 2 steps, the step after the k-th is no multiple, save the last
+-- in a period of v + 2 steps, only the number of the last step is a multiple
 pub within_period : (v k : ℕ) → k < v + 1 → ((k + 1) % (v + 2) == 0) ≡ false
 within_period v k h =
     let below : k + 1 < v + 2 = omega arith in

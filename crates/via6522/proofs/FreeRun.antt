@@ -1,4 +1,5 @@
--- Timer 1 where it runs free, after many steps: it counts down once, and then goes through its latch again and again.
+-- Timer 1 in free-running mode, after many steps: it counts down once, and then once from its latch
+-- in each period.
 use Rattle.std.proofs.Common.{◌≡◌, ◌∙◌, ap, sym, refl, ℕ, zero, suc, ◌+◌, ◌-◌, ◌*◌, ◌/◌, ◌%◌, ◌<◌, ◌≤◌, ◌||◌, Bool, true, false, add-zero, add-suc, add-one, arith}
 use Rattle.std.proofs.Math.Bool.{or_assoc, or-false}
 use Rattle.std.proofs.lemmas.Bool.Decides.{nat_tests}
@@ -19,7 +20,7 @@ flags_both free m (suc n) t = rw add-suc (
     ∙ ap (λ (u : Timer1). (timer1_flags_within free m t || timer1_flags_within free n (timer1_later free m t)) || timer1_flags free u) (later_both free m n t)
     ∙ or_assoc (timer1_flags_within free m t) (timer1_flags_within free n (timer1_later free m t)) (timer1_flags free (timer1_later free n (timer1_later free m t))))
 
--- down to 0 it only counts
+-- it only counts until it is 0
 pub counts_down : (free : Bool) (n : ℕ) (t : Timer1) → t.reload ≡ false → t.counter < 65536 → n ≤ t.counter →
     (timer1_later free n t ≡ record t { counter = t.counter - n }) × (timer1_flags_within free n t ≡ false)
 counts_down free zero t loaded small within = (let same : t.counter ≡ t.counter - 0 = omega arith in ap (λ (k : ℕ). record t { counter = k }) same, refl)
@@ -41,7 +42,7 @@ runs_down t loaded small =
 abbrev pub after_reload : Timer1 → Timer1
 after_reload t = record t { counter = word t.latch_high t.latch_low; reload = false }
 
--- a period brings it back
+-- a period leads to the same state
 period : (t : Timer1) → word t.latch_high t.latch_low < 65536 → timer1_later true (word t.latch_high t.latch_low + 2) (timer1_at_end t) ≡ timer1_at_end t
 period t small =
     let parts : word t.latch_high t.latch_low + 2 ≡ 1 + (word t.latch_high t.latch_low + 1) = omega arith in

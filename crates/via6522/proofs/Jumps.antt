@@ -1,4 +1,5 @@
--- Steps with the same pins, all at once: the timers' parts of all, and then the edges of the first.
+-- Many steps with the same pins at once: the timers' parts of all steps, and then the edges of the
+-- first.
 use Rattle.std.proofs.Common.{◌≡◌, ◌∙◌, ap, sym, refl, ℕ, zero, suc, ◌-◌, ◌<◌, ◌≤◌, arith}
 use Rattle.std.proofs.Math.Bool.{or_assoc, or-false}
 use Rattle.beeb_bits.specs.Bits.{bit}
@@ -22,11 +23,11 @@ run_more n c =
       or_assoc c.flags.timer2 (timer2_flags_within (bit c.acr 5) n c.timer2) (timer2_flags (bit c.acr 5) (timer2_later (bit c.acr 5) n c.timer2)),
     ) refl
 
--- the same edges bring nothing twice
+-- the second step with the same pins has no edge
 edges_once : (p : Pins) (c : State) → edges_seen p (edges_seen p c) ≡ edges_seen p c
 edges_once p c = edges_by_levels p (edges_seen p c) ∙ no_edges (edges_seen p c)
 
--- the timers and the edges do not meet
+-- the timers and the edges change different fields
 apart : (p : Pins) (c : State) → timers_stepped (edges_seen p c) ≡ edges_seen p (timers_stepped c)
 apart p c = refl
 
@@ -47,11 +48,11 @@ steps_by_levels p q (suc n) c same =
     one_by_one p n c ∙ edges_by_levels p (timers_later (suc n) c) ∙ ap (λ (l : Levels). edges_to l (timers_later (suc n) c)) same
     ∙ sym (edges_by_levels q (timers_later (suc n) c)) ∙ sym (one_by_one q n c)
 
--- with the levels that these pins have
+-- with the levels of these pins
 pub in_full : (p q : Pins) (n : ℕ) (c : State) → levels_of q ≡ levels_of p → 0 < n → edges_seen q (timers_later n c) ≡ steps p n c
 in_full p q n c same some = sym (all_at_once q n c some) ∙ steps_by_levels q p n c same
 
--- quiet steps take from what is quiet
+-- n quiet steps leave n fewer of them
 pub quiet_steps_pass : (p : Pins) (m n : ℕ) (c : State) → m ≤ n → IsQuiet n c → levels_of p ≡ c.levels → steps p m (ahead n c) ≡ ahead (n - m) c
 quiet_steps_pass p zero n c within quiet same = let all : n - 0 ≡ n = omega arith in no_steps p (ahead n c) ∙ ap (λ (k : ℕ). ahead k c) (sym all)
 quiet_steps_pass p (suc m) n c within quiet same =

@@ -1,4 +1,4 @@
--- Timer 2, and timer 1 where it does not run free, step by step: both count down once.
+-- Timer 2, and timer 1 in one-shot mode, step by step: both count down once.
 use Rattle.std.proofs.Common.{◌≡◌, refl, ℕ, suc, ◌+◌, ◌<◌, ◌≤◌, ◌==◌, ◌&&◌, Bool, true, false, not, List, [], ◌∷◌, length, add-zero, zero-add, arith}
 use Rattle.std.specs.Prelude.{if◌then◌else◌}
 use Rattle.std.proofs.lemmas.Bool.Decides.{nat_tests}
@@ -8,13 +8,14 @@ use Rattle.via6522.specs.State.{State, Timer1, Timer2}
 use Rattle.via6522.specs.Timers.{word, one_less, runs_out, timer1_after, timer1_flags, timer2_after, timer2_flags}
 use Rattle.via6522.specs.Step.{step, after_steps}
 
--- What both have: whether the first step is still to come, in which nothing is counted, the counter, and whether it may set the flag.
+-- The state that both have: a first step that does not count is still due, the counter, and the
+-- flag may still be set.
 pub record Shot : Type 0 where
   pub waits : Bool
   pub counter : ℕ
   pub armed : Bool
 
--- one step, the first of which makes the counter what is loaded
+-- one step; the first one loads the counter
 shot_after : ℕ → Shot → Shot
 shot_after loaded s =
     if s.waits then record { waits = false; counter = loaded; armed = s.armed }
@@ -38,7 +39,7 @@ after2 : (t : Timer2) → shot2 (timer2_after false t) ≡ shot_after t.counter 
 unfolding shot2 shot_after
 after2 t = grind arith
 
--- What it is k steps after it was written with v.
+-- The state k steps after v was written.
 pub record IsShot (v k : ℕ) (s : Shot) : Type 0 where
   pub first : k ≡ 0 → s.waits ≡ true
   pub later : 0 < k → s.waits ≡ false
@@ -46,7 +47,7 @@ pub record IsShot (v k : ℕ) (s : Shot) : Type 0 where
   pub ready : k ≤ v + 1 → s.armed ≡ true
   pub spent : v + 1 < k → s.armed ≡ false
 
--- the flags of a step, and what it leads to
+-- the flag of a step, and the state after it
 record Leads (v k loaded : ℕ) (s : Shot) : Type 0 where
   pub flag : shot_flags s ≡ (k + 1 == v + 2)
   pub after : IsShot v (k + 1) (shot_after loaded s)
@@ -64,7 +65,7 @@ shot_leads v k loaded s small load at = record {
   };
 }
 
--- the step behind these steps sets the flag, where it is step v + 2 after the write
+-- the step after these sets the flag exactly if it is step v + 2 after the write
 pub sets_once1 : (v k : ℕ) (c : State) (pins : List Pins) → v < 65536 → bit c.acr 6 ≡ false → (k ≡ 0 → word c.timer1.latch_high c.timer1.latch_low ≡ v) →
     IsShot v k (shot1 c.timer1) → timer1_flags (bit (after_steps pins c).acr 6) (after_steps pins c).timer1 ≡ (k + length pins + 1 == v + 2)
 unfolding shot1 shot_flags
@@ -87,7 +88,7 @@ sets_once2 v k c (p ∷ pins) small counts load at =
     let more : k + 1 + length pins + 1 ≡ k + suc (length pins) + 1 = omega arith in
     rw (← more) (sets_once2 v (k + 1) (step p c) pins small counts (λ e. absurd (omega (arith, e))) after)
 
--- what a write leaves is the shot before its first step
+-- the state after a write is the one-shot state before its first step
 shot_begins : (v counter : ℕ) → IsShot v 0 (record { waits = true; counter = counter; armed = true })
 shot_begins v counter = record {
   first = λ e. refl;

@@ -9,7 +9,7 @@ use Rattle.via6522.specs.Lines.{is_edge, levels_of}
 use Rattle.via6522.specs.Step.{step, timers_stepped, edges_seen}
 use Rattle.via6522.specs.CodeQuiet.{timer1_ahead, timer2_ahead, ahead, IsQuiet}
 
--- a flag stays where its line does
+-- a flag stays if its line does
 stays : (flag up level : Bool) → (flag || is_edge up level level) ≡ flag
 stays flag up level = grind arith
 
@@ -19,7 +19,7 @@ stays_in flag out up level = grind arith
 stays_off : (flag sets : Bool) → sets ≡ false → (flag || sets) ≡ flag
 stays_off flag sets h = grind arith
 
--- the edges of lines that go to these levels
+-- the edges of lines that change to these levels
 pub edges_to : Levels → State → State
 edges_to l c = record c {
   flags = record c.flags {

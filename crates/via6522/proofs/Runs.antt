@@ -1,4 +1,4 @@
--- Steps one after the other.
+-- Steps one after another.
 use Rattle.std.proofs.Common.{◌≡◌, refl, ℕ, zero, suc}
 use Rattle.via6522.specs.declared.Pins.{Pins}
 use Rattle.via6522.specs.State.{State}

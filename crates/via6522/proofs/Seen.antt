@@ -1,4 +1,4 @@
--- The timers, by the fields that their code keeps.
+-- The timers, by the fields of their code.
 use Rattle.via6522.specs.State.{Timer1, Timer2}
 use Rattle.via6522.specs.declared.timer1.Timer1.TheInside.{Inside as Inside1}
 use Rattle.via6522.specs.declared.timer2.Timer2.TheInside.{Inside as Inside2}

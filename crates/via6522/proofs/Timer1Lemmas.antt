@@ -1,4 +1,4 @@
--- Timer 1 where it runs free, step by step.
+-- Timer 1 in free-running mode, step by step.
 use Rattle.std.proofs.Common.{◌≡◌, sym, ℕ, suc, ◌+◌, ◌%◌, ◌<◌, ◌≤◌, ◌==◌, true, false, List, [], ◌∷◌, length, add-zero, zero-add, arith, inl, inr}
 use Rattle.std.proofs.lemmas.Bool.{cases_lt}
 use Rattle.std.proofs.lemmas.Bool.Decides.{nat_tests}
@@ -9,7 +9,8 @@ use Rattle.via6522.specs.Timers.{word, timer1_after, timer1_flags}
 use Rattle.via6522.specs.Step.{step, after_steps}
 use Rattle.via6522.proofs.Counting.{within_period, ends_period, next_period}
 
--- What timer 1 is k steps into a period of its latch v, where it runs free: it is to be reloaded at first, and then counts down from v.
+-- Timer 1 in free-running mode, k steps into a period of its latch v. A reload is due first, and
+-- then it counts down from v.
 pub record IsInPeriod (v k : ℕ) (t : Timer1) : Type 0 where
   pub latch : word t.latch_high t.latch_low ≡ v
   pub within : k ≤ v + 1
@@ -43,7 +44,7 @@ last_step v k t end at = (
   },
 )
 
--- the step behind these steps sets the flag, where that is the last of a period
+-- the step after these sets the flag exactly if it is the last of a period
 pub sets_each_period : (v k : ℕ) (c : State) (pins : List Pins) → v < 65536 → bit c.acr 6 ≡ true → IsInPeriod v k c.timer1 →
     timer1_flags (bit (after_steps pins c).acr 6) (after_steps pins c).timer1 ≡ ((k + length pins + 1) % (v + 2) == 0)
 sets_each_period v k c [] small free at =

@@ -1,5 +1,5 @@
--- What the quick body of a step keeps beside what contracts see: how many steps come in which both timers do nothing but count down, and
--- the chip as it is behind them.
+-- The stored form of the chip: the number of quiet steps that come next, and the chip after them.
+-- In a quiet step both timers only count down.
 use Rattle.std.specs.Prelude.{ℕ, ◌+◌, ◌≡◌, ◌<◌, ◌≤◌, Bool, false, if◌then◌else◌}
 use Rattle.beeb_bits.specs.Bits.{bit}
 use Rattle.via6522.specs.declared.Pins.{Pins}
@@ -9,18 +9,18 @@ use Rattle.via6522.specs.State.{State, Timer1, Timer2, Levels}
 abbrev pub levels_in : ℕ → Levels
 levels_in lines = record { ca1 = bit lines 0; ca2 = bit lines 1; cb1 = bit lines 2; cb2 = bit lines 3 }
 
--- pins with these levels
+-- pins with the levels in `lines`
 abbrev pub pins_with : ℕ → Pins
 pins_with lines = record { a = 0; b = 0; ca1 = bit lines 0; ca2 = bit lines 1; cb1 = bit lines 2; cb2 = bit lines 3 }
 
 abbrev pub timer1_ahead : ℕ → Timer1 → Timer1
 timer1_ahead n t = record t { counter = t.counter + n }
 
--- timer 2 stands still where ACR bit 5 is set
+-- timer 2 does not count if ACR bit 5 is set
 abbrev pub timer2_ahead : Bool → ℕ → Timer2 → Timer2
 timer2_ahead still n t = if still then t else record t { counter = t.counter + n }
 
--- the chip n quiet steps before
+-- the chip n quiet steps earlier
 abbrev pub ahead : ℕ → State → State
 ahead n c = record c { timer1 = timer1_ahead n c.timer1; timer2 = timer2_ahead (bit c.acr 5) n c.timer2 }
 
@@ -31,7 +31,7 @@ pub record NextAreQuiet (n : ℕ) (c : State) : Type 0 where
   pub loaded : 0 < n → c.timer1.reload ≡ false
   pub begun : 0 < n → bit c.acr 5 ≡ false → c.timer2.fresh ≡ false
 
--- n quiet steps lead to this chip
+-- n quiet steps lead to the chip c
 pub record IsQuiet (n : ℕ) (c : State) : Type 0 where
   pub within1 : c.timer1.counter + n < 65536
   pub within2 : bit c.acr 5 ≡ false → c.timer2.counter + n < 65536

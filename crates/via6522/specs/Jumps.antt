@@ -1,4 +1,4 @@
--- Many steps at once: what n steps make of each timer, and whether one of them sets its flag.
+-- Many steps at once: each timer after n steps, and if one of them sets its flag.
 use Rattle.std.specs.Prelude.{ℕ, zero, suc, ◌≡◌, ◌≤◌, ◌||◌, Bool, false, true}
 use Rattle.beeb_bits.specs.Bits.{bit}
 use Rattle.via6522.specs.declared.Pins.{Pins}
@@ -15,7 +15,7 @@ abbrev pub timer1_flags_within : Bool → ℕ → Timer1 → Bool
 timer1_flags_within free zero t = false
 timer1_flags_within free (suc n) t = timer1_flags_within free n t || timer1_flags free (timer1_later free n t)
 
--- timer 1 where it has just run out, running free: the next step reloads it
+-- timer 1 in free-running mode after an underflow: the next step reloads it
 abbrev pub timer1_at_end : Timer1 → Timer1
 timer1_at_end t = record t { counter = 65535; reload = true }
 
@@ -38,20 +38,20 @@ timers_later n c = record c {
   };
 }
 
--- up to n steps surely do not set a timer's flag
+-- none of the next n steps sets the timer's flag
 abbrev pub Timer1SetsNoFlag : Bool → ℕ → Timer1 → Type 0
 Timer1SetsNoFlag free n t = (m : ℕ) → m ≤ n → timer1_flags_within free m t ≡ false
 
 abbrev pub Timer2SetsNoFlag : Bool → ℕ → Timer2 → Type 0
 Timer2SetsNoFlag still n t = (m : ℕ) → m ≤ n → timer2_flags_within still m t ≡ false
 
--- the same for those of a chip, where the flag is enabled
+-- none of the chip's next n steps sets the timer's flag, if that flag is enabled
 abbrev pub Timer1IsCalm : ℕ → State → Type 0
 Timer1IsCalm n c = (m : ℕ) → m ≤ n → c.enabled.timer1 ≡ true → timer1_flags_within (bit c.acr 6) m c.timer1 ≡ false
 
 abbrev pub Timer2IsCalm : ℕ → State → Type 0
 Timer2IsCalm n c = (m : ℕ) → m ≤ n → c.enabled.timer2 ≡ true → timer2_flags_within (bit c.acr 5) m c.timer2 ≡ false
 
--- With these pins, after each number of steps up to n, the interrupt is asked for where it is asked for now, and not where it is not.
+-- With the pins `pins`, the interrupt request does not change for up to n steps.
 abbrev pub AsksAlike : Pins → ℕ → State → Type 0
 AsksAlike pins n c = (m : ℕ) → m ≤ n → asks (steps pins m c) ≡ asks c

@@ -1,5 +1,5 @@
--- When the timers of the 6522 set their flags, over whole runs of steps with any pins. (6522 data sheet, Timer 1 Operation and Timer 2
--- Operation.)
+-- When the timers of the 6522 set their flags, over runs of steps with any pins. (6522 data sheet,
+-- Timer 1 Operation and Timer 2 Operation.)
 use Rattle.std.specs.Prelude.{ℕ, ◌+◌, ◌%◌, ◌==◌, ◌≡◌, ◌<◌, Bool, true, false, List, length}
 use Rattle.beeb_bits.specs.Bits.{bit}
 use Rattle.via6522.specs.declared.Pins.{Pins}
@@ -11,29 +11,30 @@ use Rattle.via6522.specs.Step.{step, after_steps}
 abbrev pub with_flags : Causes → State → State
 with_flags flags c = record c { flags = flags }
 
--- a step with these pins sets timer 1's flag: the flag is set after it, though it was cleared before
+-- A step with the pins p sets timer 1's flag: the flag is set after the step if it is clear before.
 abbrev pub sets_timer1_flag : Pins → State → Bool
 sets_timer1_flag p c = (step p (with_flags (record c.flags { timer1 = false }) c)).flags.timer1
 
--- a step with these pins sets timer 2's flag
+-- a step with the pins p sets timer 2's flag
 abbrev pub sets_timer2_flag : Pins → State → Bool
 sets_timer2_flag p c = (step p (with_flags (record c.flags { timer2 = false }) c)).flags.timer2
 
--- Timer 1 runs free where ACR bit 6 is set. Written with the latch v, it then sets its flag in each step whose number is a multiple of
--- v + 2, and in no other: the steps count from 1, and `pins` are those of the steps before.
+-- Timer 1 is in free-running mode if ACR bit 6 is set. After a write of v, it sets its flag in each
+-- step whose number is a multiple of v + 2, and in no other. Steps count from 1, and `pins` has the
+-- pins of the steps before.
 abbrev pub Timer1RunsFree : Type 0
 Timer1RunsFree =
     (c : State) (high : ℕ) (pins : List Pins) (p : Pins) → high < 256 → c.timer1.latch_low < 256 → bit c.acr 6 ≡ true →
     sets_timer1_flag p (after_steps pins (write_leaves 5 high c)) ≡ ((length pins + 1) % (word high c.timer1.latch_low + 2) == 0)
 
--- Where ACR bit 6 is clear it sets its flag once, in step v + 2.
+-- In one-shot mode, if ACR bit 6 is clear, it sets its flag once, in step v + 2.
 abbrev pub Timer1FiresOnce : Type 0
 Timer1FiresOnce =
     (c : State) (high : ℕ) (pins : List Pins) (p : Pins) → high < 256 → c.timer1.latch_low < 256 → bit c.acr 6 ≡ false →
     sets_timer1_flag p (after_steps pins (write_leaves 5 high c)) ≡ (length pins + 1 == word high c.timer1.latch_low + 2)
 
--- Timer 2, where it counts (ACR bit 5 is clear) and is written with v, sets its flag once: it counts from the second step on, so that v
--- more steps bring it to 0000, and the one after them, step v + 2, to FFFF.
+-- Timer 2 counts if ACR bit 5 is clear. After v is written to it, it sets its flag once. It counts
+-- from the second step on: step v + 1 makes the counter 0000, and step v + 2 makes it FFFF.
 abbrev pub Timer2FiresOnce : Type 0
 Timer2FiresOnce =
     (c : State) (high : ℕ) (pins : List Pins) (p : Pins) → high < 256 → c.timer2.latch_low < 256 → bit c.acr 5 ≡ false →

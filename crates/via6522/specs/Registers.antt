@@ -1,4 +1,5 @@
--- The sixteen registers of the 6522: what a read answers, and what a read and a write leave. (6522 data sheet, Register Select.)
+-- The sixteen registers of the 6522: the answer of a read, and the state after a read and a write.
+-- (6522 data sheet, Register Select.)
 use Rattle.std.specs.Prelude.{ℕ, ◌+◌, ◌-◌, ◌/◌, ◌%◌, ◌==◌, ◌&&◌, ◌||◌, Bool, false, not, bit_and, bit_or, if◌then◌else◌}
 use Rattle.beeb_bits.specs.Bits.{bit, weight}
 use Rattle.via6522.specs.declared.Pins.{Pins}
@@ -6,7 +7,8 @@ use Rattle.via6522.specs.State.{State, Causes, Timer1, Timer2}
 use Rattle.via6522.specs.Timers.{timer1_started, timer2_started}
 use Rattle.via6522.specs.Lines.{is_ca2_independent, is_cb2_independent}
 
--- A port: output bits, those that are set in its direction register, are those written, and the others are the pins'.
+-- A port: the bits that are set in its direction register are outputs and have the written value.
+-- The others have the pins' value.
 abbrev pub port : ℕ → ℕ → ℕ → ℕ
 port direction written pins = bit_or (bit_and written direction) (bit_and pins (255 - direction))
 
@@ -22,14 +24,14 @@ abbrev pub causes_byte : Causes → ℕ
 causes_byte s =
     weight 64 s.timer1 + weight 32 s.timer2 + weight 16 s.cb1 + weight 8 s.cb2 + weight 4 s.shift + weight 2 s.ca1 + weight 1 s.ca2
 
--- The interrupt is asked for: a flag is set that is enabled.
+-- The chip requests an interrupt: a flag and its enable bit are both set.
 abbrev pub asks : State → Bool
 asks c =
     (c.flags.timer1 && c.enabled.timer1) || (c.flags.timer2 && c.enabled.timer2) || (c.flags.cb1 && c.enabled.cb1) || (c.flags.cb2 && c.enabled.cb2)
     || (c.flags.shift && c.enabled.shift) || (c.flags.ca1 && c.enabled.ca1) || (c.flags.ca2 && c.enabled.ca2)
 
--- What a read answers: ORB, ORA, DDRB, DDRA, timer 1's counter and latch, timer 2's counter, SR, ACR, PCR, IFR with bit 7 where
--- the interrupt is asked for, IER with bit 7 set, and ORA again.
+-- The answer of a read: ORB, ORA, DDRB, DDRA, timer 1's counter and latch, timer 2's counter, SR,
+-- ACR, PCR, IFR with bit 7 set if an interrupt is requested, IER with bit 7 set, and ORA again.
 abbrev pub answer_of : ℕ → Pins → State → ℕ
 answer_of reg pins c =
     if reg == 0 then port c.ddrb c.orb pins.b
@@ -49,7 +51,8 @@ answer_of reg pins c =
     else if reg == 14 then 128 + causes_byte c.enabled
     else port c.ddra c.ora pins.a
 
--- An access to port A or B takes notice of its control lines: it clears their flags, but not that of an independent CA2 or CB2.
+-- An access to port A or B clears the flags of its control lines. The flag of an independent CA2 or
+-- CB2 stays.
 abbrev pub port_a_noticed : State → State
 port_a_noticed c = record c { flags = record c.flags { ca1 = false; ca2 = c.flags.ca2 && is_ca2_independent c.pcr } }
 
@@ -65,7 +68,8 @@ timer2_noticed c = record c { flags = record c.flags { timer2 = false } }
 abbrev pub shift_noticed : State → State
 shift_noticed c = record c { flags = record c.flags { shift = false } }
 
--- What a read leaves: a flag is cleared by a read of its port (register F aside), of its counter's low byte, or of the shift register.
+-- The state after a read. A read of ORB, of ORA (but not by register F), of a counter's low byte or
+-- of the shift register clears flags.
 abbrev pub read_leaves : ℕ → State → State
 read_leaves reg c =
     if reg == 0 then port_b_noticed c
@@ -75,7 +79,7 @@ read_leaves reg c =
     else if reg == 10 then shift_noticed c
     else c
 
--- these causes, with those set or cleared that the byte marks
+-- the causes s, with each one set or cleared that v marks
 abbrev pub set_marked : ℕ → Causes → Causes
 set_marked v s = record {
   timer1 = s.timer1 || bit v 6;
@@ -104,11 +108,11 @@ with_timer1 t c = record c { timer1 = t }
 abbrev pub with_timer2 : Timer2 → State → State
 with_timer2 t c = record c { timer2 = t }
 
--- a write to IER sets the marked bits where bit 7 is set, else it clears them
+-- a write to IER sets the marked bits if bit 7 is set, otherwise it clears them
 abbrev pub enabled_by : ℕ → State → State
 enabled_by v c = record c { enabled = if bit v 7 then set_marked v c.enabled else clear_marked v c.enabled }
 
--- What a write leaves. A write to IFR clears the marked bits.
+-- The state after a write. A write to IFR clears the marked bits.
 abbrev pub write_leaves : ℕ → ℕ → State → State
 write_leaves reg v c =
     if reg == 0 then record (port_b_noticed c) { orb = v }

@@ -1,4 +1,5 @@
--- The 6522, or Versatile Interface Adapter: two ports, four control lines, two timers, and the flags that ask for an interrupt.
+-- The 6522, or Versatile Interface Adapter: two ports, four control lines, two timers, and the
+-- flags that request an interrupt.
 use Rattle.std.specs.Prelude.{ℕ, Bool, false, true}
 
 -- A bit for each cause of an interrupt, as IFR and IER have them in bits 6 to 0.
@@ -16,9 +17,9 @@ pub record Timer1 : Type 0 where
   pub counter : ℕ
   pub latch_low : ℕ
   pub latch_high : ℕ
-  -- the next step makes the counter the latch
+  -- the next step loads the counter from the latch
   pub reload : Bool
-  -- written since it last set its flag, where it does not run free
+  -- the high byte was written after the timer last set its flag in one-shot mode
   pub armed : Bool
 
 -- Timer 2: a counter of 16 bits, and a latch for its low byte.
@@ -27,7 +28,7 @@ pub record Timer2 : Type 0 where
   pub latch_low : ℕ
   -- the next step does not count
   pub fresh : Bool
-  -- written since it last set its flag
+  -- the high byte was written after the timer last set its flag
   pub armed : Bool
 
 -- The levels of the four control lines.
@@ -38,7 +39,7 @@ pub record Levels : Type 0 where
   pub cb2 : Bool
 
 pub record State : Type 0 where
-  -- what is written to the ports, and which of their bits are outputs
+  -- the bytes written to the ports, and the direction registers: a set bit is an output
   pub orb : ℕ
   pub ora : ℕ
   pub ddrb : ℕ
@@ -58,7 +59,8 @@ pub record State : Type 0 where
 abbrev pub no_cause : Causes
 no_cause = record { timer1 = false; timer2 = false; cb1 = false; cb2 = false; shift = false; ca1 = false; ca2 = false }
 
--- At power-on all is 0, but for the earlier levels of CB1 and CB2. (Those levels are this project's profile.)
+-- At power-on all is 0, except the earlier levels of CB1 and CB2. (Those levels are this project's
+-- profile.)
 abbrev pub power_on : State
 power_on = record {
   orb = 0;

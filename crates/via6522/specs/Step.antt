@@ -29,15 +29,15 @@ edges_seen pins c = record c {
   levels = levels_of pins;
 }
 
--- One step with these pins. The shift register never shifts.
+-- One step with the pins `pins`. The shift register never shifts.
 abbrev pub step : Pins → State → State
 step pins c = edges_seen pins (timers_stepped c)
 
--- one step after the other, each with its pins
+-- one step after another, each with its own pins
 abbrev pub after_steps : List Pins → State → State
 after_steps [] c = c
 after_steps (p ∷ pins) c = after_steps pins (step p c)
 
--- n steps with the same pins
+-- n steps, each with the pins `pins`
 unfoldable pub steps : Pins → ℕ → State → State
 steps pins n c = after_steps (replicate n pins) c

@@ -1,4 +1,5 @@
-//! The causes of an interrupt, by their bits in the interrupt flag register and the interrupt enable register.
+//! The causes of an interrupt, by their bits in the interrupt flag register and the interrupt
+//! enable register.
 ghost use Rattle.std.specs.Prelude.{◌≡◌, ◌≤◌, ◌&&◌, ◌||◌};
 ghost use Rattle.via6522.specs.State.{no_cause};
 ghost use Rattle.via6522.specs.Registers.{causes_byte, set_marked, clear_marked};
@@ -6,7 +7,7 @@ ghost use Rattle.via6522.specs.Registers.{causes_byte, set_marked, clear_marked}
 use beeb_bits::{bit, weight};
 use std::marker::Model;
 
-/// Bits 6 to 0.
+/// A flag for each cause: bits 6 to 0 of IFR or of IER.
 #[derive(Drop)]
 pub(crate) struct Causes {
     pub(crate) timer1: bool,
@@ -49,7 +50,7 @@ impl Causes {
         }
     }
 
-    /// The causes as bits 6 to 0.
+    /// Returns the causes as bits 6 to 0.
     pub(crate) fn byte(&self) -> u8
         ensures value { result ≡ causes_byte self.now }
         ensures bound { result ≤ 127 }
@@ -63,7 +64,7 @@ impl Causes {
             + weight(1, self.ca2)
     }
 
-    /// Sets the bits that a byte marks.
+    /// Sets the bits that `v` marks.
     pub(crate) fn set_marked(&mut self, v: u8)
         ensures { self.new ≡ set_marked v self.old }
     {
@@ -76,7 +77,7 @@ impl Causes {
         self.ca2 = self.ca2 || bit(v, 0);
     }
 
-    /// Clears the bits that a byte marks.
+    /// Clears the bits that `v` marks.
     pub(crate) fn clear_marked(&mut self, v: u8)
         ensures { self.new ≡ clear_marked v self.old }
     {

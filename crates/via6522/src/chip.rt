@@ -1,4 +1,4 @@
-//! The chip, step by step: the plain body behind the quick one.
+//! The chip, one step at a time. `Via` uses it for the steps that are not quiet.
 ghost use Rattle.std.specs.Prelude.{◌≡◌, ◌<◌, ◌≤◌};
 ghost use Rattle.beeb_bits.specs.Bits.{bit};
 ghost use Rattle.via6522.specs.declared.Pins.{Pins};
@@ -26,10 +26,10 @@ pub(crate) struct Chip {
     pub(crate) timer1: Timer1,
     pub(crate) timer2: Timer2,
     sr: u8,
-    // The auxiliary control register, ACR, and the peripheral control register, PCR.
+    // ACR, the auxiliary control register, and PCR, the peripheral control register.
     pub(crate) acr: u8,
     pcr: u8,
-    // IFR, and IER.
+    // IFR, the interrupt flag register, and IER, the interrupt enable register.
     flags: Causes,
     enabled: Causes,
     levels: Levels,
@@ -56,7 +56,7 @@ impl Model for Chip {
     } };
 }
 
-// The output bits of a port are those written, and the others are the pins'.
+// Returns the byte of a port: the output bits are those written, the others are those of the pins.
 fn port(direction: u8, written: u8, pins: u8) -> u8
     ensures { result ≡ port direction written pins }
 {
@@ -64,7 +64,8 @@ fn port(direction: u8, written: u8, pins: u8) -> u8
 }
 
 impl Chip {
-    /// The chip at power-on: all registers 0, CA1 and CA2 low before the first step, and CB1 and CB2 high.
+    /// Returns the chip at power-on: all registers are 0. Before the first step CA1 and CA2 are
+    /// low, and CB1 and CB2 are high.
     pub(crate) fn new() -> Chip
         ensures { result ≡ power_on }
     {
@@ -95,7 +96,7 @@ impl Chip {
         }
     }
 
-    /// The levels of the control lines in the step before.
+    /// Returns the levels of the control lines in the last step.
     #[inline(always)]
     pub(crate) fn lines(&self) -> u8
         ensures { levels_in result ≡ (self.now).levels }
@@ -103,7 +104,7 @@ impl Chip {
         self.levels.lines
     }
 
-    /// Does one step of a microsecond, where the control lines have these levels.
+    /// Does one step of a microsecond with the levels `lines` of the control lines.
     pub(crate) fn step(&mut self, lines: u8)
         ensures { self.new ≡ step (pins_with lines) self.old }
     {
@@ -114,7 +115,7 @@ impl Chip {
         self.see_edges(lines);
     }
 
-    /// Does `n` steps, at least one, where the control lines have these levels.
+    /// Does `n` steps, at least one, with the levels `lines` of the control lines.
     pub(crate) fn advance(&mut self, lines: u8, n: u64)
         ensures { self.new ≡ edges_seen (pins_with lines) (timers_later n self.old) }
     {
@@ -125,7 +126,8 @@ impl Chip {
         self.see_edges(lines);
     }
 
-    /// A number of steps from `quiet` quiet steps before that surely set no timer's flag that is enabled.
+    /// Returns a number of steps, from the chip of `quiet` quiet steps before. No step of them sets
+    /// an enabled flag of a timer.
     pub(crate) fn calm(&self, quiet: u16) -> u64
         requires { IsQuiet quiet self.now }
         ensures timer1 { Timer1IsCalm result (ahead quiet self.now) }
@@ -154,7 +156,7 @@ impl Chip {
         self.timer2.calm(bit(self.acr, 5), quiet)
     }
 
-    // An active edge of a control line since the step before sets its flag.
+    // Sets the flag of each control line that has had an active edge since the last step.
     fn see_edges(&mut self, lines: u8)
         ensures { self.new ≡ edges_seen (pins_with lines) self.old }
     {
@@ -171,7 +173,7 @@ impl Chip {
         self.levels.lines = lines;
     }
 
-    /// The byte of a register, 0 to F, and what reading it does to the flags.
+    /// Reads a register, 0 to F. Returns its byte, and clears the flags that the read clears.
     pub(crate) fn read(&mut self, reg: u8, pins: Pins) -> u8
         requires { reg < 16 }
         ensures answer { result ≡ answer_of reg pins self.old }
@@ -212,7 +214,7 @@ impl Chip {
         }
     }
 
-    /// The byte of a register, B to E, where it is known whether the chip asks for an interrupt.
+    /// Returns the byte of a register, B to E. `is_asking` says if the chip requests an interrupt.
     #[inline(always)]
     pub(crate) fn held(&self, reg: u8, is_asking: bool) -> u8
         requires low { 11 ≤ reg }
@@ -270,7 +272,8 @@ impl Chip {
         }
     }
 
-    // An access to port A clears the flags of its control lines, but not that of an independent CA2.
+    // Clears the flags of port A's control lines, as an access to ORA does. The flag of an
+    // independent CA2 stays.
     fn notice_port_a(&mut self)
         ensures { self.new ≡ port_a_noticed self.old }
     {
@@ -278,7 +281,8 @@ impl Chip {
         self.flags.ca2 = self.flags.ca2 && bit(self.pcr, 1);
     }
 
-    // An access to port B does the same, but not for an independent CB2.
+    // Clears the flags of port B's control lines, as an access to ORB does. The flag of an
+    // independent CB2 stays.
     fn notice_port_b(&mut self)
         ensures { self.new ≡ port_b_noticed self.old }
     {
@@ -286,7 +290,7 @@ impl Chip {
         self.flags.cb2 = self.flags.cb2 && bit(self.pcr, 5);
     }
 
-    // A write to the interrupt enable register: bit 7 says whether the marked bits become set or clear.
+    // Writes IER: the marked bits become set if bit 7 is set, otherwise clear.
     fn enable(&mut self, v: u8)
         ensures { self.new ≡ enabled_by v self.old }
     {
@@ -297,7 +301,7 @@ impl Chip {
         }
     }
 
-    /// The chip asks for an interrupt: a flag is set that is enabled.
+    /// Reports if the chip requests an interrupt: a flag and its enable bit are both set.
     pub(crate) fn irq(&self) -> bool
         ensures { result ≡ asks self.now }
     {
@@ -312,14 +316,14 @@ impl Chip {
             || (set.ca2 && enabled.ca2)
     }
 
-    /// The output bits of port A, with ones for inputs.
+    /// Returns the output bits of port A, with ones for inputs.
     pub(crate) fn out_a(&self) -> u8
         ensures { result ≡ out_a self.now }
     {
         port(self.ddra, self.ora, 0xff)
     }
 
-    /// The output bits of port B, with ones for inputs.
+    /// Returns the output bits of port B, with ones for inputs.
     pub(crate) fn out_b(&self) -> u8
         ensures { result ≡ out_b self.now }
     {

@@ -23,14 +23,14 @@ impl Model for Levels {
     ghost view = { λ s. levels_in s.lines };
 }
 
-/// The line rose, where its active edge is up, or fell, where it is down.
+/// Reports if the line had its active edge: it rose if `up`, otherwise it fell.
 pub(crate) fn is_edge(up: bool, before: bool, now: bool) -> bool
     ensures { result ≡ is_edge up before now }
 {
     if up { !before && now } else { before && !now }
 }
 
-/// The levels of the pins, a bit each.
+/// Returns the levels of the pins, one bit each.
 #[inline(always)]
 pub(crate) fn lines_of(pins: Pins) -> u8
     ensures { levels_in result ≡ levels_of pins }

@@ -1,4 +1,4 @@
-//! The 6522, or Versatile Interface Adapter, a microsecond at a time (6522 data sheet).
+//! The 6522, or Versatile Interface Adapter, one microsecond at a time (6522 data sheet).
 #![tactic(auto)]
 
 mod causes;
@@ -13,7 +13,7 @@ mod via;
 pub use law::{timer1_fires_once, timer1_runs_free, timer2_fires_once};
 pub use via::Via;
 
-/// What is put on the pins from outside: the bits of both ports, of which the inputs count, and the levels of the control lines.
+/// The levels that are put on the pins from outside. Of both ports only the input bits count.
 #[derive(Clone, Copy, Debug, PartialEq, Eq)]
 pub struct Pins {
     pub a: u8,

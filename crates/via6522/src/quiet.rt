@@ -1,4 +1,4 @@
-//! Steps in which both timers do nothing but count.
+//! Quiet steps: both timers only count down.
 ghost use Rattle.std.specs.Prelude.{◌≡◌};
 ghost use Rattle.via6522.specs.CodeQuiet.{ahead, IsQuiet, NextAreQuiet};
 
@@ -6,7 +6,7 @@ use crate::chip::Chip;
 use beeb_bits::bit;
 
 impl Chip {
-    // How many quiet steps come.
+    // Returns the number of quiet steps that come next.
     fn quiet_steps(&self) -> u16
         ensures { NextAreQuiet result self.now }
     {
@@ -22,7 +22,7 @@ impl Chip {
         self.timer1.counter.min(self.timer2.counter)
     }
 
-    /// Leaves the chip as it is behind all quiet steps that come, and answers how many they are.
+    /// Does all quiet steps that come next, and returns their number.
     pub(crate) fn wind(&mut self) -> u16
         ensures same { ahead result self.new ≡ self.old }
         ensures quiet { IsQuiet result self.new }
@@ -35,7 +35,7 @@ impl Chip {
         quiet
     }
 
-    /// Takes back so many quiet steps.
+    /// Takes back `quiet` quiet steps.
     pub(crate) fn unwind(&mut self, quiet: u16)
         requires { IsQuiet quiet self.old }
         ensures { self.new ≡ ahead quiet self.old }

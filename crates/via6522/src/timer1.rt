@@ -6,7 +6,7 @@ ghost use Rattle.via6522.specs.CodeQuiet.{timer1_ahead};
 
 use std::marker::Model;
 
-/// The number of 16 bits that has these two bytes.
+/// Returns the 16-bit number of two bytes.
 pub(crate) fn word(high: u8, low: u8) -> u16
     ensures { result ≡ word high low }
 {
@@ -20,9 +20,9 @@ pub(crate) struct Timer1 {
     // T1L, whose bytes are T1L-L and T1L-H.
     pub(crate) latch_low: u8,
     pub(crate) latch_high: u8,
-    // The next step makes the counter the latch.
+    // The next step loads the counter from the latch.
     pub(crate) reload: bool,
-    // Written since it last set its flag, where it does not run free.
+    // T1C-H was written after the timer last set its flag in one-shot mode.
     pub(crate) armed: bool,
 }
 
@@ -41,7 +41,7 @@ impl Model for Timer1 {
 }
 
 impl Timer1 {
-    /// Does a step, and answers whether it sets the flag.
+    /// Does a step, and reports if the step sets the flag.
     pub(crate) fn step(&mut self, runs_free: bool) -> bool
         ensures timer { self.new ≡ timer1_after runs_free self.old }
         ensures flag { result ≡ timer1_flags runs_free self.old }
@@ -64,7 +64,7 @@ impl Timer1 {
         was_armed
     }
 
-    /// Does `n` steps, and answers whether one of them sets the flag.
+    /// Does `n` steps, and reports if one of them sets the flag.
     pub(crate) fn advance(&mut self, runs_free: bool, n: u64) -> bool
         ensures timer { self.new ≡ timer1_later runs_free n self.old }
         ensures flag { result ≡ timer1_flags_within runs_free n self.old }
@@ -80,7 +80,7 @@ impl Timer1 {
         self.count(runs_free, n)
     }
 
-    // The same where the next step counts.
+    // Does what `advance` does, if the next step counts.
     fn count(&mut self, runs_free: bool, n: u64) -> bool
         requires { self.old.reload ≡ false }
         ensures timer { self.new ≡ timer1_later runs_free n self.old }
@@ -101,7 +101,7 @@ impl Timer1 {
         was_armed
     }
 
-    // Running free, `n` steps after one that set the flag.
+    // Does `n` steps in free-running mode after a step that set the flag.
     fn run_on(&mut self, n: u64)
         ensures { self.new ≡ timer1_later true n (timer1_at_end self.old) }
     {
@@ -116,7 +116,8 @@ impl Timer1 {
         }
     }
 
-    /// A number of steps that surely do not set the flag, from `quiet` quiet steps before.
+    /// Returns a number of steps, from the timer of `quiet` quiet steps before, that do not set the
+    /// flag.
     pub(crate) fn calm(&self, runs_free: bool, quiet: u16) -> u64
         requires within { self.now.counter + quiet < 65536 }
         requires loaded { 0 < quiet → self.now.reload ≡ false }
@@ -131,7 +132,7 @@ impl Timer1 {
         u64::from(self.counter) + u64::from(quiet)
     }
 
-    /// A write of the counter's high byte.
+    /// Writes the counter's high byte, T1C-H.
     pub(crate) fn start(&mut self, high: u8)
         ensures { self.new ≡ timer1_started high self.old }
     {

@@ -15,7 +15,7 @@ pub(crate) struct Timer2 {
     pub(crate) latch_low: u8,
     // The next step does not count.
     pub(crate) fresh: bool,
-    // Written since it last set its flag.
+    // T2C-H was written after the timer last set its flag.
     pub(crate) armed: bool,
 }
 
@@ -28,7 +28,7 @@ impl Model for Timer2 {
 }
 
 impl Timer2 {
-    /// Does a step, unless the timer stands still, and answers whether it sets the flag.
+    /// Does a step, unless `stands_still`, and reports if the step sets the flag.
     pub(crate) fn step(&mut self, stands_still: bool) -> bool
         ensures timer { self.new ≡ timer2_after stands_still self.old }
         ensures flag { result ≡ timer2_flags stands_still self.old }
@@ -49,7 +49,7 @@ impl Timer2 {
         was_armed
     }
 
-    /// Does `n` steps, unless the timer stands still, and answers whether one of them sets the flag.
+    /// Does `n` steps, unless `stands_still`, and reports if one of them sets the flag.
     pub(crate) fn advance(&mut self, stands_still: bool, n: u64) -> bool
         ensures timer { self.new ≡ timer2_later stands_still n self.old }
         ensures flag { result ≡ timer2_flags_within stands_still n self.old }
@@ -67,7 +67,7 @@ impl Timer2 {
         self.count(n)
     }
 
-    // The same where the next step counts.
+    // Does what `advance` does, if the next step counts.
     fn count(&mut self, n: u64) -> bool
         requires { self.old.fresh ≡ false }
         ensures timer { self.new ≡ timer2_later false n self.old }
@@ -83,7 +83,8 @@ impl Timer2 {
         fires
     }
 
-    /// A number of steps that surely do not set the flag, from `quiet` quiet steps before.
+    /// Returns a number of steps that do not set the flag, from the timer of `quiet` quiet steps
+    /// before.
     pub(crate) fn calm(&self, stands_still: bool, quiet: u16) -> u64
         requires { stands_still ≡ false → self.now.counter + quiet < 65536 }
         ensures { Timer2SetsNoFlag stands_still result (timer2_ahead stands_still quiet self.now) }
@@ -97,7 +98,7 @@ impl Timer2 {
         u64::from(self.counter) + u64::from(quiet)
     }
 
-    /// A write of the counter's high byte.
+    /// Writes the counter's high byte, T2C-H.
     pub(crate) fn start(&mut self, high: u8)
         ensures { self.new ≡ timer2_started high self.old }
     {

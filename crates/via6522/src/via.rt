@@ -1,4 +1,4 @@
-//! The 6522 as its callers see it, where most steps only count down.
+//! The 6522 as callers see it. Most steps only decrement one count, that of the quiet steps.
 ghost use Rattle.std.specs.Prelude.{◌≡◌, ◌<◌, ◌≤◌};
 ghost use Rattle.via6522.specs.declared.Pins.{Pins};
 ghost use Rattle.via6522.specs.State.{power_on};
@@ -15,11 +15,11 @@ use std::marker::Model;
 /// A 6522.
 #[derive(Drop)]
 pub struct Via {
-    // The chip as it is behind the quiet steps.
+    // The chip after the quiet steps that are not done yet.
     chip: Chip,
-    // So many steps come in which both timers do nothing but count.
+    // The number of quiet steps that come next: in each, both timers only count down.
     quiet: u16,
-    // A flag is set that is enabled.
+    // The chip requests an interrupt: a flag and its enable bit are both set.
     is_asking: bool,
 }
 
@@ -37,7 +37,8 @@ impl Model for Via {
 }
 
 impl Via {
-    /// The chip at power-on: all registers 0, CA1 and CA2 low before the first step, and CB1 and CB2 high.
+    /// Returns the chip at power-on: all registers are 0. Before the first step CA1 and CA2 are
+    /// low, and CB1 and CB2 are high.
     pub fn new() -> Via
         ensures { result ≡ power_on }
     {
@@ -48,7 +49,8 @@ impl Via {
         }
     }
 
-    /// Does one step of a microsecond: both timers, and then the edges of the control lines since the step before.
+    /// Does one step of a microsecond: both timers, and then the edges of the control lines since
+    /// the last step.
     #[inline(always)]
     pub fn step(&mut self, pins: Pins)
         ensures { self.new ≡ step pins self.old }
@@ -61,7 +63,7 @@ impl Via {
         }
     }
 
-    // A step in which a line changes, or a timer does more than count.
+    // Does a step if a line changes or a timer does more than count.
     #[cold]
     #[inline(never)]
     fn step_in_full(&mut self, lines: u8)
@@ -73,7 +75,7 @@ impl Via {
         self.is_asking = self.chip.irq();
     }
 
-    /// Does `n` steps with the same pins.
+    /// Does `n` steps, each with the pins `pins`.
     #[inline(always)]
     pub fn advance(&mut self, pins: Pins, n: u64)
         ensures { self.new ≡ steps pins n self.old }
@@ -86,7 +88,7 @@ impl Via {
         }
     }
 
-    // Steps in which a line changes, or a timer does more than count.
+    // Does `n` steps if a line changes or a timer does more than count.
     #[cold]
     #[inline(never)]
     fn advance_in_full(&mut self, lines: u8, n: u64)
@@ -98,7 +100,8 @@ impl Via {
         self.is_asking = self.chip.irq();
     }
 
-    /// A number of steps with these pins in which it surely asks for an interrupt as it does now.
+    /// Returns a number of steps with the pins `pins` during which the interrupt request does not
+    /// change.
     #[inline(always)]
     pub fn calm(&self, pins: Pins) -> u64
         ensures { AsksAlike pins result self.now }
@@ -112,7 +115,7 @@ impl Via {
         self.chip.calm(self.quiet)
     }
 
-    /// The byte of a register, 0 to F, and what reading it does to the flags.
+    /// Reads a register, 0 to F. Returns its byte, and clears the flags that the read clears.
     pub fn read(&mut self, reg: u8, pins: Pins) -> u8
         requires { reg < 16 }
         ensures answer { result ≡ answer_of reg pins self.old }
@@ -125,8 +128,8 @@ impl Via {
         answer
     }
 
-    /// The byte of one of the registers B to E, the control registers and those of the interrupts: whatever the pins, and a read leaves all as
-    /// it is.
+    /// Returns the byte of a register B to E: ACR, PCR, IFR or IER. It does not depend on the pins,
+    /// and a read of it changes nothing.
     #[inline(always)]
     pub fn held(&self, reg: u8) -> u8
         requires low { 11 ≤ reg }
@@ -148,7 +151,7 @@ impl Via {
         self.is_asking = self.chip.irq();
     }
 
-    /// The chip asks for an interrupt: a flag is set that is enabled.
+    /// Reports if the chip requests an interrupt: a flag and its enable bit are both set.
     #[inline(always)]
     pub fn irq(&self) -> bool
         ensures { result ≡ asks self.now }
@@ -156,7 +159,7 @@ impl Via {
         self.is_asking
     }
 
-    /// The output bits of port A, with ones for inputs.
+    /// Returns the output bits of port A, with ones for inputs.
     #[inline(always)]
     pub fn out_a(&self) -> u8
         ensures { result ≡ out_a self.now }
@@ -164,7 +167,7 @@ impl Via {
         self.chip.out_a()
     }
 
-    /// The output bits of port B, with ones for inputs.
+    /// Returns the output bits of port B, with ones for inputs.
     pub fn out_b(&self) -> u8
         ensures { result ≡ out_b self.now }
     {

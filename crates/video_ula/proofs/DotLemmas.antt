@@ -72,7 +72,7 @@ sixteen_by_table entries width byte r ready none fits =
     ap (λ (ds : List ℕ). ds ++ eight_at r.last byte) (in_table 0 entries width byte r.first both.0 fits)
     ∙ ap (λ (ds : List ℕ). eight_in 0 entries byte width ++ ds) (in_table 8 entries width byte r.last both.1 fits)
 
--- and are its colours; so it is in a row of bytes
+-- they are also its colours, and so for a row of bytes
 module _ (u : State) (bytes : List ℕ) (step n : ℕ) (r : Ready) (ready : IsReady (entry_colours (bit u.control 0) u.palette) (pixel_width u.control) r)
     (none : (r.waits == 0) ≡ true) (fits : (i : ℕ) → slice_index bytes i < 256) where
   pub narrow_is : bit u.control 4 ≡ true → side_by_side (λ k. eight_at r.first (slice_index bytes (k * step))) n ≡ row_colours u bytes step n
@@ -86,7 +86,7 @@ module _ (u : State) (bytes : List ℕ) (step n : ℕ) (r : Ready) (ready : IsRe
       ap (λ (f : ℕ → List ℕ). side_by_side f n) (fun_ext λ k. let byte = slice_index bytes (k * step) in
       rw off (sixteen_by_table _ (pixel_width u.control) byte r ready none (fits (k * step)) ∙ dots-same u byte false (range_with_len 0 16)))
 
--- a table as far as it is filled
+-- a table with its first entries filled
 pub filled_more : (first : ℕ) (entries : List ℕ) (width i : ℕ) (table : List (List ℕ)) (dots : List ℕ) → i < length table →
     take i table ≡ map (λ byte. eight_in first entries byte width) (range_with_len 0 i) → dots ≡ eight_in first entries i width →
     take (i + 1) (slice_set table i dots) ≡ map (λ byte. eight_in first entries byte width) (range_with_len 0 (i + 1))

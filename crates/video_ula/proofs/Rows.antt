@@ -1,16 +1,16 @@
--- Dots that stand side by side.
+-- Dots side by side.
 use Rattle.std.proofs.Common.{◌≡◌, ◌∙◌, ap, refl, ℕ, suc, ◌+◌, ◌≤◌, List, [], ◌∷◌, ◌++◌, length, take, append_assoc, add-one, arith}
 use Rattle.std.proofs.lemmas.Slice.{take-put_mid}
 use borrow.Rule.Slice.PartMut.{put_mid}
 use Rattle.video_ula.specs.Pixels.{side_by_side}
 use Rattle.video_ula.proofs.DotLemmas.{first_of}
 
--- One character more is put behind those so far.
+-- One more character after the others.
 pub row_more : (f : ℕ → List ℕ) (i at k next : ℕ) (xs dots : List ℕ) → take at xs ≡ side_by_side f i → at ≤ length xs → dots ≡ f i → next ≡ at + length dots →
     take next (put_mid at k xs dots) ≡ side_by_side f (i + 1)
 row_more f i at k next xs dots so fits is long = rw (take-put_mid at k xs dots next long fits, so, is, add-one)
 
--- Two characters more.
+-- Two more characters.
 pub pair_more : (f : ℕ → List ℕ) (i at k next : ℕ) (xs first last dots : List ℕ) → take at xs ≡ side_by_side f i → at ≤ length xs → first ≡ f i → last ≡ f (i + 1) →
     dots ≡ first ++ last → next ≡ at + length dots → take next (put_mid at k xs dots) ≡ side_by_side f (i + 2)
 pair_more f i at k next xs first last dots so fits a b is long =

@@ -4,26 +4,27 @@ use Rattle.std.specs.List.{range_with_len}
 use Rattle.beeb_bits.specs.Bits.{bit}
 use Rattle.video_ula.specs.State.{State}
 
--- A character is 8 dots wide where the 6845 has the clock of 2 MHz, else 16.
+-- A character is 8 dots wide if the 6845 has the 2 MHz clock, otherwise 16.
 abbrev pub dots_of : ℕ → ℕ
 dots_of control = if bit control 4 then 8 else 16
 
--- A pixel is 8, 4, 2 or 1 dots wide where a line has 10, 20, 40 or 80 characters.
+-- A pixel is 8, 4, 2 or 1 dots wide if a line has 10, 20, 40 or 80 characters.
 abbrev pub pixel_width : ℕ → ℕ
 pixel_width control = 2 ^ (3 - control / 4 % 4)
 
--- The byte as pixel k finds it: shifted left by k, with ones shifted in.
+-- The byte for pixel k: shifted left by k, with ones shifted in.
 abbrev pub shifted_byte : ℕ → ℕ → ℕ
 shifted_byte byte k = (byte * 2 ^ k + (2 ^ k - 1)) % 256
 
--- The palette's entry that a shifted byte names: by its bits 7, 5, 3 and 1.
+-- The palette entry of a shifted byte, by its bits 7, 5, 3 and 1.
 abbrev pub weight : ℕ → Bool → ℕ
 weight n b = if b then n else 0
 
 abbrev pub entry_of : ℕ → ℕ
 entry_of c = weight 8 (bit c 7) + weight 4 (bit c 5) + weight 2 (bit c 3) + weight 1 (bit c 1)
 
--- The colour of a value: its low three bits, inverted where bit 3 makes it flash and the control byte's bit 0 is set.
+-- The colour of a value: its low three bits, inverted if the value flashes, by its bit 3, and the
+-- control byte's bit 0 is set.
 abbrev pub colour_of : Bool → ℕ → ℕ
 colour_of flash value = bit_xor (value % 8) (if bit value 3 && flash then 7 else 0)
 
@@ -40,11 +41,11 @@ dot_colour u byte cursor d =
 abbrev pub colours : State → ℕ → Bool → List ℕ
 colours u byte cursor = map (dot_colour u byte cursor) (range_with_len 0 (dots_of u.control))
 
--- The dots of n characters, one beside the other: those of the k-th are `dots k`, and they are counted from 0.
+-- The dots of n characters side by side. Those of character k, counted from 0, are `dots k`.
 abbrev pub side_by_side : (ℕ → List ℕ) → ℕ → List ℕ
 side_by_side dots zero = []
 side_by_side dots (suc n) = side_by_side dots n ++ dots n
 
--- the colours of n characters side by side that the cursor does not mark, whose bytes are `step` apart
+-- the colours of n characters side by side without the cursor, whose bytes are `step` apart
 abbrev pub row_colours : State → List ℕ → ℕ → ℕ → List ℕ
 row_colours u bytes step n = side_by_side (λ k. colours u (slice_index bytes (k * step)) false) n

@@ -6,7 +6,7 @@ ghost use Rattle.video_ula.specs.Colours.{pixel_of, dots_in};
 
 use crate::entries::entry_of;
 
-/// The byte as pixel `k` finds it.
+/// Returns the byte for pixel `k`.
 #[inline(always)]
 fn shifted(byte: u8, k: u32) -> u8
     requires { k < 16 }
@@ -16,7 +16,7 @@ fn shifted(byte: u8, k: u32) -> u8
     (((u32::from(byte) << k) + ones) % 256) as u8
 }
 
-/// The colour of pixel `k`, with these colours for the palette's entries.
+/// Returns the colour of pixel `k`, by the colours of the palette's entries.
 #[inline(always)]
 fn pixel(colours: &[u8; 16], byte: u8, cursor: bool, k: u32) -> u8
     requires { k < 16 }
@@ -26,7 +26,7 @@ fn pixel(colours: &[u8; 16], byte: u8, cursor: bool, k: u32) -> u8
     colour ^ (if cursor { 7 } else { 0 })
 }
 
-/// The sixteen dots of a byte, where a pixel is 8, 4, 2 or 1 dots wide for `width` 0 to 3.
+/// Returns the sixteen dots of a byte. A pixel is 8, 4, 2 or 1 dots wide for `width` 0 to 3.
 #[inline(always)]
 pub(crate) fn sixteen(colours: &[u8; 16], byte: u8, cursor: bool, width: u8) -> [u8; 16]
     requires { width < 4 }
@@ -43,7 +43,7 @@ pub(crate) fn sixteen(colours: &[u8; 16], byte: u8, cursor: bool, width: u8) -> 
     }
 }
 
-/// Where a pixel is 8 dots wide.
+/// Returns the dots for a pixel of 8 dots.
 fn eight_wide(colours: &[u8; 16], byte: u8, cursor: bool) -> [u8; 16]
     ensures { result ≡ dots_in colours.now byte cursor 8 }
 {
@@ -52,7 +52,7 @@ fn eight_wide(colours: &[u8; 16], byte: u8, cursor: bool) -> [u8; 16]
     [a, a, a, a, a, a, a, a, b, b, b, b, b, b, b, b]
 }
 
-/// Where a pixel is 4 dots wide.
+/// Returns the dots for a pixel of 4 dots.
 fn four_wide(colours: &[u8; 16], byte: u8, cursor: bool) -> [u8; 16]
     ensures { result ≡ dots_in colours.now byte cursor 4 }
 {
@@ -63,7 +63,7 @@ fn four_wide(colours: &[u8; 16], byte: u8, cursor: bool) -> [u8; 16]
     [a, a, a, a, b, b, b, b, c, c, c, c, d, d, d, d]
 }
 
-/// Where a pixel is 2 dots wide.
+/// Returns the dots for a pixel of 2 dots.
 fn two_wide(colours: &[u8; 16], byte: u8, cursor: bool) -> [u8; 16]
     ensures { result ≡ dots_in colours.now byte cursor 2 }
 {
@@ -78,7 +78,8 @@ fn two_wide(colours: &[u8; 16], byte: u8, cursor: bool) -> [u8; 16]
     [a, a, b, b, c, c, d, d, e, e, f, f, g, g, h, h]
 }
 
-/// Where a pixel is 1 dot wide. From the ninth on all bits that are shifted in are ones.
+/// Returns the dots for a pixel of 1 dot. From the ninth pixel on, all bits that count are ones
+/// that were shifted in.
 fn one_wide(colours: &[u8; 16], byte: u8, cursor: bool) -> [u8; 16]
     ensures { result ≡ dots_in colours.now byte cursor 1 }
 {

@@ -1,4 +1,5 @@
-//! The video ULA: the colours of a byte's dots (BBC Microcomputer Advanced User Guide, The Video ULA).
+//! The video ULA: the colours of a byte's dots (BBC Microcomputer Advanced User Guide, The Video
+//! ULA).
 #![tactic(auto)]
 
 mod dots;

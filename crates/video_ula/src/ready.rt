@@ -1,23 +1,24 @@
-//! The dots of all bytes, computed once for many.
+//! Tables of the dots of all bytes.
 ghost use Rattle.std.specs.Prelude.{ℕ, ◌≡◌, ◌<◌, ◌==◌, ◌-◌, ◌*◌, ◌^◌, ◌++◌, ◌⊎◌, true, length, slice_index};
 ghost use Rattle.video_ula.specs.Pixels.{side_by_side};
 ghost use Rattle.video_ula.specs.Colours.{table_of, IsReady, eight_at, sixteen_at, HasEights};
 
 use crate::dots::sixteen;
 
-/// How many bytes are computed each by itself before all are computed: as many as cost about as much.
+/// The number of bytes that are computed one by one before the tables are: they cost about as much
+/// as the tables.
 const PATIENCE: u8 = 100;
 
 #[derive(Drop)]
 pub(crate) struct Ready {
-    // The first eight dots of each byte that the cursor does not mark, and the last eight of its sixteen.
+    // The first eight dots of each byte without the cursor, and the last eight of its sixteen.
     first: [[u8; 8]; 256],
     last: [[u8; 8]; 256],
-    // For so many bytes more each is computed by itself: with 0 both tables are right.
+    // The number of further bytes that are computed one by one. If it is 0, both tables are right.
     waits: u8,
 }
 
-// Puts all bytes into both tables.
+// Computes both tables.
 fn fill(first: &mut [[u8; 8]; 256], last: &mut [[u8; 8]; 256], entries: &[u8; 16], width: u8)
     requires { width < 4 }
     ensures first { first.new ≡ table_of 0 entries.now (2 ^ (3 - width)) }
@@ -32,7 +33,7 @@ fn fill(first: &mut [[u8; 8]; 256], last: &mut [[u8; 8]; 256], entries: &[u8; 16
     }
 }
 
-// Writes eight dots as one array: a copy of a slice would test whether both overlap.
+// Writes eight dots as one array: a copy of a slice would test for overlap.
 #[inline(always)]
 fn put_eight(to: &mut [u8], eight: [u8; 8])
     requires { length to.old ≡ 8 }
@@ -43,7 +44,7 @@ fn put_eight(to: &mut [u8], eight: [u8; 8])
     }
 }
 
-// Writes sixteen.
+// Writes sixteen dots as one array.
 #[inline(always)]
 fn put_sixteen(to: &mut [u8], sixteen: [u8; 16])
     requires { length to.old ≡ 16 }
@@ -54,7 +55,7 @@ fn put_sixteen(to: &mut [u8], sixteen: [u8; 16])
     }
 }
 
-// Eight dots, and eight behind them.
+// Returns eight dots and eight after them.
 #[inline(always)]
 fn both(first: [u8; 8], last: [u8; 8]) -> [u8; 16]
     ensures dots { result ≡ first ++ last }
@@ -66,7 +67,7 @@ fn both(first: [u8; 8], last: [u8; 8]) -> [u8; 16]
 }
 
 impl Ready {
-    /// Nothing is computed.
+    /// Returns tables that are not computed.
     pub(crate) fn nothing() -> Ready
         ensures { result.waits ≡ PATIENCE }
     {
@@ -77,14 +78,14 @@ impl Ready {
         }
     }
 
-    /// What was computed is right no more.
+    /// Marks the tables as out of date.
     pub(crate) fn forget(&mut self)
         ensures { self.new.waits ≡ PATIENCE }
     {
         self.waits = PATIENCE;
     }
 
-    /// The tables are right.
+    /// Reports if the tables are right.
     #[inline(always)]
     pub(crate) fn is_ready(&self) -> bool
         ensures { result ≡ (self.now.waits == 0) }
@@ -92,7 +93,7 @@ impl Ready {
         self.waits == 0
     }
 
-    /// One more byte is asked for: whether it is time to compute all.
+    /// Counts one more byte. Reports if it is time to compute the tables.
     pub(crate) fn wait(&mut self) -> bool
         ensures right { (result ≡ true) ⊎ (0 < self.new.waits) }
     {
@@ -103,7 +104,7 @@ impl Ready {
         true
     }
 
-    /// Computes all.
+    /// Computes both tables.
     pub(crate) fn compute(&mut self, entries: &[u8; 16], width: u8)
         requires { width < 4 }
         ensures { IsReady entries.now (2 ^ (3 - width)) self.new }
@@ -112,7 +113,8 @@ impl Ready {
         self.waits = 0;
     }
 
-    // The first eight dots of a byte by the table, as a copy: so that they are written at once.
+    // Returns the first eight dots of a byte from the table, as a copy, so that they are written at
+    // once.
     #[inline(always)]
     fn first(&self, byte: u8) -> [u8; 8]
         requires { HasEights self.now }
@@ -122,7 +124,7 @@ impl Ready {
         self.first[byte as usize]
     }
 
-    // The last eight.
+    // Returns the last eight dots of a byte.
     #[inline(always)]
     fn last(&self, byte: u8) -> [u8; 8]
         requires { HasEights self.now }
@@ -132,7 +134,7 @@ impl Ready {
         self.last[byte as usize]
     }
 
-    /// The sixteen dots of a byte by the tables.
+    /// Returns the sixteen dots of a byte from the tables.
     #[inline(always)]
     pub(crate) fn dots(&self, byte: u8) -> [u8; 16]
         requires { HasEights self.now }
@@ -150,7 +152,7 @@ impl Ready {
         requires room { length to.old ≡ n * 8 }
         ensures { to.new ≡ side_by_side (λ k. eight_at self.now.first (slice_index bytes.now (k * step))) n }
     {
-        // The step of all pictures but teletext is a constant there.
+        // All pictures except teletext have step 8. It is a constant in this call.
         if step == 8 {
             self.narrow_row_by(bytes, 8, n, to);
         } else {
@@ -158,7 +160,7 @@ impl Ready {
         }
     }
 
-    // Sixteen dots at a time, and those that are left eight by eight.
+    // Writes sixteen dots at a time, and eight at a time at the end.
     #[inline(always)]
     fn narrow_row_by(&self, bytes: &[u8], step: usize, n: usize, to: &mut [u8])
         requires table { HasEights self.now }
@@ -184,7 +186,7 @@ impl Ready {
         }
     }
 
-    /// Likewise the sixteen of each.
+    /// Writes the sixteen dots of each of `n` bytes, `step` apart, side by side.
     #[inline(always)]
     pub(crate) fn wide_row(&self, bytes: &[u8], step: usize, n: usize, to: &mut [u8])
         requires table { HasEights self.now }

@@ -15,10 +15,11 @@ use std::marker::Model;
 pub struct Ula {
     control: u8,
     palette: [u8; 16],
-    // The colours of the palette's entries, while the control byte's bit 0 is clear and while it is set.
+    // The colours of the palette's entries, while the control byte's bit 0 is clear and while it is
+    // set.
     steady: [u8; 16],
     flashed: [u8; 16],
-    // The dots of all bytes.
+    // The tables of the dots of all bytes.
     ready: Ready,
 }
 
@@ -37,7 +38,7 @@ impl Model for Ula {
         × IsReady (entry_colours (bit u.control 0) u.palette) (pixel_width u.control) u.ready };
 }
 
-/// The colour of a palette's value.
+/// Returns the colour of a palette value.
 fn colour_of(flash: bool, value: u8) -> u8
     ensures { result ≡ colour_of flash value }
 {
@@ -45,7 +46,7 @@ fn colour_of(flash: bool, value: u8) -> u8
 }
 
 impl Ula {
-    /// The chip at power-on: all is 0, the palette's values too.
+    /// Returns the chip at power-on: all is 0, the palette's values too.
     pub fn new() -> Ula
         ensures { result ≡ power_on }
     {
@@ -66,7 +67,7 @@ impl Ula {
         self.ready.forget();
     }
 
-    /// Writes the palette: the high digit is the entry, and the low digit XOR 7 its value.
+    /// Writes the palette: the high digit is the entry, and its value is the low digit XOR 7.
     pub fn palette(&mut self, v: u8)
         ensures { self.new ≡ palette_leaves v self.old }
     {
@@ -78,7 +79,7 @@ impl Ula {
         self.ready.forget();
     }
 
-    /// The control byte last written, 00 at power-on.
+    /// Returns the control byte last written, 00 at power-on.
     #[inline(always)]
     pub fn mode(&self) -> u8
         ensures { result ≡ self.now.control }
@@ -86,7 +87,8 @@ impl Ula {
         self.control
     }
 
-    /// Writes the colours of a byte's 8 or 16 dots, and gives their number. `cursor` is whether the character is marked by the cursor.
+    /// Writes the colours of a byte's 8 or 16 dots, and returns their number. `cursor` says if the
+    /// cursor marks the character.
     #[inline(always)]
     pub fn pixels(&self, byte: u8, cursor: bool, to: &mut [u8; 16]) -> u8
         ensures number { result ≡ dots_of self.now.control }
@@ -102,7 +104,8 @@ impl Ula {
         }
     }
 
-    /// A byte is asked for. Some time after the palette or the control byte is written, all are made ready. Nothing that is seen changes.
+    /// Counts a byte. The tables are computed some bytes after a write to the palette or the
+    /// control byte. Contracts see no change.
     #[inline(always)]
     pub fn prepare(&mut self)
         ensures { self.new ≡ self.old }
@@ -112,7 +115,7 @@ impl Ula {
         }
     }
 
-    // One byte more was not ready.
+    // Counts a byte while the tables are not right.
     #[inline(never)]
     fn wait(&mut self)
         ensures { self.new ≡ self.old }
@@ -127,8 +130,9 @@ impl Ula {
         }
     }
 
-    /// Writes the colours of the dots of `n` characters side by side that the cursor does not mark, where they are ready, and tells whether
-    /// they are. Their bytes are `step` apart, and `to` has room for their dots and no more.
+    /// Writes the colours of the dots of `n` characters side by side without the cursor, if the
+    /// tables are right. Their bytes are `step` apart, and `to` has the length of their dots.
+    /// Returns `false`, with `to` unchanged, if the tables are not right.
     #[inline(always)]
     pub fn row_ready(&self, bytes: &[u8], step: usize, n: usize, to: &mut [u8]) -> bool
         requires bytes { (k : ℕ) → k < n → k * step < length bytes.now }
@@ -147,7 +151,7 @@ impl Ula {
         true
     }
 
-    // The colours of the entries, as the control byte's bit 0 says.
+    // Returns the colours of the entries, by the control byte's bit 0.
     #[inline(always)]
     fn entries(&self) -> &[u8; 16]
         ensures { result.now ≡ entry_colours (bit self.now.control 0) self.now.palette }
@@ -159,7 +163,7 @@ impl Ula {
         }
     }
 
-    // Sixteen dots of a byte: looked up where they are ready.
+    // Returns sixteen dots of a byte, from the tables if they are right.
     #[inline(always)]
     fn dots(&self, byte: u8, cursor: bool) -> [u8; 16]
         ensures { result ≡ dots_in (entry_colours (bit self.now.control 0) self.now.palette) byte cursor (pixel_width self.now.control) }
@@ -171,7 +175,7 @@ impl Ula {
         }
     }
 
-    // The same without the table.
+    // Returns sixteen dots of a byte without the tables.
     #[inline(never)]
     fn dots_by_themselves(&self, byte: u8, cursor: bool) -> [u8; 16]
         ensures { result ≡ dots_in (entry_colours (bit self.now.control 0) self.now.palette) byte cursor (pixel_width self.now.control) }

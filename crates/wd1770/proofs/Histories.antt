@@ -41,7 +41,7 @@ turns (latch v ∷ es) s n at = turns es (latch_leaves v s) n (grind (arith, at)
 pub turns_on : (d0 d1 : Option Image) (events : List Event) → (history events (power_on d0 d1)).angle ≡ angle_after (count_steps events)
 turns_on d0 d1 events = turns events (power_on d0 d1) 0 refl ∙ ap angle_after (omega arith)
 
--- What a step of a command keeps, and that a command which goes on raises no INTRQ.
+-- The invariant of a command's step. A command that continues raises no INTRQ.
 record Keeps (s t : State) : Type 0 where
   pub head0 : t.drive0.head ≡ s.drive0.head
   pub head1 : t.drive1.head ≡ s.drive1.head
@@ -58,7 +58,7 @@ awake {s} is busy = elim (cases_Bool (is_reset s.latch)) [
 sound_step : {s t : State} → IsSound s → is_busy s.command ≡ true → Keeps s t → IsSound t
 sound_step is busy keeps = grind (arith, is, keeps, awake is busy)
 
--- what an end leaves alone
+-- the fields that the end of a command does not change
 record KeepsHeads (s t : State) : Type 0 where
   pub head0 : t.drive0.head ≡ s.drive0.head
   pub head1 : t.drive1.head ≡ s.drive1.head
@@ -134,7 +134,7 @@ goes_on (SeekingAddress target left) angle b busy is = sound_step is busy (grind
 goes_on (GivingAddress target k) angle {s} b busy is = sound_step is busy (in_address target k (places_into k angle) s)
 goes_on Refusing angle b busy is = sound_step is busy (grind arith)
 
--- what soundness says nothing of, and DRQ where it falls
+-- changes of fields that `IsSound` does not restrict, and of a DRQ that falls
 same_state : {s t : State} → IsSound s → t.drive0 ≡ s.drive0 → t.drive1 ≡ s.drive1 → t.command ≡ s.command → t.latch ≡ s.latch → t.intrq ≡ s.intrq →
     (s.drq ≡ false → t.drq ≡ false) → IsSound t
 same_state is drive0 drive1 command latched intrq drq = grind (arith, is)
@@ -153,7 +153,7 @@ steps_sound {s} is = counts (is_asking s) (works (is_busy s.command) s.command (
 read_sound : (reg : ℕ) {s : State} → IsSound s → IsSound (register_read reg s)
 read_sound reg is = grind (arith, is)
 
--- A command that is written where the reset is off.
+-- A command that is written while the reset is off.
 accepted : (reset : Bool) (v : ℕ) {s : State} → is_reset s.latch ≡ reset → IsSound s
     → IsSound (if reset then s else if v / 16 == 0xD then force_leaves v s else if is_busy s.command then s else begin_leaves v s)
 accepted true v off is = is

@@ -1,4 +1,4 @@
--- Steps at which nothing comes, one after the other.
+-- Quiet steps, one after another.
 use Rattle.std.proofs.Common.{◌≡◌, ◌≢◌, ◌∙◌, sym, refl, ap, ℕ, zero, suc, ◌+◌, ◌-◌, ◌*◌, ◌%◌}
 use Rattle.std.proofs.Common.{◌<◌, ◌≤◌, ◌==◌, nat_lt, Bool, true, false, if◌then◌else◌, Option, None, Some, add-zero, add-suc, arith, inl, inr}
 use Rattle.std.proofs.lemmas.Bool.{cases_lt, lt-ltb}
@@ -72,7 +72,7 @@ unfound target angle u off = grind (arith, off)
 unlooked : (target : Target) (angle : ℕ) (u : State) → (angle % (64 * 312) == 0) ≡ false → is_address target angle u ≡ false
 unlooked target angle u off = grind (arith, off)
 
--- a step at which nothing comes
+-- a quiet step
 idle : (m : ℕ) (s : State) → s.command ≡ Idle → work_leaves (later m s) ≡ later (suc m) s
 idle m s is = let time : s.motor - m - 1 ≡ s.motor - suc m = omega arith in rw (is, angle_more m s.angle, time) refl
 
@@ -100,7 +100,7 @@ passes m Refusing s is inside = absurd (omega arith)
 pub quiet_one : (m : ℕ) (s : State) → m < quiet_steps s.command s.angle s.sector → step (later m s) ≡ later (suc m) s
 quiet_one m s inside = ap (count_leaves (is_asking s)) (passes m s.command s refl inside) ∙ stays (later (suc m) s)
 
--- quiet steps are one lapse
+-- many quiet steps are one lapse
 pub quiet_many : (n m : ℕ) (s : State) → m + n ≤ quiet_steps s.command s.angle s.sector → steps n (later m s) ≡ later (m + n) s
 unfolding steps
 quiet_many zero m s inside = rw add-zero refl
@@ -114,7 +114,7 @@ unfolding steps
 both_steps m zero s = rw add-zero refl
 both_steps m (suc n) s = rw add-suc (ap step (both_steps m n s))
 
--- quiet steps, one at which something may come, and those that are left
+-- quiet steps, one that may not be quiet, and those that are left
 pub goes_on : (n m q : ℕ) (s : State) → m ≤ q → q ≤ quiet_steps s.command s.angle s.sector → q - m < n →
     steps (n - (q - m) - 1) (step (later q s)) ≡ steps n (later m s)
 unfolding steps
@@ -138,7 +138,7 @@ unfolding steps
 idle_many zero s is = now s is
 idle_many (suc n) s is = ap step (idle_many n s is) ∙ idle_one n s is
 
--- a lapse changes nothing else
+-- a lapse changes no other field
 pub quiet_rests : (n m : ℕ) (s : State) → m + n ≤ quiet_steps s.command s.angle s.sector → RestsFor n (later m s)
 quiet_rests n m s inside k within =
     let e : steps k (later m s) ≡ later (m + k) s = quiet_many k m s (omega arith) in

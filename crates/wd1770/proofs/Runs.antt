@@ -1,4 +1,4 @@
--- Steps one after the other.
+-- Steps one after another.
 use Rattle.std.proofs.Common.{◌≡◌, ◌∙◌, sym, refl, ap, ℕ, zero, suc, ◌-◌, ◌<◌, ◌&&◌, ◌||◌, nat_lt, Bool, true, false, not, if◌then◌else◌, Option, Some, arith}
 use Rattle.std.proofs.lemmas.Bool.{lt-ltb}
 use Rattle.std.proofs.lemmas.Grind.{common_steps}
@@ -17,7 +17,7 @@ no_rise : (b : Bool) (x y : ℕ) → (if b && not b then x else y) ≡ y
 no_rise true x y = refl
 no_rise false x y = refl
 
--- where the line stays nothing is counted
+-- if the line does not rise, nothing is counted
 pub stays : (s : State) → count_leaves (is_asking s) s ≡ s
 stays s = ap (λ (n : ℕ). record s { nmis = n }) (no_rise (is_asking s) _ s.nmis)
 

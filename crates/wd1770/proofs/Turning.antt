@@ -1,4 +1,4 @@
--- Nothing but the turning of the discs changes the angle.
+-- Only the turning of the discs changes the angle.
 use Rattle.std.proofs.Common.{◌≡◌, refl, ℕ, ◌+◌, ◌%◌, Bool, true, false, if◌then◌else◌, Option, None, Some, arith}
 use Rattle.std.proofs.lemmas.Grind.{common_steps}
 use Rattle.wd1770.specs.declared.drive.Drive.{Drive}

@@ -8,11 +8,11 @@ use Rattle.wd1770.specs.Select.{is_single_density, disc_in, target_selected}
 use Rattle.wd1770.specs.Ends.{finish_leaves, not_found}
 use Rattle.wd1770.specs.Sectors.{is_on_disc, places_into, byte_came}
 
--- it ends 1,000,000 steps after its writing where no sector is found
+-- the command ends 1,000,000 steps after its writing if no sector is found
 abbrev pub address_of : State → Command
 address_of s = SeekingAddress (target_selected s) 1000000
 
--- A sector k that is on the disc begins at this angle, at place 312k, and single density is selected.
+-- A sector k begins at the angle, at place 312k. It is on the disc, and single density is selected.
 abbrev pub is_address : Target → ℕ → State → Bool
 is_address target angle s =
     is_single_density s.latch && (angle % (64 * 312) == 0) && is_on_disc (disc_in target.drive s) target (angle / (64 * 312))
@@ -23,11 +23,12 @@ address_search_step target left angle s =
     else if nat_lt 1 left then record s { command = SeekingAddress target (left - 1) }
     else not_found s
 
--- track, side, sector, the code of the length, and two bytes 00 of a check sum
+-- the ID field: track, side, sector, the code of the sector length, and two CRC bytes, here 00
 abbrev pub address_bytes : Target → ℕ → List ℕ
 address_bytes target k = target.head ∷ target.side ∷ k ∷ 1 ∷ 0 ∷ 0 ∷ []
 
--- The six bytes come at places 7 to 12 of the sector. At its end, at place 14, the sector register becomes the track.
+-- The six bytes come at places 7 to 12 of the sector. The command ends at place 14, and the sector
+-- register becomes the track.
 abbrev pub address_at : Target → ℕ → Option ℕ → State → State
 address_at target k None s = s
 address_at target k (Some place) s =

@@ -1,4 +1,4 @@
--- Steps at which nothing comes but that the discs turn and time passes.
+-- Quiet steps: only the discs' angle and the waiting times change.
 use Rattle.std.specs.Prelude.{ℕ, ◌+◌, ◌-◌, ◌*◌, ◌%◌, ◌==◌, ◌≡◌, ◌≤◌, min, nat_lt, Option, None, Some, if◌then◌else◌}
 use Rattle.wd1770.specs.declared.command.Command.{Command}
 use Rattle.wd1770.specs.declared.command.Command.TheVariants.{Idle, Moving, Settling, Searching, Transferring, SeekingAddress, GivingAddress, Refusing}
@@ -20,7 +20,7 @@ command_later n (SeekingAddress target left) = SeekingAddress target (left - n)
 command_later n (GivingAddress target k) = GivingAddress target k
 command_later n Refusing = Refusing
 
--- the motor's time passes while no command is in progress
+-- the motor's time passes only if no command is in progress
 abbrev pub motor_later : ℕ → Command → ℕ → ℕ
 motor_later n Idle motor = motor - n
 motor_later n _ motor = motor
@@ -32,20 +32,20 @@ later n s = record s {
   motor = motor_later n s.command s.motor;
 }
 
--- how many steps there are before the next place passes
+-- the number of steps before the next place passes
 abbrev pub steps_between : Option ℕ → ℕ
 steps_between None = 0
 steps_between (Some angle) = 63 - angle % 64
 
--- How many steps there are before the angle passes at which a sector begins. That of a sector behind the turn's end
--- never does.
+-- The number of steps before the beginning of sector k passes. A sector past the end of the turn
+-- never begins.
 abbrev pub steps_before : Option ℕ → ℕ → ℕ
 steps_before None k = 0
 steps_before (Some angle) k =
     if nat_lt (64 * (312 * k)) 200000 then (64 * (312 * k) + 199999 - angle % 200000) % 200000 else 0xFFFFFFFF
 
--- A number of steps at which nothing comes: before the end of a command's time, before the angle of the sector
--- register's sector for a search, and before the next place for a command that is at a sector or looks for any.
+-- A number of quiet steps. They end before a command's time is over, and before a search reaches
+-- its sector. For a command at a sector, or one that looks for any, they end before the next place.
 abbrev pub quiet_steps : Command → Option ℕ → ℕ → ℕ
 quiet_steps Idle angle sector = 0xFFFFFFFF
 quiet_steps (Moving m left) angle sector = left - 1
@@ -56,8 +56,8 @@ quiet_steps (SeekingAddress target left) angle sector = min (left - 1) (steps_be
 quiet_steps (GivingAddress target k) angle sector = steps_between angle
 quiet_steps Refusing angle sector = 0
 
--- After each number of steps up to n all is as it is now, but for the angle, the waiting of the command, and the
--- motor's time.
+-- In each of the next n steps only the angle, the waiting time of the command, and the motor's time
+-- change.
 abbrev pub RestsFor : ℕ → State → Type 0
 RestsFor n s =
     (m : ℕ) → m ≤ n →

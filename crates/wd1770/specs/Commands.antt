@@ -10,7 +10,8 @@ use Rattle.wd1770.specs.Motion.{motion_of}
 use Rattle.wd1770.specs.Sectors.{sectors_of}
 use Rattle.wd1770.specs.Addresses.{address_of}
 
--- 0x to 7x are type I, 8x to Bx type II. Ex and Fx, whose data is left out, are refused.
+-- 0x to 7x are type I, 8x to Bx type II. Ex and Fx, read track and write track, are refused: their
+-- data is left out.
 abbrev pub command_of : ℕ → State → Command
 command_of v s =
     if nat_lt v 0x80 then motion_of v s
@@ -25,11 +26,12 @@ clear_leaves s = record s { record_not_found = false; lost_data = false; drq = f
 abbrev pub begin_leaves : ℕ → State → State
 begin_leaves v s = record (clear_leaves s) { command = command_of v s; type_one = nat_lt v 0x80 }
 
--- Dx, force interrupt, ends the command at once. D8 to DF raise INTRQ. While idle it makes the status that of type I.
+-- Dx, force interrupt, ends the command at once. D8 to DF raise INTRQ. If no command is in
+-- progress, the status becomes that of type I.
 abbrev pub force_leaves : ℕ → State → State
 force_leaves v s = record (end_leaves (clear_leaves s)) { intrq = bit v 3; type_one = s.type_one || not (is_busy s.command) }
 
--- Commands are ignored in reset, and all but Dx while busy.
+-- All commands are ignored in reset, and all except Dx while busy.
 abbrev pub command_written : ℕ → State → State
 command_written v s =
     if is_reset s.latch then s
@@ -37,7 +39,7 @@ command_written v s =
     else if is_busy s.command then s
     else begin_leaves v s
 
--- A latch whose bit 5 is clear ends the command, and clears busy, DRQ and INTRQ.
+-- A latch with bit 5 clear ends the command, and clears busy, DRQ and INTRQ.
 abbrev pub stop_leaves : State → State
 stop_leaves s = record (if is_busy s.command then end_leaves s else s) { drq = false; intrq = false }
 

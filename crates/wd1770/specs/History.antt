@@ -1,4 +1,4 @@
--- Whatever is done to a controller from power-on on.
+-- Any steps and accesses of a controller from power-on on.
 use Rattle.std.specs.Prelude.{ℕ, zero, suc, ◌+◌, ◌%◌, ◌≡◌, ◌≤◌, true, false, List, [], ◌∷◌, Option, None, Some}
 use Rattle.disc_image.specs.Image.{Image}
 use Rattle.wd1770.specs.State.{State, power_on}
@@ -25,7 +25,7 @@ abbrev pub history : List Event → State → State
 history [] s = s
 history (e ∷ es) s = history es (happens e s)
 
--- how many steps are among them
+-- the number of steps among the events
 abbrev pub count_steps : List Event → ℕ
 count_steps [] = 0
 count_steps (microsecond ∷ es) = count_steps es + 1
@@ -33,7 +33,7 @@ count_steps (read _ ∷ es) = count_steps es
 count_steps (write _ _ ∷ es) = count_steps es
 count_steps (latch _ ∷ es) = count_steps es
 
--- after so many steps, of which the last is step m, the angle is m mod 200,000
+-- the angle after a number of steps: m mod 200,000 if the last of them is step m
 abbrev pub angle_after : ℕ → Option ℕ
 angle_after zero = None
 angle_after (suc m) = Some (m % 200000)
@@ -41,7 +41,8 @@ angle_after (suc m) = Some (m % 200000)
 abbrev pub TurnsOn : Type 0
 TurnsOn = (d0 d1 : Option Image) (events : List Event) → (history events (power_on d0 d1)).angle ≡ angle_after (count_steps events)
 
--- The heads are at tracks 0 to 83. INTRQ is clear while a command is in progress, and in reset there is none, and neither DRQ nor INTRQ.
+-- The heads are at tracks 0 to 83. INTRQ is clear while a command is in progress. In reset no
+-- command is in progress, and DRQ and INTRQ are clear.
 pub record IsSound (s : State) : Type 0 where
   pub head0 : s.drive0.head ≤ 83
   pub head1 : s.drive1.head ≤ 83

@@ -1,4 +1,4 @@
--- Whole runs of steps.
+-- Laws over runs of steps.
 use Rattle.std.specs.Prelude.{ℕ, ◌≡◌, ◌<◌, ◌-◌, nat_lt, true}
 use Rattle.wd1770.specs.declared.command.Command.TheVariants.{Idle, Moving}
 use Rattle.wd1770.specs.declared.command.Motion.{Motion}
@@ -6,12 +6,12 @@ use Rattle.wd1770.specs.State.{State}
 use Rattle.wd1770.specs.Ends.{is_motor_on}
 use Rattle.wd1770.specs.Step.{steps}
 
--- While no command is in progress only the angle and the motor's time change: registers, heads, discs, DRQ, INTRQ and the count of rises
--- stay.
+-- If no command is in progress, only the angle and the motor's time change. Registers, heads,
+-- discs, DRQ, INTRQ and the count of rises stay.
 abbrev pub IdleStays : Type 0
 IdleStays = (s : State) (n : ℕ) → s.command ≡ Idle → steps n s ≡ record s { angle = (steps n s).angle; motor = s.motor - n }
 
--- The motor is then on as long as its time lasts.
+-- The motor is then on until its time is over.
 abbrev pub MotorGoesOff : Type 0
 MotorGoesOff = (s : State) (n : ℕ) → s.command ≡ Idle → is_motor_on (steps n s) ≡ nat_lt n s.motor
 

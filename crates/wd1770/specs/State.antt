@@ -1,4 +1,5 @@
--- The WD1770 with its two drives and the latch beside it. (WD1770 data sheet. All places, gaps and times are this project's profile.)
+-- The WD1770 with its two drives and the latch beside it. (WD1770 data sheet. All places, gaps and
+-- times are this project's profile.)
 use Rattle.std.specs.Prelude.{ℕ, Bool, true, false, Option, None}
 use Rattle.disc_image.specs.Image.{Image}
 use Rattle.wd1770.specs.declared.drive.Drive.{Drive}
@@ -12,7 +13,7 @@ pub record State : Type 0 where
   pub byte : ℕ
   -- the disc latch
   pub latch : ℕ
-  -- the angle of the discs at the last step, none before the first
+  -- the angle of the discs at the last step; none before the first
   pub angle : Option ℕ
   pub drive0 : Drive
   pub drive1 : Drive
@@ -25,9 +26,9 @@ pub record State : Type 0 where
   pub lost_data : Bool
   pub drq : Bool
   pub intrq : Bool
-  -- while no command is in progress, in how many steps the motor goes off
+  -- if no command is in progress, the number of steps before the motor goes off
   pub motor : ℕ
-  -- how often "DRQ or INTRQ" rose, mod 2^64
+  -- the number of rises of "DRQ or INTRQ", mod 2^64
   pub nmis : ℕ
 
 -- At power-on the latch is 00, both heads are at track 0 and the last direction is inward.

@@ -1,4 +1,4 @@
--- One microsecond of the WD1770: its discs turn, and its command goes on.
+-- One microsecond of the WD1770: its discs turn, and its command continues.
 use Rattle.std.specs.Prelude.{ℕ, zero, suc, ◌+◌, ◌-◌, ◌%◌, Option, None, Some}
 use Rattle.wd1770.specs.declared.command.Command.{Command}
 use Rattle.wd1770.specs.declared.command.Command.TheVariants.{Idle, Moving, Settling, Searching, Transferring, SeekingAddress, GivingAddress, Refusing}
@@ -8,7 +8,7 @@ use Rattle.wd1770.specs.Motion.{motion_step}
 use Rattle.wd1770.specs.Sectors.{settle_step, search_step, transfer_step}
 use Rattle.wd1770.specs.Addresses.{address_search_step, address_step}
 
--- A turn takes 200,000 steps, and the first step of all is at angle 0.
+-- A turn takes 200,000 steps. The first step after power-on is at angle 0.
 abbrev pub next_angle : Option ℕ → ℕ
 next_angle None = 0
 next_angle (Some angle) = (angle + 1) % 200000
@@ -23,7 +23,7 @@ command_step (SeekingAddress target left) angle s = address_search_step target l
 command_step (GivingAddress target k) angle s = address_step target k angle s
 command_step Refusing angle s = not_found s
 
--- the step, but for the count of rises
+-- the step without the count of rises
 abbrev pub work_leaves : State → State
 work_leaves s = command_step s.command (next_angle s.angle) (record s { angle = Some (next_angle s.angle) })
 

@@ -8,18 +8,18 @@ use crate::drive::Target;
 use crate::sectors::{PLACE_TIME, SECTOR_PLACES, places_into};
 use beeb_bits::bit;
 
-/// How many microseconds it takes from the beginning of a sector to that of the next.
+/// The microseconds from the beginning of a sector to that of the next.
 const SECTOR_TIME: u32 = PLACE_TIME * SECTOR_PLACES;
 
-/// How many microseconds it is tried.
+/// The microseconds after which the command ends if no sector is found.
 const ADDRESS_TIME: u32 = 1_000_000;
 
-/// The places of a sector at which the first and the last byte of its address come.
+/// The places in a sector of the first and the last byte of its address.
 const FIRST_PLACE: u32 = 7;
 
 const LAST_PLACE: u32 = 12;
 
-/// The place of a sector at which the command ends.
+/// The place in a sector where the command ends.
 const END_PLACE: u32 = 14;
 
 impl Controller {
@@ -29,7 +29,7 @@ impl Controller {
         Command::SeekingAddress(self.target_selected(), ADDRESS_TIME)
     }
 
-    // A sector that is on the disc begins at this angle.
+    // Reports if a sector that is on the disc begins at `angle`, and single density is selected.
     fn is_address(&self, target: Target, angle: u32) -> bool
         requires { angle < 200000 }
         ensures { result ≡ is_address target angle self.now }
@@ -39,7 +39,7 @@ impl Controller {
             && self.has(target, (angle / SECTOR_TIME) as u8)
     }
 
-    /// A step before a sector is found.
+    /// Does a step before a sector is found.
     pub(crate) fn step_address_search(&mut self, target: Target, left: u32, angle: u32)
         requires { angle < 200000 }
         ensures { self.new ≡ address_search_step target left angle self.old }
@@ -53,7 +53,7 @@ impl Controller {
         }
     }
 
-    /// A step at a sector.
+    /// Does a step at a sector.
     pub(crate) fn step_address(&mut self, target: Target, sector: u8, angle: u32)
         ensures { self.new ≡ address_step target sector angle self.old }
     {

@@ -1,14 +1,14 @@
-//! Commands in progress, each with what it must remember.
+//! Commands in progress, each with its state.
 ghost use Rattle.std.specs.Prelude.{◌≡◌, ◌≤◌};
 ghost use Rattle.wd1770.specs.Ends.{is_busy};
 
 use crate::drive::{DriveNumber, Target};
 
-/// What a type I command does to the track register at its end.
+/// The change of the track register at the end of a type I command.
 #[derive(Clone, Copy)]
 pub(crate) enum TrackChange {
     Stays,
-    /// It follows the step of the head.
+    /// The register follows the step of the head.
     Follows,
     Becomes(u8),
 }
@@ -35,19 +35,19 @@ pub(crate) struct Transfer {
 #[derive(Clone, Copy)]
 pub(crate) enum Command {
     Idle,
-    /// Type I, with the steps to its end.
+    /// Type I, with the number of steps to its end.
     Moving(Motion, u32),
-    /// The head settles, with the steps to the end of that.
+    /// The head settles, with the number of steps to the end of that.
     Settling(Transfer, u32),
-    /// A search for the sector, with how many of its steps are left.
+    /// A search for the sector, with the number of its steps that are left.
     Searching(Transfer, u32),
     /// At the sector of this number.
     Transferring(Transfer, u8),
-    /// Read address before a sector is found, with the steps to its end.
+    /// Read address before a sector is found, with the number of steps to its end.
     SeekingAddress(Target, u32),
     /// Read address at the sector of this number.
     GivingAddress(Target, u8),
-    /// Read track and write track, whose data is left out.
+    /// Read track or write track, whose data is left out.
     Refusing,
 }
 

@@ -1,4 +1,4 @@
-//! The controller with its drives, step by step.
+//! The controller with its drives, one step at a time.
 ghost use Rattle.std.specs.Prelude.{◌≡◌, ◌≤◌, ◌<◌, ◌==◌, if◌then◌else◌, nat_lt, None, Some, MatchOption};
 ghost use Rattle.wd1770.specs.State.{power_on};
 ghost use Rattle.wd1770.specs.Select.{drive_of, with_drive, disc_in, head_selected, target_selected, disc_of};
@@ -16,23 +16,23 @@ use beeb_bits::bit;
 use disc_image::Disc;
 use std::marker::Model;
 
-/// How many microseconds a turn of the discs takes.
+/// The microseconds of a turn of the discs.
 pub(crate) const TURN_TIME: u32 = 200_000;
 
-/// Below which angle the index shows.
+/// The angle where the index pulse ends.
 const INDEX_END: u32 = 4_000;
 
-/// How many microseconds the motor stays on after a command's end.
+/// The microseconds for which the motor stays on after a command's end.
 const MOTOR_TIME: u32 = 2_000_000;
 
-/// A WD1770 with drives 0 and 1, all of whose steps are done.
+/// A WD1770 with drives 0 and 1, with all its steps done.
 #[derive(Drop)]
 pub(crate) struct Controller {
     pub(crate) track: u8,
     pub(crate) sector: u8,
     pub(crate) byte: u8,
     pub(crate) latch: u8,
-    // The angle of the discs at the last step, none before the first.
+    // The angle of the discs at the last step; none before the first.
     pub(crate) angle: Option<u32>,
     pub(crate) drive0: Drive,
     pub(crate) drive1: Drive,
@@ -46,7 +46,7 @@ pub(crate) struct Controller {
     // The data request, DRQ, and the interrupt request, INTRQ.
     pub(crate) drq: bool,
     pub(crate) intrq: bool,
-    // While no command is in progress, in how many steps the motor goes off.
+    // If no command is in progress, the number of steps before the motor goes off.
     pub(crate) motor: u32,
     pub(crate) nmis: u64,
 }
@@ -76,7 +76,7 @@ impl Model for Controller {
     } };
 }
 
-/// A bit of this weight, where it is set.
+/// Returns the weight of a set bit, otherwise 0.
 fn weight(n: u8, is_set: bool) -> u8
     ensures value { result ≡ weight n is_set }
     ensures bound { result ≤ n }
@@ -84,7 +84,7 @@ fn weight(n: u8, is_set: bool) -> u8
     if is_set { n } else { 0 }
 }
 
-/// The angle after this one.
+/// Returns the angle of the next step.
 pub(crate) fn next_angle(angle: Option<u32>) -> u32
     ensures value { result ≡ next_angle angle }
     ensures bound { result < TURN_TIME }
@@ -95,7 +95,7 @@ pub(crate) fn next_angle(angle: Option<u32>) -> u32
     }
 }
 
-/// The angle that the status shows: 0 before the first step.
+/// Returns the angle that the status shows: 0 before the first step.
 fn angle_shown(angle: Option<u32>) -> u32
     ensures { result ≡ angle_shown angle }
 {
@@ -106,7 +106,8 @@ fn angle_shown(angle: Option<u32>) -> u32
 }
 
 impl Controller {
-    /// The controller at power-on with the discs of drives 0 and 1. Its latch is 00, so that it is in reset; both heads are at track 0.
+    /// Returns the controller at power-on with the discs of drives 0 and 1. Its latch is 00, which
+    /// is a reset, and both heads are at track 0.
     pub(crate) fn new(d0: Option<Disc>, d1: Option<Disc>) -> Controller
         ensures { result ≡ power_on d0 d1 }
     {
@@ -130,7 +131,8 @@ impl Controller {
         }
     }
 
-    /// Writes the disc latch: bit 0 selects drive 0, 1 drive 1, 2 side 1, 3 single density, and bit 5 clear is a reset.
+    /// Writes the disc latch: bit 0 selects drive 0, 1 drive 1, 2 side 1, 3 single density. Bit 5
+    /// clear is a reset.
     pub(crate) fn latch(&mut self, v: u8)
         ensures { self.new ≡ latch_leaves v self.old }
     {
@@ -140,7 +142,7 @@ impl Controller {
         }
     }
 
-    // A reset ends the command and clears both requests.
+    // Resets the controller: ends the command and clears DRQ and INTRQ.
     fn stop(&mut self)
         ensures { self.new ≡ stop_leaves self.old }
     {
@@ -151,7 +153,8 @@ impl Controller {
         self.intrq = false;
     }
 
-    /// Reads a register `n` steps later, where nothing came. What the read leaves is the controller as it was before these.
+    /// Reads a register as it is `n` quiet steps later. The read changes the controller without
+    /// doing the steps.
     pub(crate) fn read(&mut self, reg: u8, n: u32) -> u8
         requires { reg < 4 }
         ensures answer { result ≡ answer_of reg (later n self.old) }
@@ -200,7 +203,7 @@ impl Controller {
             + weight(1, self.command.is_busy())
     }
 
-    // Track 0 and the index after type I, else lost data and DRQ.
+    // Returns status bits 2 and 1: track 0 and the index after type I, otherwise lost data and DRQ.
     fn status_by_type(&self, n: u32) -> (bool, bool)
         ensures track_0 { result.0 ≡ (if self.now.type_one then head_selected self.now == 0 else self.now.lost_data) }
         ensures index { result.1 ≡ (if self.now.type_one then nat_lt (angle_shown (angle_later n self.now.angle)) 4000 else self.now.drq) }
@@ -215,21 +218,23 @@ impl Controller {
         }
     }
 
-    /// A command is in progress.
+    /// Reports if a command is in progress.
     pub(crate) fn is_busy(&self) -> bool
         ensures { result ≡ is_busy (self.now).command }
     {
         self.command.is_busy()
     }
 
-    // The motor's line, MO, so many steps later. A WD1770 has no line that loads the heads (HLD).
+    // Reports if the motor line, MO, is on `n` quiet steps later. A WD1770 has no head-load line
+    // (HLD).
     fn is_motor_on(&self, n: u32) -> bool
         ensures { result ≡ is_motor_on (later n self.now) }
     {
         self.command.is_busy() || self.motor > n
     }
 
-    /// Writes a register: 0 the command, 1 the track, 2 the sector, 3 the data register, which clears DRQ.
+    /// Writes a register: 0 is the command, 1 the track, 2 the sector, 3 the data register. A write
+    /// of data clears DRQ.
     pub(crate) fn write(&mut self, reg: u8, v: u8)
         requires { reg < 4 }
         ensures { self.new ≡ write_leaves reg v self.old }
@@ -254,7 +259,7 @@ impl Controller {
         }
     }
 
-    // Commands are ignored in reset, and all but force interrupt while busy.
+    // Writes a command. All are ignored in reset, and all except force interrupt while busy.
     fn write_command(&mut self, v: u8)
         ensures { self.new ≡ command_written v self.old }
     {
@@ -293,7 +298,7 @@ impl Controller {
         }
     }
 
-    // Force interrupt.
+    // Does a force interrupt command.
     fn force(&mut self, v: u8)
         ensures { self.new ≡ force_leaves v self.old }
     {
@@ -338,7 +343,8 @@ impl Controller {
         }
     }
 
-    /// The disc in drive 0 or 1. None where the drive has none, and for any other number.
+    /// Returns the disc in drive 0 or 1. Returns `None` if the drive has none, and for any other
+    /// number.
     pub(crate) fn disc(&self, drive: u8) -> Option<&Disc>
         ensures { MatchOption result (disc_of drive self.now ≡ None) (λ disc. disc_of drive self.now ≡ Some disc.now) }
     {
@@ -355,7 +361,7 @@ impl Controller {
         self.drq || self.intrq
     }
 
-    // Counts a rise since it was `before`.
+    // Counts a rise of "DRQ or INTRQ", whose level was `before`.
     fn count(&mut self, before: bool)
         ensures { self.new ≡ count_leaves before self.old }
     {
@@ -364,7 +370,7 @@ impl Controller {
         }
     }
 
-    // The end of a command.
+    // Ends a command.
     fn end(&mut self)
         ensures { self.new ≡ end_leaves self.old }
     {
@@ -372,7 +378,7 @@ impl Controller {
         self.motor = MOTOR_TIME;
     }
 
-    /// The end of a command by itself.
+    /// Ends a command with INTRQ.
     pub(crate) fn finish(&mut self)
         ensures { self.new ≡ finish_leaves self.old }
     {
@@ -380,7 +386,7 @@ impl Controller {
         self.intrq = true;
     }
 
-    /// The end of a command that found no sector.
+    /// Ends a command that found no sector.
     pub(crate) fn finish_not_found(&mut self)
         ensures { self.new ≡ not_found self.old }
     {
@@ -388,7 +394,7 @@ impl Controller {
         self.finish();
     }
 
-    /// The track that a drive's head is at.
+    /// Returns the track of a drive's head.
     pub(crate) fn head_of(&self, number: DriveNumber) -> u8
         ensures { result ≡ (drive_of number self.now).head }
     {
@@ -407,14 +413,14 @@ impl Controller {
         }
     }
 
-    /// The track that the selected head is at.
+    /// Returns the track of the selected head.
     pub(crate) fn head_selected(&self) -> u8
         ensures { result ≡ head_selected self.now }
     {
         self.head_of(drive_or_0(drive_selected(self.latch)))
     }
 
-    /// What a command that is written now works on.
+    /// Returns the target of a command that is written now.
     pub(crate) fn target_selected(&self) -> Target
         ensures { result ≡ target_selected self.now }
     {
@@ -425,7 +431,7 @@ impl Controller {
         }
     }
 
-    /// The disc of a command has this sector.
+    /// Reports if the disc of a command has `sector`.
     pub(crate) fn has(&self, target: Target, sector: u8) -> bool
         ensures { result ≡ is_on_disc (disc_in target.drive self.now) target sector }
     {
@@ -436,7 +442,7 @@ impl Controller {
         }
     }
 
-    /// A byte of a sector on the disc of a command.
+    /// Returns a byte of a sector on the disc of a command.
     pub(crate) fn disc_byte(&self, target: Target, sector: u8, at: u8) -> u8
         ensures { result ≡ byte_on_disc (disc_in target.drive self.now) target sector at }
     {

@@ -1,4 +1,4 @@
-//! The drives, and what the latch selects.
+//! The drives, and the selection by the latch.
 ghost use Rattle.std.specs.Prelude.{◌≡◌, ◌≤◌};
 ghost use Rattle.wd1770.specs.Select.{drive_selected, side_selected, drive_or_0};
 ghost use Rattle.wd1770.specs.Sectors.{disc_written, is_on_disc, byte_on_disc};
@@ -13,24 +13,24 @@ pub(crate) enum DriveNumber {
     Drive1,
 }
 
-/// What a command works on, as the latch selected it when the command was written.
+/// The target of a command, as the latch selected it when the command was written.
 #[derive(Clone, Copy)]
 pub(crate) struct Target {
     pub(crate) drive: Option<DriveNumber>,
     pub(crate) side: u8,
-    /// The track that the head is at.
+    /// The track of the head.
     pub(crate) head: u8,
 }
 
 /// A drive.
 #[derive(Drop)]
 pub(crate) struct Drive {
-    /// The track that the head is at.
+    /// The track of the head.
     pub(crate) head: u8,
     pub(crate) disc: Option<Disc>,
 }
 
-/// The drive that a latch selects: drive 0 where it selects both.
+/// Returns the drive that a latch selects: drive 0 if it selects both.
 pub(crate) fn drive_selected(latch: u8) -> Option<DriveNumber>
     ensures { result ≡ drive_selected latch }
 {
@@ -43,14 +43,14 @@ pub(crate) fn drive_selected(latch: u8) -> Option<DriveNumber>
     }
 }
 
-/// The side that a latch selects.
+/// Returns the side that a latch selects.
 pub(crate) fn side_selected(latch: u8) -> u8
     ensures { result ≡ side_selected latch }
 {
     if bit(latch, 2) { 1 } else { 0 }
 }
 
-/// Where no drive is selected the head is drive 0's.
+/// Returns the selected drive, or drive 0 if there is none: the head is then that of drive 0.
 pub(crate) fn drive_or_0(drive: Option<DriveNumber>) -> DriveNumber
     ensures { result ≡ drive_or_0 drive }
 {
@@ -61,7 +61,7 @@ pub(crate) fn drive_or_0(drive: Option<DriveNumber>) -> DriveNumber
 }
 
 impl Drive {
-    /// A disc in the drive has this sector.
+    /// Reports if a disc in the drive has `sector`.
     pub(crate) fn has(&self, target: Target, sector: u8) -> bool
         ensures { result ≡ is_on_disc self.now.disc target sector }
     {
@@ -71,7 +71,7 @@ impl Drive {
         }
     }
 
-    /// A byte of a sector.
+    /// Returns a byte of a sector.
     pub(crate) fn byte(&self, target: Target, sector: u8, at: u8) -> u8
         ensures { result ≡ byte_on_disc self.now.disc target sector at }
     {

@@ -1,4 +1,4 @@
-//! The controller as it is driven: the steps at which nothing comes are only counted.
+//! The controller as its callers see it. Quiet steps are only counted.
 ghost use Rattle.std.specs.Prelude.{ℕ, ◌≡◌, ◌≤◌, ◌<◌, false, None, Some, MatchOption};
 ghost use Rattle.wd1770.specs.State.{power_on};
 ghost use Rattle.wd1770.specs.Select.{disc_of};
@@ -15,9 +15,10 @@ use std::marker::Model;
 /// A WD1770 with drives 0 and 1.
 #[derive(Drop)]
 pub struct Fdc {
-    // The controller as it was some steps ago.
+    // The controller before the last `past` steps, which are quiet.
     controller: Controller,
-    // How many steps ago, and how many these may be: nothing comes at them but that the discs turn and time passes.
+    // The number of quiet steps since then, and its limit. In a quiet step only the discs' angle
+    // and the waiting times change.
     past: u32,
     quiet: u32,
 }
@@ -37,7 +38,8 @@ impl Model for Fdc {
 }
 
 impl Fdc {
-    /// The controller at power-on with the discs of drives 0 and 1. Its latch is 00, so that it is in reset; both heads are at track 0.
+    /// Returns the controller at power-on with the discs of drives 0 and 1. Its latch is 00, which
+    /// is a reset, and both heads are at track 0.
     pub fn new(d0: Option<Disc>, d1: Option<Disc>) -> Fdc
         ensures { result ≡ power_on d0 d1 }
     {
@@ -48,7 +50,8 @@ impl Fdc {
         }
     }
 
-    /// Writes the disc latch: bit 0 selects drive 0, 1 drive 1, 2 side 1, 3 single density, and bit 5 clear is a reset.
+    /// Writes the disc latch: bit 0 selects drive 0, 1 drive 1, 2 side 1, 3 single density. Bit 5
+    /// clear is a reset.
     pub fn latch(&mut self, v: u8)
         ensures { self.new ≡ latch_leaves v self.old }
     {
@@ -58,7 +61,8 @@ impl Fdc {
         self.quiet = self.controller.quiet_steps();
     }
 
-    /// Reads a register: 0 the status, 1 the track, 2 the sector, 3 the data register. The status clears INTRQ, and data clears DRQ.
+    /// Reads a register: 0 is the status, 1 the track, 2 the sector, 3 the data register. A read of
+    /// the status clears INTRQ, and one of the data DRQ.
     pub fn read(&mut self, reg: u8) -> u8
         requires { reg < 4 }
         ensures answer { result ≡ answer_of reg self.old }
@@ -67,7 +71,8 @@ impl Fdc {
         self.controller.read(reg, self.past)
     }
 
-    /// Writes a register: 0 the command, 1 the track, 2 the sector, 3 the data register, which clears DRQ.
+    /// Writes a register: 0 is the command, 1 the track, 2 the sector, 3 the data register. A write
+    /// of data clears DRQ.
     pub fn write(&mut self, reg: u8, v: u8)
         requires { reg < 4 }
         ensures { self.new ≡ write_leaves reg v self.old }
@@ -90,7 +95,7 @@ impl Fdc {
         }
     }
 
-    // A step at which something may come.
+    // Does a step that may not be quiet.
     #[inline(never)]
     fn work(&mut self)
         ensures { self.new ≡ step self.old }
@@ -113,7 +118,7 @@ impl Fdc {
         }
     }
 
-    // Steps at some of which something may come.
+    // Does `n` steps. Some of them may not be quiet.
     #[inline(never)]
     fn work_on(&mut self, n: u64)
         ensures { self.new ≡ steps n self.old }
@@ -124,7 +129,7 @@ impl Fdc {
         }
     }
 
-    // Does some of `n` steps, and answers how many are left.
+    // Does some of `n` steps, at least one, and returns the number that is left.
     fn some_steps(&mut self, n: u64) -> u64
         requires { 0 < n }
         ensures fewer { result < n }
@@ -155,7 +160,7 @@ impl Fdc {
         self.quiet = self.controller.quiet_steps();
     }
 
-    /// A number of steps in which surely nothing but the discs' angle and times of waiting changes.
+    /// Returns a number of steps during which only the discs' angle and the waiting times change.
     #[inline(always)]
     pub fn calm(&self) -> u64
         ensures rest { RestsFor result self.now }
@@ -164,21 +169,22 @@ impl Fdc {
         u64::from(self.quiet - self.past)
     }
 
-    /// DRQ: a byte is to be read or written.
+    /// Returns DRQ: a byte is to be read or written.
     pub fn drq(&self) -> bool
         ensures { result ≡ self.now.drq }
     {
         self.controller.drq
     }
 
-    /// INTRQ: a command is done.
+    /// Returns INTRQ: a command has ended.
     pub fn intrq(&self) -> bool
         ensures { result ≡ self.now.intrq }
     {
         self.controller.intrq
     }
 
-    /// How often "DRQ or INTRQ" rose, at steps and at whole accesses of a register, mod 2^64.
+    /// Returns the number of rises of "DRQ or INTRQ", mod 2^64. Rises are counted after steps and
+    /// after whole register accesses.
     #[inline(always)]
     pub fn nmis(&self) -> u64
         ensures { result ≡ self.now.nmis }
@@ -186,7 +192,8 @@ impl Fdc {
         self.controller.nmis
     }
 
-    /// The disc in drive 0 or 1. None where the drive has none, and for any other number.
+    /// Returns the disc in drive 0 or 1. Returns `None` if the drive has none, and for any other
+    /// number.
     pub fn disc(&self, drive: u8) -> Option<&Disc>
         ensures { MatchOption result (disc_of drive self.now ≡ None) (λ disc. disc_of drive self.now ≡ Some disc.now) }
     {

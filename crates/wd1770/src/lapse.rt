@@ -1,4 +1,4 @@
-//! Steps at which nothing comes but that the discs turn and time passes.
+//! Quiet steps: only the discs' angle and the waiting times change.
 ghost use Rattle.std.specs.Prelude.{◌≡◌, ◌≤◌, ◌<◌, ◌-◌};
 ghost use Rattle.wd1770.specs.CodeQuiet.{angle_later, command_later, motor_later, later, steps_between, steps_before, quiet_steps};
 
@@ -6,7 +6,7 @@ use crate::command::Command;
 use crate::controller::{Controller, TURN_TIME, next_angle};
 use crate::sectors::{PLACE_TIME, SECTOR_PLACES};
 
-/// The angle `n` steps later.
+/// Returns the angle `n` steps later.
 pub(crate) fn angle_later(n: u64, angle: Option<u32>) -> Option<u32>
     ensures { result ≡ angle_later n angle }
 {
@@ -17,7 +17,7 @@ pub(crate) fn angle_later(n: u64, angle: Option<u32>) -> Option<u32>
     Some((turned % u64::from(TURN_TIME)) as u32)
 }
 
-/// What is left of a time after `n` steps.
+/// Returns the rest of a time after `n` steps.
 fn less(time: u32, n: u64) -> u32
     ensures { result ≡ time - n }
 {
@@ -28,7 +28,7 @@ fn less(time: u32, n: u64) -> u32
     }
 }
 
-/// How many steps there are before the next place passes.
+/// Returns the number of steps before the next place passes.
 fn steps_between(angle: Option<u32>) -> u32
     ensures { result ≡ steps_between angle }
 {
@@ -38,7 +38,7 @@ fn steps_between(angle: Option<u32>) -> u32
     }
 }
 
-/// How many steps there are before the angle passes at which a sector begins.
+/// Returns the number of steps before the beginning of a sector passes.
 fn steps_before(angle: Option<u32>, sector: u8) -> u32
     ensures { result ≡ steps_before angle sector }
 {
@@ -56,7 +56,7 @@ fn steps_before(angle: Option<u32>, sector: u8) -> u32
 }
 
 impl Command {
-    /// The command `n` steps later, where nothing came.
+    /// Returns the command `n` quiet steps later.
     fn later(self, n: u64) -> Command
         ensures { result ≡ command_later n self }
     {
@@ -72,7 +72,7 @@ impl Command {
         }
     }
 
-    /// The motor's time `n` steps later.
+    /// Returns the motor's time `n` quiet steps later.
     fn motor_later(self, n: u64, motor: u32) -> u32
         ensures { result ≡ motor_later n self motor }
     {
@@ -83,7 +83,7 @@ impl Command {
         }
     }
 
-    /// A number of steps at which nothing comes.
+    /// Returns a number of quiet steps.
     fn quiet_steps(self, angle: Option<u32>, sector: u8) -> u32
         ensures { result ≡ quiet_steps self angle sector }
     {
@@ -99,7 +99,7 @@ impl Command {
 }
 
 impl Controller {
-    /// Does `n` steps at which nothing comes.
+    /// Does `n` quiet steps.
     pub(crate) fn pass(&mut self, n: u64)
         ensures { self.new ≡ later n self.old }
     {
@@ -108,7 +108,7 @@ impl Controller {
         self.command = self.command.later(n);
     }
 
-    /// A number of steps from here on at which nothing comes.
+    /// Returns a number of quiet steps that come next.
     pub(crate) fn quiet_steps(&self) -> u32
         ensures { result ≡ quiet_steps (self.now).command (self.now).angle (self.now).sector }
     {

@@ -10,7 +10,7 @@ use beeb_bits::bit;
 /// The innermost track that a head can reach.
 const LAST_TRACK: u8 = 83;
 
-/// How many microseconds a step takes.
+/// Returns the microseconds of a step, by bits 1 and 0 of the command.
 fn step_time(v: u8) -> u32
     ensures value { result ≡ step_time v }
     ensures bound { result ≤ 30000 }
@@ -23,7 +23,7 @@ fn step_time(v: u8) -> u32
     }
 }
 
-/// By how much two numbers differ.
+/// Returns the difference of two numbers.
 fn difference(a: u8, b: u8) -> u8
     ensures { result ≡ difference a b }
 {
@@ -31,7 +31,7 @@ fn difference(a: u8, b: u8) -> u8
 }
 
 impl Controller {
-    /// The type I command that is written.
+    /// Returns the type I command of the byte `v`.
     pub(crate) fn motion_of(&self, v: u8) -> Command
         ensures { result ≡ motion_of v self.now }
     {
@@ -48,7 +48,7 @@ impl Controller {
         }
     }
 
-    // So many steps of the selected head.
+    // Returns a command of `steps` steps of the selected head.
     fn moving(&self, v: u8, steps: u8, inward: bool, track: TrackChange) -> Command
         ensures { result ≡ head_motion v steps inward track self.now }
     {
@@ -88,7 +88,7 @@ impl Controller {
         self.moving(v, 1, inward, track)
     }
 
-    /// A step of a type I command.
+    /// Does a step of a type I command.
     pub(crate) fn step_motion(&mut self, motion: Motion, left: u32)
         ensures { self.new ≡ motion_step motion left self.old }
     {
@@ -99,7 +99,7 @@ impl Controller {
         }
     }
 
-    // Where the head comes to.
+    // Returns the head's track at the end of the motion.
     fn head_after(&self, motion: Motion) -> u8
         ensures { result ≡ head_after motion self.now }
     {
@@ -111,7 +111,7 @@ impl Controller {
         }
     }
 
-    // What the track register becomes.
+    // Returns the track register at the end of the motion.
     fn track_after(&self, motion: Motion) -> u8
         ensures { result ≡ track_after motion self.now }
     {
@@ -128,7 +128,7 @@ impl Controller {
         }
     }
 
-    // The end of a type I command.
+    // Ends a type I command.
     fn finish_motion(&mut self, motion: Motion)
         ensures { self.new ≡ move_leaves motion self.old }
     {

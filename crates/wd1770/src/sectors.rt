@@ -8,41 +8,42 @@ use crate::controller::Controller;
 use crate::drive::{DriveNumber, Target};
 use beeb_bits::bit;
 
-/// How many microseconds a place takes to pass.
+/// The microseconds of a place.
 pub(crate) const PLACE_TIME: u32 = 64;
 
-/// How many places there are from the beginning of a sector to that of the next.
+/// The places from the beginning of a sector to that of the next.
 pub(crate) const SECTOR_PLACES: u32 = 312;
 
-/// The place of a sector at which a write first asks for a byte.
+/// The place in a sector where a write first sets DRQ.
 const WRITE_ASKS: u32 = 12;
 
-/// The place at which that byte must be there.
+/// The place where the first byte must have been written.
 const WRITE_NEEDS: u32 = 22;
 
-/// The place at which the first byte is written.
+/// The place where the first byte goes to the disc.
 const FIRST_WRITTEN: u32 = 30;
 
-/// The place at which the first byte is read.
+/// The place where the first byte is read.
 const FIRST_READ: u32 = 31;
 
-/// The place at which the sector ends.
+/// The place where the sector ends.
 const SECTOR_END: u32 = 288;
 
-/// How many microseconds a head takes to settle.
+/// The microseconds that a head takes to settle.
 const SETTLE_TIME: u32 = 30_000;
 
-/// How many steps a search has.
+/// The steps of a search.
 const SEARCH_TIME: u32 = 1_000_001;
 
-/// A search of which no step is done.
+/// Returns a search with none of its steps done.
 fn searching(transfer: Transfer) -> Command
     ensures { result ≡ search_of transfer }
 {
     Command::Searching(transfer, SEARCH_TIME)
 }
 
-/// How many places after the beginning of a sector the place is that passes at this angle, if one does.
+/// Returns the place that passes at `angle`, counted from the beginning of a sector. Returns `None`
+/// if none passes.
 pub(crate) fn places_into(sector: u8, angle: u32) -> Option<u32>
     ensures { result ≡ places_into sector angle }
 {
@@ -54,7 +55,8 @@ pub(crate) fn places_into(sector: u8, angle: u32) -> Option<u32>
     }
 }
 
-/// The number of the byte at a place, where 256 bytes begin at the place `first`.
+/// Returns the number of the byte at a place, if 256 bytes begin at the place `first`. Returns
+/// `None` if the place has no byte.
 fn byte_place(first: u32, place: u32) -> Option<u8>
     requires { first < 1000 }
     ensures { MatchOption result (is_byte_place first place ≡ false) (λ at. (is_byte_place first place ≡ true) × (at ≡ place - first)) }
@@ -67,7 +69,7 @@ fn byte_place(first: u32, place: u32) -> Option<u8>
 }
 
 impl Controller {
-    /// The type II command that is written.
+    /// Returns the type II command of the byte `v`.
     pub(crate) fn sectors_of(&self, v: u8) -> Command
         ensures { result ≡ sectors_of v self.now }
     {
@@ -83,7 +85,7 @@ impl Controller {
         }
     }
 
-    /// A step while the head settles.
+    /// Does a step while the head settles.
     pub(crate) fn step_settling(&mut self, transfer: Transfer, left: u32)
         ensures { self.new ≡ settle_step transfer left self.old }
     {
@@ -94,7 +96,7 @@ impl Controller {
         }
     }
 
-    // The sector of the sector register begins at this angle.
+    // Reports if the sector of the sector register begins at `angle`, and a search finds it.
     fn is_found(&self, target: Target, angle: u32) -> bool
         ensures { result ≡ is_found target angle self.now }
     {
@@ -104,7 +106,7 @@ impl Controller {
             && self.has(target, self.sector)
     }
 
-    /// A step of a search.
+    /// Does a step of a search.
     pub(crate) fn step_search(&mut self, transfer: Transfer, left: u32, angle: u32)
         ensures { self.new ≡ search_step transfer left angle self.old }
     {
@@ -117,7 +119,7 @@ impl Controller {
         }
     }
 
-    /// A step at a sector.
+    /// Does a step at a sector.
     pub(crate) fn step_transfer(&mut self, transfer: Transfer, sector: u8, angle: u32)
         ensures { self.new ≡ transfer_step transfer sector angle self.old }
     {
@@ -142,7 +144,7 @@ impl Controller {
         }
     }
 
-    /// A byte comes to the data register.
+    /// Puts a byte from the disc into the data register.
     pub(crate) fn give_byte(&mut self, v: u8)
         ensures { self.new ≡ byte_came v self.old }
     {
@@ -166,7 +168,7 @@ impl Controller {
         }
     }
 
-    // A byte goes to the disc: the data register, or 00 where it was not written in time.
+    // Writes a byte to the disc: the data register, or 00 if the register was not written in time.
     fn write_byte(&mut self, target: Target, sector: u8, at: u8)
         ensures { self.new ≡ byte_written target sector at self.old }
     {
@@ -186,7 +188,7 @@ impl Controller {
         }
     }
 
-    // The end of a sector: the next one, or the end of the command.
+    // Ends a sector: searches for the next one, or ends the command.
     fn end_sector(&mut self, transfer: Transfer)
         ensures { self.new ≡ sector_ended transfer self.old }
     {

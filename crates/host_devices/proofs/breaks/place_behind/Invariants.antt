@@ -3,7 +3,7 @@ use Rattle.host_devices.specs.Breaks.{is_break_by}
 use Rattle.host_devices.specs.CodeBreaks.{breaks_before}
 use Rattle.host_devices.proofs.breaks.place_behind.Given as goal
 
--- The breaks before the place have all come.
+-- All breaks before the place are up to t.
 abbrev pub invariant-loop-place : goal.invariant-loop-place
 invariant-loop-place l = record {
   within : l.place ≤ length l.events;

@@ -4,7 +4,7 @@ use Rattle.raster.specs.Frame.{dots_set}
 use Rattle.raster.specs.CodeSteps.{code_in, texts, cells}
 use Rattle.raster.proofs.screen.draw_cells.Given as goal
 
--- the codes so far, and their cells
+-- the codes that are done, and their cells
 abbrev pub invariant-loop-i : goal.invariant-loop-i
 invariant-loop-i l =
     let codes = code_in l.bytes l.step in

@@ -3,7 +3,7 @@ use Rattle.std.specs.List.{range_with_len}
 use Rattle.video_ula.specs.Colours.{eight_in}
 use Rattle.video_ula.proofs.ready.fill.Given as goal
 
--- the bytes so far
+-- the bytes that are done
 abbrev pub invariant-loop-byte : goal.invariant-loop-byte
 invariant-loop-byte l =
     ((length l.first ≡ 256) × (take l.byte l.first ≡ map (λ byte. eight_in 0 l.entries byte (2 ^ (3 - l.width))) (range_with_len 0 l.byte)))

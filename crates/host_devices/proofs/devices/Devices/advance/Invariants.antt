@@ -4,7 +4,7 @@ use Rattle.host_devices.specs.Devices.{microseconds}
 use Rattle.host_devices.specs.CodePicture.{drawn}
 use Rattle.host_devices.proofs.devices.Devices.advance.Given as goal
 
--- what is left of them comes to all of them
+-- the microseconds that are left lead to the state of all n
 abbrev pub invariant-loop-left : goal.invariant-loop-left
 invariant-loop-left l =
     microseconds l.ram l.letters.font (keys_of l.keys) l.levels l.left (drawn l.ram l.letters.font l.self)
