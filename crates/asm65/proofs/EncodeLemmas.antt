@@ -1,4 +1,4 @@
--- The second pass line by line: what is in range fits the bytes that it goes to.
+-- The second pass line by line: a value in range fits its bytes.
 use Rattle.std.proofs.Common.{◌≡◌, sym, refl, ℕ, ◌+◌, ◌<◌, List, [], ◌∷◌, length, map, Bool, true, false, ◌||◌, ◌&&◌}
 use Rattle.std.proofs.Common.{Option, Some, None, if◌then◌else◌, inl, inr, ◌∙◌, ◌-◌, ◌*◌, ◌≤◌, ◌++◌, replicate, nat_lt, append_assoc, length-append, add-zero, arith}
 use Rattle.std.specs.List.{concat, list_any}
@@ -23,7 +23,7 @@ use Rattle.asm65.proofs.PassLemmas.{clear_line}
 
 -- ---- the mode that an operand takes
 
--- what each mode has that an operand may take; the shorter form is for a byte-sized value
+-- the property of each mode that an operand may take; the shorter form is for a byte-sized value
 abbrev Each : (Mode → Type 0) → Operand → Type 0
 Each P nothing = P Imp
 Each P accumulator = P Acc
@@ -35,7 +35,7 @@ Each P (indirect v) = (is_byte v ≡ true → P IndZp) × P Ind
 Each P (indirect_x v) = (is_byte v ≡ true → P IndX) × P IndAbsX
 Each P (indirect_y v) = is_byte v ≡ true → P IndY
 
--- the one that is taken has it
+-- the mode that is taken has it
 module _ (P : Mode → Type 0) (part : Part) (name : Mnemonic) (way : Mode) where
   formed : (m : Mode) → if_formed part name m ≡ Some way → P m → P way
   formed m e p = by_test (has_form part name m) e
@@ -77,13 +77,13 @@ module _ (P : Mode → Type 0) (part : Part) (name : Mnemonic) (way : Mode) wher
   taken (indirect_x v) e p = in_parentheses v IndX IndAbsX e p.0 p.1
   taken (indirect_y v) e p = if_byte (is_byte v) IndY e p
 
--- ---- what an operand has fits its mode
+-- ---- the values of an operand fit its mode
 
--- a value that is in range, with what it is taken of
+-- a value that is in range, with its base
 in_range : (labels : Labels) (limit : ℕ) (v : Value) → (is_out labels limit v || false) ≡ false → (base_or_zero labels v < 65536) × (value_in labels v < limit)
 in_range labels limit v e = grind (arith, nat_tests)
 
--- the number of a value of one byte is below 256, where what it is taken of is in memory
+-- the number of a value of one byte is below 256, if its base is in memory
 module _ (labels : Labels) (at : ℕ) (v : Value) (n : ℕ) (is : n ≡ value_in labels v) (small : is_byte v ≡ true → base_or_zero labels v < 65536 → n < 256) where
   byte : is_byte v ≡ true → (is_out labels 65536 v || false) ≡ false → n < 256
   byte b out = small b (in_range labels 65536 v out).0
@@ -107,7 +107,7 @@ module _ (labels : Labels) (at : ℕ) (v : Value) (n : ℕ) (is : n ≡ value_in
   operand_fits part name operand way m out e =
       taken (λ w. operand_out labels at (Some w) operand ≡ false → n < room_of w) part name way operand (sym m) (fits operand e) (rw (← m) at out)
 
--- ---- how many bytes an instruction has
+-- ---- the number of bytes of an instruction
 
 -- the opcode and the operand
 abbrev IsLong : Labels → ℕ → Operand → Mode → Type 0
@@ -132,7 +132,7 @@ length-encoded part name operand labels at way m = taken (IsLong labels at opera
 pub any_one : (p : Value → Bool) (v : Value) → list_any p (v ∷ []) ≡ p v
 any_one p v = elim (cases_Bool (p v)) [ inl e ↦ rw e | inr e ↦ rw e ]
 
--- ---- how many bytes a line makes
+-- ---- the number of bytes of a line
 
 instruction_length : (part : Part) (labels : Labels) (at : ℕ) (name : Mnemonic) (operand : Operand) (o : Option Mode) → mode_of part name operand ≡ o
     → length (instruction_bytes part labels at name operand o) ≡ mode_bytes o
@@ -144,14 +144,14 @@ words_length : (labels : Labels) (values : List Value) → length (concat (map (
 words_length labels [] = refl
 words_length labels (v ∷ values) = omega (arith, words_length labels values)
 
--- where an `org` goes
+-- the address of an `org`
 pub org_within : (at n : ℕ) → (nat_lt n at || (nat_lt 65535 n || false)) ≡ false → (at ≤ n) × (n ≤ 65535)
 org_within at n e = grind (arith, nat_tests)
 
 org_reaches : (at n : ℕ) → (at ≤ n) × (n ≤ 65535) → (at + length {A = ℕ} (replicate (n - at) 0) ≡ n) × (n ≤ 65536)
 org_reaches at n h = let long : length {A = ℕ} (replicate (n - at) 0) ≡ n - at = length-replicate (n - at) 0 in (rw long (omega (arith, h.0)), omega (arith, h.1))
 
--- a statement's bytes lead to the address behind it, which is in memory or at its end
+-- A statement's bytes end at the address after it, which is in memory or at its end.
 abbrev Reaches : Part → Labels → ℕ → Option Statement → Type 0
 Reaches part labels at s = (at + length (statement_bytes part labels at s) ≡ after_statement part at s) × (after_statement part at s ≤ 65536)
 
@@ -169,7 +169,7 @@ reaches part labels at (Some (words values)) within past long =
 
 -- ---- line by line
 
--- What was made, with what is left of the lines, is the whole program.
+-- The bytes made, and those of the lines left, are the whole program.
 pub record Encoded (part : Part) (labels : Labels) (all : List Placed) (number origin at : ℕ) (done : List ℕ) (left : List (Option Line)) : Type 0 where
   pub names : List (List ℕ)
   pub clear : first_pass part (number + 1) names (placed_from part at left) ≡ None
@@ -182,7 +182,7 @@ pub no_fault : (o later : Option AsmError) → or_later o later ≡ None → (o 
 no_fault None later e = (refl, e)
 no_fault (Some fault) later e = cc
 
--- where a line leads that the first pass has nothing against
+-- the address after a line without a fault in the first pass
 line_reaches : (part : Part) (number : ℕ) (names : List (List ℕ)) (labels : Labels) (at : ℕ) (line : Option Line) → at ≤ 65536
     → first_fault part number names at line ≡ None
     → (at + length (line_bytes part labels at line) ≡ after_line part at line) × (after_line part at line ≤ 65536) × (line_is_long part at line ≡ false)

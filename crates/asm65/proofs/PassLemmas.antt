@@ -26,7 +26,7 @@ use Rattle.asm65.specs.Passes.{IsPlaced}
 abbrev pub names : Labels → List (List ℕ)
 names labels = map (λ l. l.0) labels
 
--- what a map has at a name
+-- the value of a map at a name
 abbrev looked_up : List ℕ → List (Bor (List ℕ) × ℕ) → Option ℕ
 looked_up name es = lookup (is_at (λ k. slice_cmp nat_cmp name k.now)) es
 
@@ -62,7 +62,7 @@ bytes_eq_comm a b =
     let back = bytes_eq-Decides b a in
     same_from_decides (bytes_eq a b) (bytes_eq b a) (bytes_eq-Decides a b) ((λ e. sym (back.0 e)), (λ e. back.1 (sym e)))
 
--- a label more, whose name is new: what it is put behind of
+-- the values after one more label with a new name
 value_push : (labels : Labels) (name : List ℕ) (at : ℕ) (q : List ℕ) → is_among (names labels) name ≡ false
     → value_of_label (labels ++ (name, at) ∷ []) q ≡ cond (bytes_eq name q) (Some at) (value_of_label labels q)
 value_push [] name at q new = rw (bytes_eq_comm name q) refl
@@ -83,7 +83,7 @@ value_insert m n name at q updates new =
     ∙ ap (λ o. cond (bytes_eq name q) (Some at) o) (looked_up-seen q m.entries)
     ∙ sym (value_push (labels_in m) name at q (sym (ap (λ ns. is_among ns name) (names_in-seen m.entries)) ∙ new))
 
--- a label that a map had nothing at, or something
+-- a label without a value in a map, or with one
 pub is_new : (m : BTreeMap (Bor (List ℕ)) ℕ) (label : Option (Bor (List ℕ))) (name : Bor (List ℕ)) (old : Option ℕ) (new : Bool)
     → label ≡ Some name → old ≡ looked_up name.now m.entries → is_some old ≡ not new
     → new ≡ not (list_any (is_among (names_in m)) (option_to_list (option_map seen_name label)))
@@ -103,7 +103,7 @@ pub value_define : (m n : BTreeMap (Bor (List ℕ)) ℕ) (label : Option (Bor (L
 value_define m n label name at old new q e updates found is fresh =
     rw e (value_insert m n name.now at q updates (sym (is_some-looked_up name.now m.entries) ∙ ap is_some (sym found) ∙ is ∙ ap not fresh))
 
--- ---- a line that the first pass has nothing against
+-- ---- a line without a fault in the first pass
 
 pub record Clear (part : Part) (names : List (List ℕ)) (at : ℕ) (line : Line) : Type 0 where
   pub formed : formless part line.statement ≡ false
@@ -115,7 +115,7 @@ pub clear_line : (part : Part) (number : ℕ) (names : List (List ℕ)) (at : �
     → first_fault part number names at (Some line) ≡ None → Clear part names at line
 clear_line part number names at line e = record { formed = grind arith; new = grind arith; within = grind arith; short = grind arith }
 
--- want of memory, or a fault
+-- out of memory, or a fault
 pub at_fault : {P Q R : Type 0} → (Q → R) → P ⊎ Q → P ⊎ R
 at_fault f (inl p) = inl p
 at_fault f (inr q) = inr (f q)
@@ -137,7 +137,7 @@ value-append labels others more q e =
 
 -- ---- the first pass, line by line
 
--- What was put down, with what is left of the lines, is the whole first pass.
+-- The labels defined, and those of the lines left, are those of the whole first pass.
 pub record Passed (part : Part) (all : List Placed) (number : ℕ) (map : BTreeMap (Bor (List ℕ)) ℕ) (at : ℕ) (left : List (Option Line)) : Type 0 where
   pub before : Labels
   pub same : (q : List ℕ) → value_of_label (labels_in map) q ≡ value_of_label before q

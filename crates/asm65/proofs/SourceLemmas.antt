@@ -1,4 +1,4 @@
--- What the passes have found is what the source means. Labels matter by the value of each name alone.
+-- The passes find what the source means. Labels matter only by the value of each name.
 use Rattle.std.proofs.Common.{◌≡◌, refl, ap, ℕ, ◌+◌, List, [], ◌∷◌, Option, Some, None, option_map, ◌∙◌, ◌≤◌, false, Ok, Err, arith}
 use Rattle.std.specs.Borrow.{Bor}
 use Rattle.std.specs.BTreeMap.{BTreeMap}
@@ -82,7 +82,7 @@ origin_behind at later None e h = h
 origin_behind at later (Some (org n)) e h = (org_within at n.value e).1
 origin_behind at later (Some _) e h = omega arith
 
--- lines that the first pass has nothing against have an origin in memory
+-- lines without a fault in the first pass have an origin in memory
 origin_small : (part : Part) (row : ℕ) (names : List (List ℕ)) (at : ℕ) (lines : List (Option Line))
     → first_pass part row names (placed_from part at lines) ≡ None → origin_of lines ≤ 65535
 origin_small part row names at [] e = omega arith

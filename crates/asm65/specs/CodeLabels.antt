@@ -1,4 +1,4 @@
--- The labels that the code holds, as the definitions see them.
+-- The program's labels, as the definitions see them.
 use Rattle.std.specs.Prelude.{ℕ, List, map, unwrap_or}
 use Rattle.std.specs.Borrow.{Bor}
 use Rattle.std.specs.BTreeMap.{BTreeMap}
@@ -16,11 +16,11 @@ labels_in m = map (λ e. (e.0.now, e.1)) m.entries
 abbrev pub names_in : BTreeMap (Bor (List ℕ)) ℕ → List (List ℕ)
 names_in m = map (λ e. e.0.now) m.entries
 
--- what a value is taken of; 0 where its label is unknown
+-- the base of a value; 0 if its label is unknown
 abbrev pub base_or_zero : Labels → Value → ℕ
 base_or_zero labels v = unwrap_or (base_value labels v.base) 0
 
--- what a value must be below to stand in an operand of this mode
+-- the limit of a value in an operand of this mode
 abbrev pub room_of : Mode → ℕ
 room_of Rel = 65536
 room_of Abs = 65536

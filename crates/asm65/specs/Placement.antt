@@ -1,4 +1,4 @@
--- Where the lines lie: which form of its mnemonic an instruction takes, and the address of each line.
+-- The placement of lines: the form that an instruction takes, and the address of each line.
 use Rattle.std.specs.Prelude.{ℕ, ◌+◌, ◌*◌, ◌&&◌, ◌||◌, nat_lt, Bool, true, false, List, [], ◌∷◌, ◌++◌, length, Option, Some, None, is_some, is_none, option_to_list, if◌then◌else◌}
 use Rattle.std.specs.List.{list_any}
 use Rattle.std.specs.Str.{bytes_eq}
@@ -25,30 +25,33 @@ is_byte_in whole base = is_byte_base base
 is_byte_in low_byte base = true
 is_byte_in high_byte base = true
 
--- A value is byte-sized where it is `<` or `>` of something, or a byte-sized number; else it is word-sized.
+-- A value is byte-sized if it begins with `<` or `>` or is a byte-sized number. Others are
+-- word-sized.
 abbrev pub is_byte : Value → Bool
 is_byte v = is_byte_in v.portion v.base
 
--- the part's table has this form
+-- true if the part's table has the form
 abbrev pub has_form : Part → Mnemonic → Mode → Bool
 has_form part name way = is_some (find_form part name way)
 
 abbrev pub if_formed : Part → Mnemonic → Mode → Option Mode
 if_formed part name way = if has_form part name way then Some way else None
 
--- the zero-page form where the value is byte-sized and the table has it, else the absolute form
+-- the zero-page form if the value is byte-sized and the table has that form; otherwise the absolute
+-- form
 abbrev pub shorter : Part → Mnemonic → Value → Mode → Mode → Option Mode
 shorter part name v zero_page absolute =
     if is_byte v && has_form part name zero_page then Some zero_page else if_formed part name absolute
 
--- with JMP the absolute form, with others the zero-page form of a byte-sized value
+-- with JMP the absolute form; with others the zero-page form of a byte-sized value
 abbrev pub mode_in_parentheses : Part → Mnemonic → Value → Mode → Mode → Option Mode
 mode_in_parentheses part name v zero_page absolute =
     if same_mnemonic name Jmp then if_formed part name absolute
     else if is_byte v then if_formed part name zero_page
     else None
 
--- The mode of an instruction, or none where the part's table lacks the form. A branch takes its target as `E`.
+-- The mode of an instruction, or None if the part's table lacks the form. A branch takes its target
+-- as `E`.
 abbrev pub mode_of : Part → Mnemonic → Operand → Option Mode
 mode_of part name nothing = if_formed part name Imp
 mode_of part name accumulator = if_formed part name Acc
@@ -64,7 +67,7 @@ abbrev pub mode_bytes : Option Mode → ℕ
 mode_bytes None = 0
 mode_bytes (Some way) = bytes_of way
 
--- how many bytes a statement makes, `org` aside
+-- the number of bytes that a statement makes, except `org`
 abbrev pub size_of : Part → Statement → ℕ
 size_of part (instruction name operand) = mode_bytes (mode_of part name operand)
 size_of part (org n) = 0
@@ -78,12 +81,12 @@ after_statement part at (Some (instruction name operand)) = at + size_of part (i
 after_statement part at (Some (bytes values)) = at + size_of part (bytes values)
 after_statement part at (Some (words values)) = at + size_of part (words values)
 
--- the address behind a line
+-- the address after a line
 abbrev pub after_line : Part → ℕ → Option Line → ℕ
 after_line part at None = at
 after_line part at (Some line) = after_statement part at line.statement
 
--- the address that the first statement gives, if there is one
+-- the origin that the first statement gives: that of `org`, otherwise 0
 abbrev pub statement_origin : Statement → ℕ
 statement_origin (org n) = n.value
 statement_origin (instruction name operand) = 0
@@ -94,13 +97,13 @@ abbrev pub first_origin : Option Statement → ℕ → ℕ
 first_origin None later = later
 first_origin (Some s) later = statement_origin s
 
--- The origin: that of the first statement where it is `org`, else 0.
+-- The origin: that of the first statement if it is `org`, otherwise 0.
 abbrev pub origin_of : List (Option Line) → ℕ
 origin_of [] = 0
 origin_of (None ∷ lines) = origin_of lines
 origin_of (Some line ∷ lines) = first_origin line.statement (origin_of lines)
 
--- A line and the address that is reached at its beginning.
+-- A line and the address at its beginning.
 pub record Placed : Type 0 where
   pub address : ℕ
   pub line : Option Line
@@ -113,7 +116,7 @@ placed_from part at (line ∷ lines) = record { address = at; line = line } ∷ 
 abbrev pub placement : Part → List (Option Line) → List Placed
 placement part lines = placed_from part (origin_of lines) lines
 
--- the numbers that a statement names
+-- the numbers in a statement
 
 abbrev pub base_numbers : Base → List ℕ
 base_numbers (number n) = n.value ∷ []
@@ -148,7 +151,7 @@ has_no_form part (org n) = false
 has_no_form part (bytes values) = false
 has_no_form part (words values) = false
 
--- an `org` that goes back
+-- true for an `org` that goes back
 abbrev pub goes_back : ℕ → Statement → Bool
 goes_back at (org n) = nat_lt n.value at
 goes_back at (instruction name operand) = false
@@ -163,7 +166,7 @@ abbrev pub line_names : Option Line → List (List ℕ)
 line_names None = []
 line_names (Some line) = option_to_list line.label
 
--- the first of the tests that holds gives the error
+-- the given error if the test holds, otherwise the other
 abbrev pub or_else : Bool → AsmError → Option AsmError → Option AsmError
 or_else holds error other = if holds then Some error else other
 
@@ -179,7 +182,8 @@ abbrev pub is_long : Part → ℕ → Option Statement → Bool
 is_long part at None = false
 is_long part at (Some s) = nat_lt 65536 (at + size_of part s)
 
--- What the first pass has against a line, behind lines with these labels: of several things the first in this order.
+-- The fault that the first pass finds in a line after lines with the labels names: the first in
+-- this order.
 abbrev pub first_fault : Part → ℕ → List (List ℕ) → ℕ → Option Line → Option AsmError
 first_fault part row names at None = Some (Syntax row)
 first_fault part row names at (Some line) =
@@ -192,7 +196,8 @@ abbrev pub or_later : Option AsmError → Option AsmError → Option AsmError
 or_later (Some e) later = Some e
 or_later None later = later
 
--- The first pass, over lines that count from a number: the first line that it has something against.
+-- The first pass over lines, of which the first has the number row: the fault of the first line
+-- with one.
 abbrev pub first_pass : Part → ℕ → List (List ℕ) → List Placed → Option AsmError
 first_pass part row names [] = None
 first_pass part row names (p ∷ placed) =

@@ -25,7 +25,7 @@ abbrev pub line_labels : ℕ → Option Line → Labels
 line_labels at None = []
 line_labels at (Some line) = label_with at line.label
 
--- The labels of a placement: each has the address that is reached at the beginning of its line.
+-- The labels of a placement. The value of each is the address at the beginning of its line.
 abbrev pub labels_of : List Placed → Labels
 labels_of [] = []
 labels_of (p ∷ placed) = line_labels p.address p.line ++ labels_of placed
@@ -34,7 +34,7 @@ abbrev pub value_of_label : Labels → List ℕ → Option ℕ
 value_of_label [] name = None
 value_of_label (l ∷ labels) name = if bytes_eq name l.0 then Some l.1 else value_of_label labels name
 
--- what a value is taken of, if its label is known
+-- the base of a value, if its label is known
 abbrev pub base_value : Labels → Base → Option ℕ
 base_value labels (number n) = Some n.value
 base_value labels (label name) = value_of_label labels name
@@ -45,18 +45,18 @@ portion_in whole n = n
 portion_in low_byte n = n % 256
 portion_in high_byte n = n / 256
 
--- the number that a value comes to; 0 where its label is unknown
+-- the number of a value; 0 if its label is unknown
 abbrev pub value_in : Labels → Value → ℕ
 value_in labels v = portion_in v.portion (unwrap_or (base_value labels v.base) 0)
 
 abbrev pub is_unknown : Labels → Value → Bool
 is_unknown labels v = is_none (base_value labels v.base)
 
--- It must be below 65,536 before `<` or `>` is taken of it, and below a limit afterwards.
+-- A base must be below 65,536 before `<` or `>` is applied, and the value below a limit.
 abbrev pub is_out : Labels → ℕ → Value → Bool
 is_out labels limit v = nat_le 65536 (unwrap_or (base_value labels v.base) 0) || nat_le limit (value_in labels v)
 
--- how far a branch at this address goes, modulo 65,536
+-- the distance of a branch at the address at, modulo 65,536
 abbrev pub distance : ℕ → ℕ → ℕ
 distance at target = (65536 + target - (at + 2) % 65536) % 65536
 
@@ -64,7 +64,7 @@ distance at target = (65536 + target - (at + 2) % 65536) % 65536
 abbrev pub is_near : ℕ → Bool
 is_near d = nat_lt d 128 || nat_le 65408 d
 
--- what is out of range in an operand, by the mode that it takes
+-- true if a value of an operand is out of range for the mode that it takes
 abbrev pub operand_out : Labels → ℕ → Option Mode → Operand → Bool
 operand_out labels at (Some Imm) operand = list_any (is_out labels 256) (operand_values operand)
 operand_out labels at (Some Rel) operand =
@@ -86,7 +86,7 @@ statement_out part labels at (Some (org n)) = false
 statement_out part labels at (Some (bytes values)) = list_any (is_out labels 256) values
 statement_out part labels at (Some (words values)) = list_any (is_out labels 65536) values
 
--- What the second pass has against a line: an unknown label before a value out of range.
+-- The fault that the second pass finds in a line: an unknown label before a value out of range.
 abbrev pub second_fault : Part → ℕ → Labels → ℕ → Option Line → Option AsmError
 second_fault part row labels at None = None
 second_fault part row labels at (Some line) =
@@ -119,7 +119,7 @@ instruction_bytes part labels at name operand None = []
 instruction_bytes part labels at name operand (Some way) =
     unwrap_or (find_form part name way) 0 ∷ operand_bytes at way (map (value_in labels) (operand_values operand))
 
--- What a statement makes at an address. An `org` fills with 00 up to its own.
+-- The bytes of a statement at an address. An `org` fills with 00 up to its own address.
 abbrev pub statement_bytes : Part → Labels → ℕ → Option Statement → List ℕ
 statement_bytes part labels at None = []
 statement_bytes part labels at (Some (instruction name operand)) = instruction_bytes part labels at name operand (mode_of part name operand)
@@ -139,13 +139,14 @@ abbrev pub unless_fault : Option AsmError → Result Program AsmError → Result
 unless_fault (Some e) program = Err e
 unless_fault None program = program
 
--- What placed lines mean, whose origin is this.
+-- The meaning of placed lines with the given origin.
 abbrev pub program_of : Part → ℕ → List Placed → Result Program AsmError
 program_of part origin placed =
     unless_fault (first_pass part 1 [] placed)
     (unless_fault (second_pass part 1 (labels_of placed) placed)
     (Ok (origin, concat (map (λ p. line_bytes part (labels_of placed) p.address p.line) placed))))
 
--- What a source text means: its origin and its bytes, or its first offending line. Lines count from 1.
+-- The meaning of a source text: its origin and its bytes, or its first offending line. Lines count
+-- from 1.
 unfoldable pub source : Part → List ℕ → Result Program AsmError
 source part text = program_of part (origin_of (parsed_text text)) (placement part (parsed_text text))

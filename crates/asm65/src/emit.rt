@@ -1,4 +1,4 @@
-//! The bytes that a statement makes, behind those that were made before it.
+//! The bytes that a statement makes, appended to those before it.
 ghost use Rattle.std.specs.Prelude.{◌≡◌, ◌<◌, ◌≤◌, ◌-◌, ◌++◌, ◌∷◌, [], false, map, replicate, option_map, vec_len, OnOk};
 ghost use Rattle.std.specs.List.{list_any, concat};
 ghost use Rattle.asm65.specs.Placement.{mode_of};
@@ -13,7 +13,7 @@ use asm_lines::{Operand, Statement, ValueList};
 use op_table::{Mnemonic, Mode, Part, find};
 use std::alloc::AllocError;
 
-// The low byte first.
+// Appends a word, its low byte first.
 fn push_word(bytes: &mut Vec<u8>, word: u64) -> Result<(), AllocError>
     requires { word < 65536 }
     ensures { OnOk result (bytes.new.items ≡ bytes.old.items ++ word_bytes word) }
@@ -108,7 +108,7 @@ fn fill(bytes: &mut Vec<u8>, address: u32, up_to: u32) -> Result<(), AllocError>
     bytes.resize(bytes.len() + up_to.saturating_sub(address) as usize, 0)
 }
 
-/// The bytes of a statement at an address. An `org` fills with 00 up to its own.
+/// Appends the bytes of a statement at an address. An `org` fills with 00 up to its own address.
 pub(crate) fn push_statement<'a>(
     bytes: &mut Vec<u8>,
     part: Part,

@@ -1,4 +1,4 @@
-//! The second pass over one line: what values come to, and the bytes that statements make.
+//! The second pass over one line: the numbers of values, and the bytes of statements.
 ghost use Rattle.std.specs.Prelude.{◌≡◌, ◌+◌, ◌^◌, ◌<◌, ◌≤◌, if◌then◌else◌, ◌++◌, ◌∷◌, [], false, true, Some, option_map, IfSome, OnOk};
 ghost use Rattle.std.specs.List.{list_any, list_all};
 ghost use Rattle.op_table.specs.declared.Mode.TheVariants.{Rel};
@@ -13,7 +13,7 @@ use crate::placement::{mode_of, operand_value};
 use asm_lines::{Base, Line, Operand, Portion, Statement, Value, ValueList};
 use op_table::{Mode, Part};
 
-// What a value is taken of, if its label is known.
+// Returns the base of a value, if its label is known.
 fn evaluate_base<'a>(labels: &Labels<'a>, base: &Base<'a>) -> Option<u64>
     ensures value { result ≡ base_value (labels_in labels.now) (seen_base base.now) }
     ensures bound { IfSome result (λ n. n < 2 ^ 33) }
@@ -29,7 +29,7 @@ fn evaluate_base<'a>(labels: &Labels<'a>, base: &Base<'a>) -> Option<u64>
     }
 }
 
-// The same, and 0 where the label is unknown.
+// Returns the base of a value, or 0 if its label is unknown.
 fn base_or_zero<'a>(labels: &Labels<'a>, value: &Value<'a>) -> u64
     ensures value { result ≡ base_or_zero (labels_in labels.now) (seen_value value.now) }
     ensures bound { result < 2 ^ 33 }
@@ -49,7 +49,7 @@ fn portion_of(portion: Portion, number: u64) -> u64
     }
 }
 
-/// The number that a value comes to.
+/// Returns the number of a value.
 pub(crate) fn evaluate<'a>(labels: &Labels<'a>, value: &Value<'a>) -> u64
     ensures value { result ≡ value_in (labels_in labels.now) (seen_value value.now) }
     ensures bound { result < 2 ^ 33 }
@@ -97,7 +97,7 @@ fn any_out<'a>(labels: &Labels<'a>, limit: u64, values: ValueList<'a>) -> bool
     false
 }
 
-/// How far a branch at this address goes, modulo 65,536.
+/// Returns the distance of a branch at the address `address`, modulo 65,536.
 pub(crate) fn distance(address: u32, target: u64) -> u64
     requires { target < 2 ^ 33 }
     ensures value { result ≡ distance address target }
@@ -179,7 +179,7 @@ fn names_unknown<'a>(labels: &Labels<'a>, statement: &Option<Statement<'a>>) -> 
     }
 }
 
-/// What the second pass has against a line: an unknown label before a value out of range.
+/// Finds the fault of a line in the second pass: an unknown label before a value out of range.
 pub(crate) fn second_fault<'a>(
     part: Part,
     line_number: u64,

@@ -17,7 +17,7 @@ pub(crate) fn address_of<'a>(labels: &Labels<'a>, name: &'a [u8]) -> Option<u32>
     labels.get(&name).copied()
 }
 
-/// Gives a label, if there is one, its address. False where an earlier line has this label.
+/// Gives a label, if there is one, its address. Returns `false` if an earlier line has this label.
 pub(crate) fn define<'a>(
     labels: &mut Labels<'a>,
     label: Option<&'a [u8]>,

@@ -18,7 +18,7 @@ use op_table::Part;
 use std::alloc::Global;
 use std::collections::BTreeMap;
 
-// The origin of a text that begins with this line, if the line settles it.
+// Returns the origin of a text that begins with this line, if the line determines it.
 fn line_origin(line: &Option<Line<'_>>) -> Option<u32>
     ensures { SettlesOrigin (option_map seen_line line.now) result }
 {
@@ -32,7 +32,7 @@ fn line_origin(line: &Option<Line<'_>>) -> Option<u32>
     }
 }
 
-/// The origin: that of the first statement where it is `org`, else 0.
+/// Returns the origin: that of the first statement if it is `org`, otherwise 0.
 pub(crate) fn origin_of(text: &[u8]) -> u32
     ensures { result ≡ origin_of (parsed_text text.now) }
 {
@@ -47,7 +47,7 @@ pub(crate) fn origin_of(text: &[u8]) -> u32
     0
 }
 
-// The first pass over one line: the address behind it.
+// Makes the first pass over one line. Returns the address after it.
 fn place<'a>(
     part: Part,
     line_number: u64,
@@ -78,7 +78,7 @@ fn place<'a>(
     Ok(address_behind(part, address, &line.statement))
 }
 
-/// The first pass: the labels, or the first line that it has something against.
+/// Makes the first pass. Returns the labels, or the first line with a fault.
 pub(crate) fn first_pass<'a>(
     alloc: Global,
     part: Part,
@@ -105,7 +105,8 @@ pub(crate) fn first_pass<'a>(
     Ok(labels)
 }
 
-// The second pass over one line: its bytes are put behind those of the lines before it. The address behind it.
+// Makes the second pass over one line: appends its bytes to those of the lines before it. Returns
+// the address after it.
 fn encode<'a>(
     part: Part,
     line_number: u64,
@@ -134,7 +135,8 @@ fn encode<'a>(
     Ok(address_behind(part, address, &line.statement))
 }
 
-/// The second pass, behind a first one without a fault: the bytes, or the first line that it has something against.
+/// Makes the second pass, after a first one without a fault. Returns the bytes, or the first line
+/// with a fault.
 pub(crate) fn second_pass<'a>(
     alloc: Global,
     part: Part,

@@ -1,4 +1,4 @@
-//! Where the lines lie: which form of its mnemonic an instruction takes, and the address of each line.
+//! The placement of lines: the form that an instruction takes, and the address of each line.
 ghost use Rattle.std.specs.Prelude.{◌≡◌, ◌+◌, ◌-◌, ◌^◌, ◌≤◌, ◌<◌, nat_lt, false, None, option_map, option_to_list, length};
 ghost use Rattle.std.specs.List.{list_any};
 ghost use Rattle.asm65.specs.Placement.{is_byte_base, is_byte, has_form, if_formed, shorter, mode_in_parentheses, mode_of, size_of};
@@ -10,7 +10,7 @@ use crate::AsmError;
 use asm_lines::{Base, Number, Operand, Portion, Statement, Value, ValueList};
 use op_table::{Mnemonic, Mode, Part, find};
 
-// How many bytes there are in the memory.
+// The size of the memory in bytes.
 const MEMORY: usize = 65_536;
 
 fn is_byte_sized_base(base: &Base<'_>) -> bool
@@ -22,7 +22,7 @@ fn is_byte_sized_base(base: &Base<'_>) -> bool
     }
 }
 
-// Whether a value takes one byte.
+// Returns true if a value takes one byte.
 fn is_byte_sized(value: &Value<'_>) -> bool
     ensures { result ≡ is_byte (seen_value value.now) }
 {
@@ -48,7 +48,8 @@ fn if_formed(part: Part, mnemonic: Mnemonic, mode: Mode) -> Option<Mode>
     }
 }
 
-// The form in the zero page where the value is byte-sized and the table has it, else the absolute one.
+// Returns the zero-page form if the value is byte-sized and the table has that form. Otherwise
+// returns the absolute form.
 fn shorter(
     part: Part,
     mnemonic: Mnemonic,
@@ -65,7 +66,7 @@ fn shorter(
     }
 }
 
-// In parentheses JMP takes the absolute form, and others take that in the zero page.
+// Returns the form in parentheses: JMP takes the absolute form, others the zero-page form.
 fn parenthesized(
     part: Part,
     mnemonic: Mnemonic,
@@ -84,7 +85,7 @@ fn parenthesized(
     }
 }
 
-/// The mode of an instruction, or none where the part's table lacks the form.
+/// Returns the mode of an instruction. Returns `None` if the part's table lacks the form.
 pub(crate) fn mode_of(part: Part, mnemonic: Mnemonic, operand: &Operand<'_>) -> Option<Mode>
     ensures { result ≡ mode_of part mnemonic (seen_operand operand.now) }
 {
@@ -119,7 +120,8 @@ pub(crate) fn mode_of(part: Part, mnemonic: Mnemonic, operand: &Operand<'_>) -> 
     }
 }
 
-// How many values there are; where there are more than bytes in the memory, one more than these.
+// Returns the number of values, or 65,537, one more than the bytes of the memory, if there are
+// more.
 fn value_count(values: ValueList<'_>) -> usize
     ensures exact { result ≤ 65536 → result ≡ length (seen_list values.entry) }
     ensures more { 65536 < result → 65536 < length (seen_list values.entry) }
@@ -137,7 +139,8 @@ fn value_count(values: ValueList<'_>) -> usize
     count
 }
 
-// How many bytes a statement makes, `org` aside. A size above that of the memory need not be exact.
+// Returns the number of bytes that a statement makes, except `org`. A size above that of the memory
+// need not be exact.
 fn size_in_bytes(part: Part, statement: &Statement<'_>) -> usize
     ensures exact { result ≤ 65536 → result ≡ size_of part (seen_statement statement.now) }
     ensures more { 65536 < result → 65536 < size_of part (seen_statement statement.now) }
@@ -154,7 +157,7 @@ fn size_in_bytes(part: Part, statement: &Statement<'_>) -> usize
     }
 }
 
-// Whether a statement has bytes past the end of memory.
+// Returns true if a statement has bytes past the end of memory.
 fn is_long(part: Part, address: u32, statement: &Option<Statement<'_>>) -> bool
     ensures { result ≡ is_long part address (option_map seen_statement statement.now) }
 {
@@ -164,7 +167,7 @@ fn is_long(part: Part, address: u32, statement: &Option<Statement<'_>>) -> bool
     }
 }
 
-/// The address behind a statement.
+/// Returns the address after a statement.
 pub(crate) fn address_behind(part: Part, address: u32, statement: &Option<Statement<'_>>) -> u32
     requires { is_long part address (option_map seen_statement statement.now) ≡ false }
     ensures { result ≡ after_statement part address (option_map seen_statement statement.now) }
@@ -176,7 +179,7 @@ pub(crate) fn address_behind(part: Part, address: u32, statement: &Option<Statem
     }
 }
 
-/// The value of an operand, if it has one.
+/// Returns the value of an operand, if it has one.
 pub(crate) fn operand_value<'a>(operand: &Operand<'a>) -> Option<Value<'a>>
     ensures { option_to_list (option_map seen_value result) ≡ operand_values (seen_operand operand.now) }
 {
@@ -192,7 +195,7 @@ pub(crate) fn operand_value<'a>(operand: &Operand<'a>) -> Option<Value<'a>>
     }
 }
 
-/// Whether the part's table lacks the form of a statement.
+/// Returns true if the part's table lacks the form of a statement.
 pub(crate) fn is_formless(part: Part, statement: &Option<Statement<'_>>) -> bool
     ensures { result ≡ formless part (option_map seen_statement statement.now) }
 {
@@ -204,7 +207,7 @@ pub(crate) fn is_formless(part: Part, statement: &Option<Statement<'_>>) -> bool
     }
 }
 
-// Whether a value has a number above 65,535 in it.
+// Returns true if a value has a number above 65,535 in it.
 fn has_large_number(value: &Value<'_>) -> bool
     ensures { result ≡ list_any (λ n. nat_lt 65535 n) (base_numbers (seen_base value.now.base)) }
 {
@@ -238,7 +241,7 @@ fn any_large_number(values: ValueList<'_>) -> bool
     false
 }
 
-// Whether an `org` goes back, or a number is above 65,535.
+// Returns true if an `org` goes back, or if a number is above 65,535.
 fn is_past(address: u32, statement: &Option<Statement<'_>>) -> bool
     ensures { result ≡ is_past address (option_map seen_statement statement.now) }
 {
@@ -252,7 +255,7 @@ fn is_past(address: u32, statement: &Option<Statement<'_>>) -> bool
     }
 }
 
-/// What the first pass has against a statement that has its form: of two things the first.
+/// Finds the first fault of a statement that has its form, in the first pass.
 pub(crate) fn statement_fault(
     part: Part,
     line_number: u64,

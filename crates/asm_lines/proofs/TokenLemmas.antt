@@ -1,4 +1,4 @@
--- The run at the front of code, and the tokens behind it.
+-- The run at the front of code, and the tokens after it.
 use Rattle.std.proofs.Common.{◌≡◌, refl, ap, ℕ, ◌-◌, ◌<◌, ◌≤◌, List, [], ◌∷◌, length, take, drop, Bool, true, false, arith, one-add}
 use Rattle.std.specs.List.{prefix_len}
 use Rattle.std.proofs.lemmas.List.{take_all, length-drop}
@@ -11,7 +11,7 @@ no_run b c e = grind arith
 no_word : (c : Cut) → c.run ≡ [] → c.tokens ≡ tokens_of_cut c
 no_word c e = rw e
 
--- the run is the longest that stands in front, and the other tokens are those of what is behind it
+-- The run is the longest at the front, and the other tokens are those of the code after it.
 abbrev RunIs : List ℕ → ℕ → Type 0
 RunIs code n = ((cut_of code).run ≡ take n code) × ((cut_of code).tokens ≡ tokens_of (drop n code))
 

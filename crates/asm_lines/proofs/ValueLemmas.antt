@@ -6,7 +6,7 @@ use Rattle.asm_lines.specs.Code.{label_in_front, values_until, values_of_list}
 
 -- ---- lines
 
--- a line by the label in front
+-- a line by the label at its front
 abbrev pub line_behind : List Token → Option (List ℕ × List Token) → Option syntax.Line
 line_behind ts None = option_map (λ s. record { label = None; statement = s }) (syntax.rest_of ts)
 line_behind ts (Some r) =
@@ -17,7 +17,7 @@ line_of_front [] = refl
 line_of_front (word run ∷ colon ∷ ts) = refl
 line_of_front ts = refl
 
--- ---- the first group of tokens, and the groups behind it
+-- ---- the first group of tokens, and the groups after it
 
 front : List Token → List Token
 front [] = []
@@ -35,7 +35,7 @@ groups_by_front [] = refl
 groups_by_front (comma ∷ ts) = refl
 groups_by_front (t ∷ ts) = rw (groups_by_front ts)
 
--- What is read at the front of tokens ends before the first comma.
+-- A value read at the front of tokens ends before the first comma.
 abbrev fronted : {X : Type 0} → Option (X × List Token) → Option (X × List Token)
 fronted None = None
 fronted (Some r) = Some (r.0, front r.1)
@@ -44,7 +44,7 @@ abbrev SameBehind : {X : Type 0} → Option (X × List Token) → List (List Tok
 SameBehind None groups = Unit {0}
 SameBehind (Some r) groups = behind r.1 ≡ groups
 
--- It is what is read there of those tokens, with the same groups behind it.
+-- The reading of those tokens is the same, with the same groups after it.
 abbrev InFront : {X : Type 0} → Option (X × List Token) → Option (X × List Token) → List (List Token) → Type 0
 InFront read in_front groups = (fronted read ≡ in_front) × SameBehind read groups
 
@@ -89,14 +89,14 @@ value_front (t ∷ ts) = portion_front syntax.whole (syntax.base_at (t ∷ ts)) 
 
 -- ---- a list by its first value
 
--- a value and the tokens behind its comma, if one stands there, or none
+-- a value and the tokens after its comma, if it has one, or none
 abbrev pub first_of : Option (syntax.Value × List Token) → Option (syntax.Value × Option (List Token))
 first_of None = None
 first_of (Some (v, [])) = Some (v, None)
 first_of (Some (v, comma ∷ ts)) = Some (v, Some ts)
 first_of (Some (v, t ∷ ts)) = None
 
--- what is read of each group
+-- the value read from each group
 abbrev pub read : List Token → List (Option syntax.Value)
 read ts = map (λ group. syntax.only_value (syntax.value_at group)) (syntax.groups_of ts)
 

@@ -1,4 +1,4 @@
--- What the code holds, as the definitions see it.
+-- The program's values of code, as the definitions see them.
 use Rattle.std.specs.Prelude.{ℕ, ◌+◌, length, true, false, List, [], ◌∷◌, map, Option, Some, None, option_map}
 use Rattle.std.specs.Borrow.{Bor}
 use Rattle.asm_lines.specs.declared.tokens.Token.{Token}
@@ -36,7 +36,7 @@ seen_token High = tokens.high
 seen_token Plus = tokens.plus
 seen_token Other = tokens.other
 
--- the token that was read, in front of those of the code behind it
+-- the token that was read, and the tokens of the code after it
 abbrev pub seen_next : Option (Token × Bor (List ℕ)) → List tokens.Token
 seen_next None = []
 seen_next (Some r) = seen_token r.0 ∷ tokens.tokens_of r.1.now
@@ -50,7 +50,7 @@ seen_base (Plain n) = syntax.number (seen_number n)
 seen_base (Label name) = syntax.label name.now
 seen_base (Beyond name n) = syntax.beyond name.now (seen_number n)
 
--- a part of a line with the tokens behind it
+-- a part of a line with the tokens after it
 abbrev pub seen_base_and_rest : Base × Bor (List ℕ) → syntax.Base × List tokens.Token
 seen_base_and_rest r = (seen_base r.0, tokens.tokens_of r.1.now)
 
@@ -83,13 +83,13 @@ seen_closing ClosedCommaY = syntax.closed_comma_y
 abbrev pub seen_value_and_closing : Value × Closing → syntax.Value × syntax.Closing
 seen_value_and_closing r = (seen_value r.0, seen_closing r.1)
 
--- the values in front of the first that is none
+-- the values before the first None
 abbrev pub values_until : List (Option syntax.Value) → List syntax.Value
 values_until [] = []
 values_until (None ∷ read) = []
 values_until (Some v ∷ read) = v ∷ values_until read
 
--- the values of a list, in front of the first place where there is none
+-- the values of a list before the first item that is no value
 unfoldable pub values_of_list : List tokens.Token → List syntax.Value
 values_of_list ts = values_until (map (λ group. syntax.only_value (syntax.value_at group)) (syntax.groups_of ts))
 
@@ -100,7 +100,7 @@ listed_in (Some code) = values_of_list (tokens.tokens_of code.now)
 abbrev pub seen_list : ValueList → List syntax.Value
 seen_list values = listed_in values.rest
 
--- how many bytes there are from the next value on, and one for it
+-- the number of bytes from the next value on, plus one for a value left
 abbrev pub code_left : Option (Bor (List ℕ)) → ℕ
 code_left None = 0
 code_left (Some code) = 1 + length code.now
@@ -108,7 +108,7 @@ code_left (Some code) = 1 + length code.now
 abbrev pub length_left : ValueList → ℕ
 length_left values = code_left values.rest
 
--- a value in front of a list
+-- a value and the values of the list after it
 abbrev pub seen_first : Option (Value × Option (Bor (List ℕ))) → List syntax.Value
 seen_first None = []
 seen_first (Some r) = seen_value r.0 ∷ listed_in r.1
@@ -117,7 +117,7 @@ abbrev pub seen_next_value : Option (Value × ValueList) → List syntax.Value
 seen_next_value None = []
 seen_next_value (Some r) = seen_value r.0 ∷ seen_list r.1
 
--- the values that code means, if each of them is one
+-- the values that code means, if each item is one
 abbrev pub values_from : Option (Bor (List ℕ)) → Option (List syntax.Value)
 values_from None = Some []
 values_from (Some code) = syntax.values_of (tokens.tokens_of code.now)
@@ -146,11 +146,11 @@ seen_statement (Words values) = syntax.words (seen_list values)
 abbrev pub seen_line : Line → syntax.Line
 seen_line line = record { label = option_map (λ name. name.now) line.label; statement = option_map seen_statement line.statement }
 
--- a statement that begins with this word
+-- a statement that begins with the word run
 abbrev pub word_statement : List ℕ → List tokens.Token → Option syntax.Statement
 word_statement run ts = syntax.statement_of (tokens.word run ∷ ts)
 
--- the word in front of a colon at the front of tokens, and the tokens behind it
+-- the word before a colon at the front of tokens, and the tokens after the colon
 abbrev pub label_in_front : List tokens.Token → Option (List ℕ × List tokens.Token)
 label_in_front (tokens.word run ∷ tokens.colon ∷ ts) = Some (run, ts)
 label_in_front ts = None

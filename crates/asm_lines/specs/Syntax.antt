@@ -1,4 +1,4 @@
--- What a line of tokens means: an optional label and an optional statement.
+-- The meaning of a line of tokens: an optional label and an optional statement.
 use Rattle.std.specs.Prelude.{ℕ, ◌==◌, ◌&&◌, ◌||◌, nat_le, nat_lt, Bool, false, not, List, [], ◌∷◌, length, map, Option, Some, None, option_map, option_and_then, if◌then◌else◌, codes}
 use Rattle.std.specs.List.{list_all}
 use Rattle.std.specs.Str.{bytes_eq}
@@ -10,7 +10,7 @@ use Rattle.digits.specs.Hexadecimal.{is_hex_any_case, hex_number as hex_value}
 use Rattle.digits.specs.Lines.{text_lines}
 use Rattle.asm_lines.specs.Tokens.{Token, word, hex, colon, comma, hash, left, right, low, high, plus, other, is_letter, code_of, tokens_of}
 
--- Numbers. A byte-sized one takes one byte where the form allows it.
+-- Numbers. A byte-sized one takes one byte if the form allows it.
 pub record Number : Type 0 where
   pub value : ℕ
   pub byte_sized : Bool
@@ -43,23 +43,23 @@ number_of high = None
 number_of plus = None
 number_of other = None
 
--- a word is this one, in either case
+-- true if the word run is name, in upper or lower case
 abbrev pub is_named : List ℕ → List ℕ → Bool
 is_named name run = bytes_eq (map to_ascii_uppercase run) name
 
 abbrev pub is_register : List ℕ → Bool
 is_register run = is_named (codes "A") run || is_named (codes "X") run || is_named (codes "Y") run
 
--- a letter or `_` stands first
+-- true if the first character is a letter or `_`
 abbrev pub begins_name : List ℕ → Bool
 begins_name [] = false
 begins_name (b ∷ run) = is_letter b || b == 95
 
--- A label: its case counts, and A, X and Y are none in either case.
+-- A label is case sensitive. A, X and Y are no labels in either case.
 abbrev pub is_label : List ℕ → Bool
 is_label run = begins_name run && not (is_register run)
 
--- What a value is taken of.
+-- The base of a value.
 pub data Base : Type 0 where
   -- a number
   number : (n : Number) → Base
@@ -68,7 +68,7 @@ pub data Base : Type 0 where
   -- `label + number`
   beyond : (name : List ℕ) (n : Number) → Base
 
--- Which part of it is taken.
+-- The part of a base that a value takes.
 pub data Portion : Type 0 where
   whole : Portion
   -- `<`
@@ -80,7 +80,7 @@ pub record Value : Type 0 where
   pub portion : Portion
   pub base : Base
 
--- a label, and `+` and a number where they stand behind it
+-- a label, with `+` and a number if they follow it
 abbrev pub label_at : List ℕ → List Token → Option (Base × List Token)
 label_at name [] = Some (label name, [])
 label_at name (plus ∷ []) = None
@@ -96,12 +96,12 @@ label_at name (low ∷ tokens) = Some (label name, low ∷ tokens)
 label_at name (high ∷ tokens) = Some (label name, high ∷ tokens)
 label_at name (other ∷ tokens) = Some (label name, other ∷ tokens)
 
--- a word as a number, or else as a label with what stands behind it
+-- a word as a number, or if it is none, as a label with what follows it
 abbrev pub word_at : List ℕ → List Token → Option Number → Option (Base × List Token)
 word_at run tokens (Some n) = Some (number n, tokens)
 word_at run tokens None = if is_label run then label_at run tokens else None
 
--- a value's base at the front of tokens, and the tokens behind it
+-- a value's base at the front of tokens, and the tokens after it
 abbrev pub base_at : List Token → Option (Base × List Token)
 base_at [] = None
 base_at (word run ∷ tokens) = word_at run tokens (decimal_number run)
@@ -119,7 +119,7 @@ base_at (other ∷ tokens) = None
 abbrev pub portion_of : Portion → Option (Base × List Token) → Option (Value × List Token)
 portion_of portion read = option_map (λ b. (record { portion = portion; base = b.0 }, b.1)) read
 
--- a value at the front of tokens, and the tokens behind it
+-- a value at the front of tokens, and the tokens after it
 abbrev pub value_at : List Token → Option (Value × List Token)
 value_at (low ∷ tokens) = portion_of low_byte (base_at tokens)
 value_at (high ∷ tokens) = portion_of high_byte (base_at tokens)
@@ -146,7 +146,7 @@ pub data Operand : Type 0 where
   -- `(E),Y`
   indirect_y : (v : Value) → Operand
 
--- What an operand is, or what stands in front of its value.
+-- An operand without a value, or the token before its value.
 pub data Opening : Type 0 where
   no_operand : Opening
   -- `A`
@@ -157,7 +157,7 @@ pub data Opening : Type 0 where
   parenthesized : Opening
   bare : Opening
 
--- What stands behind its value.
+-- The tokens after the value of an operand.
 pub data Closing : Type 0 where
   ends : Closing
   -- `,X`
@@ -192,7 +192,7 @@ closing_of (comma ∷ word run ∷ right ∷ []) = if is_named (codes "X") run t
 closing_of (right ∷ comma ∷ word run ∷ []) = if is_named (codes "Y") run then Some closed_comma_y else None
 closing_of tokens = None
 
--- a value and what stands behind it
+-- a value and its closing
 abbrev pub value_and_closing : List Token → Option (Value × Closing)
 value_and_closing tokens = option_and_then (λ r. option_map (λ closing. (r.0, closing)) (closing_of r.1)) (value_at tokens)
 
@@ -222,7 +222,7 @@ pub data Statement : Type 0 where
   -- `word E, E`
   words : (values : List Value) → Statement
 
--- a token in front of the first group
+-- a token added at the front of the first group
 abbrev pub group_with : Token → List (List Token) → List (List Token)
 group_with t [] = (t ∷ []) ∷ []
 group_with t (group ∷ groups) = (t ∷ group) ∷ groups
@@ -233,19 +233,19 @@ groups_of [] = [] ∷ []
 groups_of (comma ∷ tokens) = [] ∷ groups_of tokens
 groups_of (t ∷ tokens) = group_with t (groups_of tokens)
 
--- a value and nothing behind it
+-- a value and no tokens after it
 abbrev pub only_value : Option (Value × List Token) → Option Value
 only_value (Some (v, [])) = Some v
 only_value (Some (v, t ∷ tokens)) = None
 only_value None = None
 
--- all of them, if there is none that is none
+-- all values, or None if any is None
 abbrev pub all_of : {X : Type 0} → List (Option X) → Option (List X)
 all_of [] = Some []
 all_of (None ∷ os) = None
 all_of (Some x ∷ os) = option_map (λ xs. x ∷ xs) (all_of os)
 
--- one or more values, parted by commas
+-- one or more values, separated by commas
 abbrev pub values_of : List Token → Option (List Value)
 values_of tokens = all_of (map (λ group. only_value (value_at group)) (groups_of tokens))
 
@@ -270,12 +270,12 @@ pub record Line : Type 0 where
   pub label : Option (List ℕ)
   pub statement : Option Statement
 
--- what stands behind a label, or without one
+-- the statement after a label, or on a line without one
 abbrev pub rest_of : List Token → Option (Option Statement)
 rest_of [] = Some None
 rest_of (t ∷ tokens) = option_map Some (statement_of (t ∷ tokens))
 
--- The line that tokens mean, or none where they are outside the syntax.
+-- The line that tokens mean, or None if they are outside the syntax.
 abbrev pub line_of : List Token → Option Line
 line_of (word run ∷ colon ∷ tokens) =
     if is_label run then option_map (λ s. record { label = Some run; statement = s }) (rest_of tokens) else None

@@ -2,7 +2,7 @@
 use Rattle.std.specs.Prelude.{ℕ, ◌==◌, ◌&&◌, ◌||◌, nat_le, Bool, not, List, [], ◌∷◌, take_while, if◌then◌else◌}
 use Rattle.digits.specs.Decimal.{is_digit}
 
--- neither a line feed nor `;`, with which a comment begins
+-- neither a line feed nor `;`, which begins a comment
 abbrev pub is_code : ℕ → Bool
 is_code b = not (b == 10) && not (b == 59)
 
@@ -24,7 +24,7 @@ is_blank b = b == 32 || b == 9
 pub data Token : Type 0 where
   -- a run of letters, digits and `_`
   word : (run : List ℕ) → Token
-  -- `&` and the run that touches it, if one does
+  -- `&` and the run directly after it, which may be empty
   hex : (run : List ℕ) → Token
   -- `:`
   colon : Token
@@ -42,10 +42,10 @@ pub data Token : Type 0 where
   high : Token
   -- `+`
   plus : Token
-  -- a byte of no token
+  -- a byte of any other kind
   other : Token
 
--- the token of a byte that stands for itself
+-- the token of a single byte
 abbrev pub mark : ℕ → Token
 mark b =
     if b == 58 then colon
@@ -58,7 +58,7 @@ mark b =
     else if b == 43 then plus
     else other
 
--- Bytes as a run at their beginning, which may be empty, and the tokens behind it.
+-- Bytes as a run at their beginning, which may be empty, and the tokens after it.
 pub record Cut : Type 0 where
   pub run : List ℕ
   pub tokens : List Token
@@ -71,7 +71,7 @@ word_before (b ∷ run) tokens = word (b ∷ run) ∷ tokens
 abbrev pub tokens_of_cut : Cut → List Token
 tokens_of_cut c = word_before c.run c.tokens
 
--- a byte in front of what was cut
+-- a cut with a byte added at its front
 abbrev pub cut_with : ℕ → Cut → Cut
 cut_with b c =
     if is_word_byte b then record { run = b ∷ c.run; tokens = c.tokens }
@@ -83,6 +83,6 @@ abbrev pub cut_of : List ℕ → Cut
 cut_of [] = record { run = []; tokens = [] }
 cut_of (b ∷ bytes) = cut_with b (cut_of bytes)
 
--- The tokens of the code of a line. Blanks part words, and stand anywhere between tokens.
+-- The tokens of the code of a line. Blanks separate words, and may come between any tokens.
 abbrev pub tokens_of : List ℕ → List Token
 tokens_of bytes = tokens_of_cut (cut_of bytes)

@@ -1,4 +1,4 @@
-//! The lines of a source text for the assembler: the tokens of each, and what they mean.
+//! The lines of a source text for the assembler: the tokens of each, and their meaning.
 #![tactic(auto)]
 
 mod syntax;

@@ -1,4 +1,4 @@
-//! What a line means: an optional label and an optional statement.
+//! The meaning of a line: an optional label and an optional statement.
 ghost use Rattle.std.specs.Prelude.{◌≡◌, ◌≤◌, ◌<◌, ◌^◌, nat_lt, nat_le, IsTrue, length, ◌∷◌, [], true, is_some, option_map, option_and_then, IfSome};
 ghost use Rattle.std.specs.List.{list_all};
 ghost use Rattle.op_table.specs.Names.{mnemonic_of};
@@ -14,7 +14,7 @@ use crate::tokens::{Token, code_of, next_token};
 use digits::{all_digits, all_hex_any_case, decimal_value, first_line};
 use op_table::Mnemonic;
 
-/// A number by its size: a byte-sized one takes one byte where the form allows it.
+/// A number with its size: a byte-sized one takes one byte if the form allows it.
 #[derive(Clone, Copy)]
 pub enum Number {
     /// A byte-sized one: one or two hexadecimal digits, or a decimal number below 256.
@@ -24,7 +24,7 @@ pub enum Number {
 }
 
 impl Number {
-    /// The number itself. A byte-sized one is below 256.
+    /// Returns the value of the number. A byte-sized one is below 256.
     pub fn value(self) -> u32
         ensures value { result ≡ (seen_number self).value }
         ensures byte_sized { (seen_number self).byte_sized ≡ true → result < 256 }
@@ -36,7 +36,7 @@ impl Number {
     }
 }
 
-/// What a value is taken of.
+/// The base of a value.
 #[derive(Clone, Copy)]
 pub enum Base<'a> {
     /// A number
@@ -47,7 +47,7 @@ pub enum Base<'a> {
     Beyond(&'a [u8], Number),
 }
 
-/// Which part of it is taken.
+/// The part of a base that a value takes.
 #[derive(Clone, Copy)]
 pub enum Portion {
     /// All of it
@@ -61,13 +61,13 @@ pub enum Portion {
 /// `E`
 #[derive(Clone, Copy)]
 pub struct Value<'a> {
-    /// Which part is taken.
+    /// The part of the base.
     pub portion: Portion,
-    /// What it is taken of.
+    /// The base.
     pub base: Base<'a>,
 }
 
-/// What an operand is, or what stands in front of its value.
+/// An operand without a value, or the token before its value.
 #[derive(Clone, Copy)]
 enum Opening {
     NoOperand,
@@ -80,7 +80,7 @@ enum Opening {
     Bare,
 }
 
-/// What stands behind its value.
+/// The tokens after the value of an operand.
 #[derive(Clone, Copy)]
 enum Closing {
     Ends,
@@ -119,14 +119,14 @@ pub enum Operand<'a> {
     IndirectY(Value<'a>),
 }
 
-/// The values of a `byte` or a `word`, which are read from the code of their line one by one.
+/// The values of a `byte` or a `word`, read from the code of their line one by one.
 #[derive(Clone, Copy)]
 pub struct ValueList<'a> {
     /// The code from the next value on, if there is one.
     pub rest: Option<&'a [u8]>,
 }
 
-/// What stands on a line beside a label.
+/// A statement of a line, apart from its label.
 #[derive(Clone, Copy)]
 pub enum Statement<'a> {
     /// A mnemonic and its operand
@@ -139,16 +139,16 @@ pub enum Statement<'a> {
     Words(ValueList<'a>),
 }
 
-/// What a line means.
+/// The meaning of a line.
 #[derive(Clone, Copy)]
 pub struct Line<'a> {
-    /// The name in front of its colon, if one stands there.
+    /// The name before its colon, if there is one.
     pub label: Option<&'a [u8]>,
-    /// What stands behind that, if anything does.
+    /// The statement, if there is one.
     pub statement: Option<Statement<'a>>,
 }
 
-// A decimal number, which is byte-sized where it is below 256.
+// Makes a decimal number, which is byte-sized if it is below 256.
 fn decimal_of_value(value: u64) -> Number
     requires { value < 2 ^ 32 }
     ensures { seen_number result ≡ record { value = value; byte_sized = nat_lt value 256 } }
@@ -170,7 +170,7 @@ fn decimal_number(run: &[u8]) -> Option<Number>
     }
 }
 
-// The number of one to four hexadecimal digits, which is byte-sized with one or two.
+// Makes the number of one to four hexadecimal digits, which is byte-sized with one or two.
 #[tactic(auto, using(crate::proofs::NumberLemmas::two, crate::proofs::NumberLemmas::four))]
 fn hex_of_digits(digits: &[u8]) -> Number
     requires few { length digits.now ≤ 4 }
@@ -205,7 +205,7 @@ fn number_of(token: Token<'_>) -> Option<Number>
     }
 }
 
-// Whether a word is this name, in either case.
+// Returns true if the word `run` is `name`, in upper or lower case.
 fn is_named(name: &[u8], run: &[u8]) -> bool
     ensures { result ≡ is_named name.now run.now }
 {
@@ -241,7 +241,7 @@ fn is_label(run: &[u8]) -> bool
     begins_name(run) && !is_register(run)
 }
 
-// A label, and `+` and a number where they stand behind it, with the code behind that.
+// Reads a label, with `+` and a number if they follow it. Returns the code after that too.
 fn label_at<'a>(name: &'a [u8], code: &'a [u8]) -> Option<(Base<'a>, &'a [u8])>
     ensures value { option_map seen_base_and_rest result ≡ label_at name.now (tokens_of code.now) }
     ensures shorter { IfSome result (λ r. length r.1.now ≤ length code.now) }
@@ -256,7 +256,7 @@ fn label_at<'a>(name: &'a [u8], code: &'a [u8]) -> Option<(Base<'a>, &'a [u8])>
     }
 }
 
-// A word as a number, or else as a label with what stands behind it.
+// Reads a word as a number, or if it is none, as a label with what follows it.
 fn word_at<'a>(run: &'a [u8], code: &'a [u8]) -> Option<(Base<'a>, &'a [u8])>
     ensures value { option_map seen_base_and_rest result
         ≡ word_at run.now (tokens_of code.now) (decimal_number run.now) }
@@ -271,7 +271,7 @@ fn word_at<'a>(run: &'a [u8], code: &'a [u8]) -> Option<(Base<'a>, &'a [u8])>
     }
 }
 
-// What a value is taken of, at the front of code, and the code behind it.
+// Reads a value's base at the front of code. Returns the code after it too.
 fn base_at<'a>(code: &'a [u8]) -> Option<(Base<'a>, &'a [u8])>
     ensures value { option_map seen_base_and_rest result ≡ base_at (tokens_of code.now) }
     ensures shorter { IfSome result (λ r. length r.1.now < length code.now) }
@@ -286,7 +286,7 @@ fn base_at<'a>(code: &'a [u8]) -> Option<(Base<'a>, &'a [u8])>
     }
 }
 
-// A value whose portion has been read.
+// Reads a value whose portion has been read.
 fn portion_at<'a>(portion: Portion, code: &'a [u8]) -> Option<(Value<'a>, &'a [u8])>
     ensures value { option_map seen_value_and_rest result
         ≡ portion_of (seen_portion portion) (base_at (tokens_of code.now)) }
@@ -296,7 +296,7 @@ fn portion_at<'a>(portion: Portion, code: &'a [u8]) -> Option<(Value<'a>, &'a [u
     Some((Value { portion, base }, rest))
 }
 
-// A value at the front of code, and the code behind it.
+// Reads a value at the front of code. Returns the code after it too.
 fn value_at<'a>(code: &'a [u8]) -> Option<(Value<'a>, &'a [u8])>
     ensures value { option_map seen_value_and_rest result ≡ value_at (tokens_of code.now) }
     ensures shorter { IfSome result (λ r. length r.1.now < length code.now) }
@@ -308,7 +308,8 @@ fn value_at<'a>(code: &'a [u8]) -> Option<(Value<'a>, &'a [u8])>
     }
 }
 
-// What an operand is, or what stands in front of its value, and the code from the value on.
+// Reads an operand without a value, or the token before its value. Returns the code from the value
+// on too.
 fn opening_of<'a>(code: &'a [u8]) -> (Opening, &'a [u8])
     ensures opening { seen_opening result.0 ≡ opening_of (tokens_of code.now) }
     ensures rest { tokens_of result.1.now ≡ from_value (tokens_of code.now) }
@@ -322,7 +323,7 @@ fn opening_of<'a>(code: &'a [u8]) -> (Opening, &'a [u8])
     }
 }
 
-// What an operand that begins with a word is.
+// Reads an operand that begins with a word.
 fn word_opening(run: &[u8], rest: &[u8]) -> Opening
     ensures { seen_opening result ≡ opening_of (word run.now ∷ tokens_of rest.now) }
 {
@@ -333,7 +334,7 @@ fn word_opening(run: &[u8], rest: &[u8]) -> Opening
     }
 }
 
-// What stands behind the value of an operand, if an operand may have it.
+// Reads the closing of an operand after its value. Returns `None` if it is outside the syntax.
 fn closing_of(code: &[u8]) -> Option<Closing>
     ensures { option_map seen_closing result ≡ closing_of (tokens_of code.now) }
 {
@@ -345,7 +346,7 @@ fn closing_of(code: &[u8]) -> Option<Closing>
     }
 }
 
-// Behind a `,` that stands behind the value.
+// Reads the closing after a `,` that follows the value.
 fn closing_by_comma(code: &[u8]) -> Option<Closing>
     ensures { option_map seen_closing result ≡ closing_of (comma ∷ tokens_of code.now) }
 {
@@ -378,7 +379,7 @@ fn index_of(run: &[u8]) -> Option<Closing>
     }
 }
 
-// Behind a `)` that stands behind the value.
+// Reads the closing after a `)` that follows the value.
 fn closing_by_right(code: &[u8]) -> Option<Closing>
     ensures { option_map seen_closing result ≡ closing_of (right ∷ tokens_of code.now) }
 {
@@ -406,7 +407,7 @@ fn value_and_closing<'a>(code: &'a [u8]) -> Option<(Value<'a>, Closing)>
     Some((value, closing))
 }
 
-// The nine forms of an operand.
+// Reads an operand in one of its nine forms.
 fn operand_of<'a>(code: &'a [u8]) -> Option<Operand<'a>>
     ensures { option_map seen_operand result ≡ operand_of (tokens_of code.now) }
 {
@@ -429,7 +430,8 @@ fn operand_of<'a>(code: &'a [u8]) -> Option<Operand<'a>>
     }
 }
 
-// The first of values that commas part, and the code behind its comma, if one stands there.
+// Reads the first of the values that commas separate. Returns the code after its comma, if there is
+// one.
 #[tactic(auto, using(crate::proofs::ValueLemmas::listed_first, crate::proofs::ValueLemmas::values_first))]
 fn first_value<'a>(code: &'a [u8]) -> Option<(Value<'a>, Option<&'a [u8]>)>
     ensures listed { values_of_list (tokens_of code.now) ≡ seen_first result }
@@ -446,7 +448,7 @@ fn first_value<'a>(code: &'a [u8]) -> Option<(Value<'a>, Option<&'a [u8]>)>
     }
 }
 
-// Whether code is one or more values, parted by commas.
+// Returns true if code is one or more values, separated by commas.
 fn are_values(code: &[u8]) -> bool
     ensures { result ≡ is_some (values_of (tokens_of code.now)) }
 {
@@ -460,7 +462,7 @@ fn are_values(code: &[u8]) -> bool
     true
 }
 
-// The values that code is, if each of them is one.
+// Returns the values of code, if each item is one.
 #[tactic(auto, using(crate::proofs::ValueLemmas::listed_all))]
 fn values_of<'a>(code: &'a [u8]) -> Option<ValueList<'a>>
     ensures { option_map seen_list result ≡ values_of (tokens_of code.now) }
@@ -473,7 +475,7 @@ fn values_of<'a>(code: &'a [u8]) -> Option<ValueList<'a>>
 }
 
 impl<'a> ValueList<'a> {
-    /// The first value, and the others; none where no value is left.
+    /// Returns the first value and the others. Returns `None` if no value is left.
     pub fn next(self) -> Option<(Value<'a>, ValueList<'a>)>
         ensures values { seen_list self.entry ≡ seen_next_value result }
         ensures shorter { IfSome result (λ r. length_left r.1 < length_left self.entry) }
@@ -484,7 +486,7 @@ impl<'a> ValueList<'a> {
     }
 }
 
-// `org N`
+// Reads `org N`.
 fn org_of<'a>(code: &'a [u8]) -> Option<Statement<'a>>
     ensures { option_map seen_statement result ≡ org_of (tokens_of code.now) }
 {
@@ -496,7 +498,7 @@ fn org_of<'a>(code: &'a [u8]) -> Option<Statement<'a>>
     }
 }
 
-// An instruction, if the word is a mnemonic of either part.
+// Reads an instruction, if the word is a mnemonic of either part.
 fn instruction_of<'a>(run: &[u8], code: &'a [u8]) -> Option<Statement<'a>>
     ensures { option_map seen_statement result ≡ instruction_of (tokens_of code.now) (mnemonic_of run.now) }
 {
@@ -505,7 +507,7 @@ fn instruction_of<'a>(run: &[u8], code: &'a [u8]) -> Option<Statement<'a>>
     Some(Statement::Instruction(mnemonic, operand))
 }
 
-// A statement that begins with this word.
+// Reads a statement that begins with the word `run`.
 fn word_statement<'a>(run: &[u8], code: &'a [u8]) -> Option<Statement<'a>>
     ensures { option_map seen_statement result ≡ word_statement run.now (tokens_of code.now) }
 {
@@ -520,7 +522,7 @@ fn word_statement<'a>(run: &[u8], code: &'a [u8]) -> Option<Statement<'a>>
     }
 }
 
-// What stands behind a label, or without one.
+// Reads the statement after a label, or on a line without one.
 fn rest_of<'a>(label: Option<&'a [u8]>, code: &'a [u8]) -> Option<Line<'a>>
     ensures { let name = option_map (λ name. name.now) label.entry in
         option_map seen_line result
@@ -539,7 +541,7 @@ fn rest_of<'a>(label: Option<&'a [u8]>, code: &'a [u8]) -> Option<Line<'a>>
     }
 }
 
-// The word in front of a colon at the front of code, and the code behind it.
+// Reads the word before a colon at the front of code. Returns the code after the colon too.
 fn label_in_front<'a>(code: &'a [u8]) -> Option<(&'a [u8], &'a [u8])>
     ensures { option_map seen_label_and_rest result ≡ label_in_front (tokens_of code.now) }
 {
@@ -552,7 +554,7 @@ fn label_in_front<'a>(code: &'a [u8]) -> Option<(&'a [u8], &'a [u8])>
     }
 }
 
-// The line that code means, or none where it is outside the syntax.
+// Returns the line that code means. Returns `None` if code is outside the syntax.
 #[tactic(auto, using(crate::proofs::ValueLemmas::line_of_front))]
 fn line_of<'a>(code: &'a [u8]) -> Option<Line<'a>>
     ensures { option_map seen_line result ≡ line_of (tokens_of code.now) }
@@ -569,7 +571,8 @@ fn line_of<'a>(code: &'a [u8]) -> Option<Line<'a>>
     }
 }
 
-/// The first line of a text that has a byte, or none where it is outside the syntax, and the text behind it.
+/// Returns the first line of a text that has a byte, or `None` if the line is outside the syntax,
+/// and the text after it.
 pub fn next_line<'a>(text: &'a [u8]) -> (Option<Line<'a>>, &'a [u8])
     requires { 0 < length text.now }
     ensures lines { parsed_text text.now ≡ option_map seen_line result.0 ∷ parsed_text result.1.now }

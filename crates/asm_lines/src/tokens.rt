@@ -9,7 +9,7 @@ ghost use Rattle.asm_lines.specs.Code.{seen_token, seen_next};
 pub(crate) enum Token<'a> {
     /// A run of letters, digits and `_`.
     Word(&'a [u8]),
-    /// `&` and the run that touches it, which may be empty.
+    /// `&` and the run directly after it, which may be empty.
     Hex(&'a [u8]),
     Colon,
     Comma,
@@ -19,11 +19,11 @@ pub(crate) enum Token<'a> {
     Low,
     High,
     Plus,
-    /// A byte of no token.
+    /// A byte of any other kind.
     Other,
 }
 
-// How many bytes stand before the comment or the line feed, or all where there is neither.
+// Returns the number of bytes before the comment or the line feed, or of all without either.
 fn code_length(line: &[u8]) -> usize
     ensures value { result ≡ prefix_len is_code line.now }
     ensures within { result ≤ length line.now }
@@ -33,7 +33,7 @@ fn code_length(line: &[u8]) -> usize
         .count()
 }
 
-/// A line up to its comment or its line feed.
+/// Returns a line up to its comment or its line feed.
 pub(crate) fn code_of(line: &[u8]) -> &[u8]
     ensures { result.now ≡ code_of line.now }
 {
@@ -52,7 +52,7 @@ fn is_blank(b: u8) -> bool
     b == b' ' || b == b'\t'
 }
 
-// The token of a byte that stands for itself.
+// Returns the token of a single byte.
 fn mark<'a>(b: u8) -> Token<'a>
     ensures { seen_token result ≡ mark b }
 {
@@ -76,7 +76,7 @@ fn run_length(code: &[u8]) -> usize
     code.iter().take_while(|b| is_word_byte(**b)).count()
 }
 
-// The run at the front of code, which may be empty, and the code behind it.
+// Returns the run at the front of code, which may be empty, and the code after it.
 fn run_and_rest(code: &[u8]) -> (&[u8], &[u8])
     ensures run { (cut_of code.now).run ≡ result.0.now }
     ensures rest { (cut_of code.now).tokens ≡ tokens_of result.1.now }
@@ -86,7 +86,7 @@ fn run_and_rest(code: &[u8]) -> (&[u8], &[u8])
     (&code[..end], &code[end..])
 }
 
-// The token at the front of code that begins with this byte, and the code behind it.
+// Returns the token at the front of code, which begins with `first`, and the code after it.
 fn token_at<'a>(first: u8, behind: &'a [u8], code: &'a [u8]) -> (Token<'a>, &'a [u8])
     requires front { code.now ≡ first ∷ behind.now }
     requires not_blank { is_blank first ≡ false }
@@ -104,7 +104,7 @@ fn token_at<'a>(first: u8, behind: &'a [u8], code: &'a [u8]) -> (Token<'a>, &'a 
     }
 }
 
-/// The first token of code, and the code behind it; none where no token is left.
+/// Returns the first token of code, and the code after it. Returns `None` if no token is left.
 pub(crate) fn next_token<'a>(code: &'a [u8]) -> Option<(Token<'a>, &'a [u8])>
     ensures tokens { tokens_of code.now ≡ seen_next result }
     ensures shorter { IfSome result (λ r. length r.1.now < length code.now) }

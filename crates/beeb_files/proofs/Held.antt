@@ -15,19 +15,19 @@ pub bytes_of-none : (es : List Entry) (name : List ℕ) → length es ≡ 0 → 
 bytes_of-none [] name none = get-empty (slice_cmp nat_cmp) name
 bytes_of-none (e ∷ es) name none = absurd (omega arith)
 
--- the first entry of the name tells
+-- The first entry of a name gives its bytes.
 bytes_of-cons : (e : Entry) (es : List Entry) (name : List ℕ) →
     bytes_of (files_of (e ∷ es)) name ≡ cond (bytes_eq name (string_bytes e.0)) (Some e.1.items) (bytes_of (files_of es) name)
 bytes_of-cons e es name =
     get-insert nat_list_cmp_total (files_of es) (string_bytes e.0) e.1.items name
     ∙ ap (λ b. cond b (Some e.1.items) (bytes_of (files_of es) name)) (is_eq-slice_cmp name (string_bytes e.0))
 
--- an entry in front that has the name tells its own bytes
+-- A first entry with the name gives its own bytes.
 pub bytes_of-first : (es : List Entry) (e : Entry) (later : List Entry) (name : List ℕ) → es ≡ e ∷ later →
     bytes_eq name (string_bytes e.0) ≡ true → bytes_of (files_of es) name ≡ Some e.1.items
 bytes_of-first es e later name split same = rw split (rw (bytes_of-cons e later name, same))
 
--- an entry in front that has another name leaves it to the later ones
+-- a first entry with another name leaves the bytes to the later ones
 pub bytes_of-later : (es : List Entry) (e : Entry) (later : List Entry) (name : List ℕ) → es ≡ e ∷ later →
     bytes_eq name (string_bytes e.0) ≡ false → bytes_of (files_of es) name ≡ bytes_of (files_of later) name
 bytes_of-later es e later name split other = rw split (rw (bytes_of-cons e later name, other))

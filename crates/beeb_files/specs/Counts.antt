@@ -5,11 +5,11 @@ use Rattle.std.specs.Prelude.{ℕ, ◌+◌, ◌-◌, ◌^◌, ◌<◌, ◌≤◌
 abbrev pub one_more : ℕ → ℕ
 one_more before = min (before + 1) (2 ^ 64 - 1)
 
--- the count rose, or it stood at its last value before
+-- the count rose, or it was at its last value before
 abbrev pub Rose : ℕ → ℕ → Type 0
 Rose before now = min (before + 1) (2 ^ 64 - 1) ≤ now
 
--- it did not rise in this sense
+-- the count did not rise in this sense
 abbrev pub Stayed : ℕ → ℕ → Type 0
 Stayed before now = now < min (before + 1) (2 ^ 64 - 1)
 

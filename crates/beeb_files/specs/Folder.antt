@@ -1,14 +1,15 @@
--- The shelf and the outlet over the working folder are seen as their one count of faults: no contract
--- can say what a file gives or takes.
+-- Contracts see the shelf and the outlet over the working folder as one count of faults: no
+-- contract can state the contents of a file there.
 use Rattle.std.specs.Prelude.{ℕ, None}
 use Rattle.beeb_files.specs.Shelf.{ShelfState}
 use Rattle.beeb_files.specs.Outlet.{OutletState}
 
--- it tells no files, and one counter serves every name
+-- A folder's shelf shows no files, and one counter serves every name.
 abbrev pub dir_shelf_state : ℕ → ShelfState
 dir_shelf_state faults = record { files = None; faults = λ _. faults }
 
--- it tells no files and no bytes said, and one counter serves every name and what is said
+-- A folder's outlet shows no files and no bytes said, and one counter serves every name and the
+-- bytes said.
 abbrev pub dir_outlet_state : ℕ → OutletState
 dir_outlet_state faults = record {
   files = None;

@@ -1,5 +1,5 @@
--- The shelf and the outlet in memory: what contracts see of them, which of their calls fail, and what
--- a call leaves.
+-- The shelf and the outlet in memory: their states in contracts, the calls that fail, and the
+-- states after a call.
 use Rattle.std.specs.Prelude.{ℕ, ◌-◌, ◌^◌, ◌==◌, ◌||◌, ◌≢◌, Bool, List, ◌++◌, map, Some, is_none, string_bytes, if◌then◌else◌, AllPairs, refl}
 use Rattle.std.specs.List.{list_any}
 use Rattle.std.specs.FinMap as files
@@ -12,30 +12,30 @@ use Rattle.beeb_files.specs.Counts.{one_more}
 use Rattle.beeb_files.specs.Shelf.{ShelfState}
 use Rattle.beeb_files.specs.Outlet.{OutletState}
 
--- a name and its bytes, as the program holds them
+-- a name and its bytes in the program
 abbrev pub Entry : Type 0
 Entry = String Global × Vec ℕ Global
 
--- the same as lists of bytes
+-- a name and its bytes as lists of bytes
 abbrev pub entry_bytes : Entry → List ℕ × List ℕ
 entry_bytes e = (string_bytes e.0, e.1.items)
 
--- the files of a list, where the first entry of a name tells
+-- the files of a list; the first entry of a name counts
 abbrev pub files_of : List Entry → Files
 files_of es = files.from_entries (map entry_bytes es)
 
--- no name stands twice
+-- all names differ
 abbrev pub NamesDiffer : List Entry → Type 0
 NamesDiffer es = AllPairs (λ a b. string_bytes a.0 ≢ string_bytes b.0) es
 
--- the files, the numbers of the calls that are to fail, and the counts of calls and of failed calls
+-- the files, the numbers of the calls that must fail, and the counts of calls and of failed calls
 pub record MemShelfState : Type 0 where
   pub files : Files
   pub failing : List ℕ
   pub calls : ℕ
   pub faults : ℕ
 
--- the same of an outlet, with all bytes said
+-- the state of an outlet: that of a shelf, and all bytes said
 pub record MemOutletState : Type 0 where
   pub files : Files
   pub said : List ℕ
@@ -66,7 +66,7 @@ mem_outlet_code =
 abbrev pub mem_shelf_state : MemShelfState → ShelfState
 mem_shelf_state s = record { files = Some s.files; faults = λ _. s.faults }
 
--- one counter serves every name and what is said
+-- one counter serves every name and the bytes said
 abbrev pub mem_outlet_state : MemOutletState → OutletState
 mem_outlet_state o = record {
   files = Some o.files;
@@ -75,11 +75,11 @@ mem_outlet_state o = record {
   say_faults = o.faults;
 }
 
--- the call of this number fails: it is listed, or the count of faults stands at its last value
+-- the call of this number fails: it is listed, or the count of faults is at its last value
 abbrev pub fails_at : List ℕ → ℕ → ℕ → Bool
 fails_at failing call faults = (faults == 2 ^ 64 - 1) || list_any (λ n. n == call) failing
 
--- the next `get` of this name fails
+-- the next `get` of the name fails
 abbrev pub get_fails : MemShelfState → List ℕ → Bool
 get_fails s name = fails_at s.failing s.calls s.faults || is_none (bytes_of s.files name)
 
@@ -87,7 +87,7 @@ get_fails s name = fails_at s.failing s.calls s.faults || is_none (bytes_of s.fi
 abbrev pub write_fails : MemOutletState → Bool
 write_fails o = fails_at o.failing o.calls o.faults
 
--- the shelf after a `get` of this name
+-- the shelf after a `get` of the name
 abbrev pub after_get : List ℕ → MemShelfState → MemShelfState
 after_get name s = record s {
   calls = one_more s.calls;
@@ -101,10 +101,10 @@ after_write o = record o {
   faults = (if write_fails o then one_more o.faults else o.faults);
 }
 
--- the outlet where the name holds these bytes
+-- the outlet with the bytes in the file of the name
 abbrev pub with_file : List ℕ → List ℕ → MemOutletState → MemOutletState
 with_file name bytes o = record o { files = files.insert o.files name bytes }
 
--- the outlet after these bytes were said too
+-- the outlet after the bytes were said
 abbrev pub with_said : List ℕ → MemOutletState → MemOutletState
 with_said bytes o = record o { said = o.said ++ bytes }

@@ -1,4 +1,4 @@
-//! What works two jobs.
+//! A crew, which works two jobs at a time.
 ghost use Rattle.std.specs.Prelude.{◌≡◌, Bool, true, false, not, IsNone, IfSome, IfNone};
 ghost use Rattle.beeb_files.specs.Counts.{Rose};
 ghost use Rattle.beeb_files.specs.Crew.{Counts, Grows};
@@ -10,29 +10,32 @@ use std::sync::atomic::{AtomicBool, Ordering};
 use std::thread;
 use std::thread::{Promise, Threads};
 
-/// Shows that a hook is called by `Crew::pair`: nothing else makes one, so nothing else counts.
+/// Shows that `Crew::pair` calls a hook: nothing else makes a `Pairing`, so nothing else counts.
 #[derive(Drop)]
 pub struct Pairing {
     _made_here: (),
 }
 
-/// What works pairs of jobs, and counts the pairs and the faults. No count falls, and each stays at its last value, 2^64 - 1.
+/// A crew, which works pairs of jobs, and counts the pairs and the faults. No count falls, and each
+/// stays at its last value, 2^64 - 1.
 ///
-/// A crew is its counts and its hooks; `pair`, which starts the thread, is the same for every crew.
+/// A crew consists of its counts and its hooks. `pair`, which starts the thread, is the same for
+/// every crew.
 pub trait Crew {
-    /// The faults and the pairs worked so far.
+    /// The counts of faults and of pairs worked.
     ghost counts: { Self → Counts };
 
     /// The crew refuses every pair before a thread is tried.
     ghost refuses: { Self → Bool };
 
-    /// Whether a thread is to be started for this pair. At `false` the pair is refused.
+    /// Returns true if a thread must be started for this pair. At `false` the pair is refused.
     fn starts(&mut self, call: &Pairing) -> bool
         ensures asked { result ≡ not (refuses self.old) }
         ensures refused { result ≡ false → Rose (counts self.old).faults (counts self.new).faults }
         ensures grows { Grows (counts self.old) (counts self.new) };
 
-    /// Comes once the first job was given to its thread, before the second is worked. `ended` is set when the first has ended.
+    /// Is called after a thread has taken the first job, and before the second job is worked.
+    /// `ended` becomes true when the first has ended.
     fn between(&self, _call: &Pairing, _ended: &AtomicBool) {}
 
     /// Counts a thread that could not be started.
@@ -45,8 +48,9 @@ pub trait Crew {
         ensures rose { Rose (counts self.old).pairs (counts self.new).pairs }
         ensures grows { Grows (counts self.old) (counts self.new) };
 
-    /// Works the first job in a thread of its own and the second in the caller's, and gives what both leave once both have ended. At `None`
-    /// both jobs were dropped unworked, and a fault was counted. Takes no memory of the caller's.
+    /// Works the first job in a thread of its own and the second in the caller's. Returns both
+    /// results after both jobs have ended. Returns `None` if the pair was refused: both jobs were
+    /// dropped unworked, and a fault was counted. Takes no memory from the caller.
     final fn pair<A: Job + Send, B: Job + Send, R: Threads + Wait + Sync>(
         &mut self,
         rt: &R,
@@ -79,7 +83,7 @@ pub trait Crew {
     }
 }
 
-// That what a thread leaves is what its job promises.
+// The result of a thread fulfils the promise of its job.
 #[derive(Drop)]
 struct WorkOf<A: Job>(Snapshot<A>);
 
@@ -87,7 +91,7 @@ impl<A: Job> Promise<A::Done> for WorkOf<A> {
     ghost kept_by = { λ p r. A.gives p.0.value r };
 }
 
-// Both jobs worked, each in its thread, or neither where no thread can be started.
+// Works both jobs, each in its thread. Works neither if no thread can be started.
 fn work_both<C: Crew, A: Job + Send, B: Job + Send, R: Threads + Wait + Sync>(
     rt: &R,
     crew: &C,
@@ -126,7 +130,7 @@ fn work_both<C: Crew, A: Job + Send, B: Job + Send, R: Threads + Wait + Sync>(
     )
 }
 
-// Works the job, and sets the flag when it has ended.
+// Works the job, and sets the flag after it has ended.
 fn work_and_tell<A: Job, R: Wait>(rt: &R, a: A, ended: &AtomicBool) -> A::Done
     requires { A.may_work a }
     ensures { A.gives a result }

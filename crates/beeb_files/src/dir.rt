@@ -33,7 +33,7 @@ impl<'a, R: Files> Model for DirShelf<'a, R> {
 }
 
 impl<'a, R: Files> DirShelf<'a, R> {
-    /// A shelf that has counted no fault.
+    /// Makes a shelf that has counted no fault.
     pub fn make(rt: &'a R) -> DirShelf<'a, R>
         ensures { result ≡ 0 }
     {
@@ -41,9 +41,9 @@ impl<'a, R: Files> DirShelf<'a, R> {
     }
 }
 
-// The file's bytes, at most `cap` and one more. Room for all of them is taken before the first read,
-// with one byte to spare for the read that finds the end, so that the bytes are never moved. Where
-// the system tells a wrong length, that costs room or time alone.
+// Reads a file up to its end, but at most `cap` + 1 bytes. Room for all of them is taken before the
+// first read, so that the bytes are never moved. One further byte is for the read that finds the
+// end. A wrong length from the system costs only room or time.
 fn read_up_to<R: Files>(rt: &R, alloc: Global, name: &str, cap: u64) -> io::Result<Vec<u8>> {
     let file = fs::open(rt, name)?;
     let expected = file.metadata()?.len().min(cap);
@@ -56,7 +56,8 @@ fn read_up_to<R: Files>(rt: &R, alloc: Global, name: &str, cap: u64) -> io::Resu
 impl<'a, R: Files> Shelf for DirShelf<'a, R> {
     ghost shelf = { dir_shelf_state };
 
-    /// Fails, and counts, where the file is not there or the system refuses to read it.
+    /// Returns `Failed`, and counts a fault, if the file does not exist or the system refuses to
+    /// read it.
     fn get(&mut self, alloc: Global, name: &str, cap: u64) -> Result<Vec<u8>, ShelfError>
         ensures files { (dir_shelf_state self.new).files ≡ (dir_shelf_state self.old).files }
         ensures counts { NoneFell (dir_shelf_state self.old).faults (dir_shelf_state self.new).faults }
@@ -66,7 +67,7 @@ impl<'a, R: Files> Shelf for DirShelf<'a, R> {
             IsGetCause (dir_shelf_state self.old) (dir_shelf_state self.new) name.now cap e) }
         ensures too_long { SaysTooLong (dir_shelf_state self.old) (dir_shelf_state self.new)
             name.now cap result }
-        // It counts exactly where it fails.
+        // A fault is counted if and only if the result is `Failed`.
         ensures counted { IsErrOf result ShelfError.Failed → self.new ≡ one_more self.old }
         ensures not_counted { result ≢ Err ShelfError.Failed → self.new ≡ self.old }
     {
@@ -90,8 +91,8 @@ impl<'a, R: Files> Shelf for DirShelf<'a, R> {
     }
 }
 
-/// The working folder's files, and standard output for what is said. Contracts see the count of
-/// faults alone, which stops at 2^64 - 1.
+/// The files of the working folder, and standard output for texts. Contracts see only the count of
+/// faults, which stops at 2^64 - 1.
 #[derive(Drop)]
 pub struct DirOutlet<'a, R: Files + Print> {
     rt: &'a R,
@@ -107,14 +108,14 @@ impl<'a, R: Files + Print> Model for DirOutlet<'a, R> {
 }
 
 impl<'a, R: Files + Print> DirOutlet<'a, R> {
-    /// An outlet that has counted no fault.
+    /// Makes an outlet that has counted no fault.
     pub fn make(rt: &'a R) -> DirOutlet<'a, R>
         ensures { result ≡ 0 }
     {
         DirOutlet { rt, faults: 0 }
     }
 
-    // The answer after an attempt, which counts where it failed.
+    // Returns the result of an attempt, and counts a failure.
     fn answer(&mut self, done: io::Result<()>) -> Result<(), PutError>
         ensures same { IsOk result ↔ IsOk done }
         ensures ok { OnOk result (self.new ≡ self.old) }
@@ -136,8 +137,8 @@ impl<'a, R: Files + Print> DirOutlet<'a, R> {
 impl<'a, R: Files + Print> Outlet for DirOutlet<'a, R> {
     ghost outlet = { dir_outlet_state };
 
-    /// Fails, and counts, where the system refuses to write the whole file. A plain file that stands
-    /// there is replaced by the whole new one, or stays.
+    /// Returns `Failed`, and counts a fault, if the system refuses to write the whole file. An
+    /// existing plain file is replaced by the whole new one, or stays.
     fn put(&mut self, name: &str, bytes: &[u8]) -> Result<(), PutError>
         ensures ok { OnOk result
             ((dir_outlet_state self.new).files ≡ put name.now bytes.now (dir_outlet_state self.old).files) }
@@ -147,7 +148,7 @@ impl<'a, R: Files + Print> Outlet for DirOutlet<'a, R> {
         ensures counts { NoCountFell (dir_outlet_state self.old) (dir_outlet_state self.new) }
         ensures cause { IsErrOf result PutError.Failed →
             Rose ((dir_outlet_state self.old).faults name.now) ((dir_outlet_state self.new).faults name.now) }
-        // It counts exactly where it refuses.
+        // A fault is counted if and only if the result is `Failed`.
         ensures not_counted { OnOk result (self.new ≡ self.old) }
         ensures counted { OnErr result (self.new ≡ one_more self.old) }
         ensures refusal { IsOkUnless result PutError.Failed }
@@ -156,8 +157,8 @@ impl<'a, R: Files + Print> Outlet for DirOutlet<'a, R> {
         self.answer(done)
     }
 
-    /// Fails, and counts, where standard output does not take all bytes. The bytes have left the
-    /// program when the call returns.
+    /// Returns `Failed`, and counts a fault, if standard output does not take all bytes. The bytes
+    /// have left the program when the call returns.
     fn say(&mut self, bytes: &[u8]) -> Result<(), PutError>
         ensures ok { OnOk result
             ((dir_outlet_state self.new).said ≡ say bytes.now (dir_outlet_state self.old).said) }
@@ -167,7 +168,7 @@ impl<'a, R: Files + Print> Outlet for DirOutlet<'a, R> {
         ensures counts { NoCountFell (dir_outlet_state self.old) (dir_outlet_state self.new) }
         ensures cause { IsErrOf result PutError.Failed →
             Rose (dir_outlet_state self.old).say_faults (dir_outlet_state self.new).say_faults }
-        // It counts exactly where it refuses.
+        // A fault is counted if and only if the result is `Failed`.
         ensures not_counted { OnOk result (self.new ≡ self.old) }
         ensures counted { OnErr result (self.new ≡ one_more self.old) }
         ensures refusal { IsOkUnless result PutError.Failed }

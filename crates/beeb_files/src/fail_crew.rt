@@ -22,7 +22,7 @@ impl Model for FailCrew {
 }
 
 impl FailCrew {
-    /// A crew that has counted nothing.
+    /// Makes a crew that has counted nothing.
     pub fn make() -> FailCrew
         ensures { result ≡ no_counts }
     {
@@ -31,14 +31,14 @@ impl FailCrew {
         }
     }
 
-    /// The pairs that were refused.
+    /// Returns the number of pairs that were refused.
     pub fn faults(&self) -> u64
         ensures { result ≡ self.now.faults }
     {
         self.tally.faults()
     }
 
-    /// The pairs that were worked: none.
+    /// Returns the number of pairs that were worked, which is 0.
     pub fn pairs(&self) -> u64
         ensures { result ≡ self.now.pairs }
     {

@@ -13,13 +13,13 @@ use std::alloc::{AllocError, Global};
 use std::collections::VecDeque;
 use std::marker::Model;
 
-/// Files and bytes said, in memory. Contracts see them, the numbers of the calls that are to fail,
-/// how many calls there were, and how many of them failed. `put` and `say` share one count of calls
-/// and one of faults, and both counts stop at 2^64 - 1.
+/// Files and bytes said, in memory. Contracts see them, the numbers of the calls that must fail,
+/// the count of calls and the count of failed calls. `put` and `say` share both counts, which stop
+/// at 2^64 - 1.
 #[derive(Drop)]
 pub struct MemOutlet {
     alloc: Global,
-    // What was put, the newest first.
+    // The files that were put, the newest first.
     files: VecDeque<(String, Vec<u8>)>,
     said: Vec<u8>,
     fail: Vec<u32>,
@@ -44,8 +44,8 @@ impl Model for MemOutlet {
 }
 
 impl MemOutlet {
-    /// An outlet that holds nothing and has said nothing, and whose calls of these numbers fail,
-    /// where the first call has the number 0.
+    /// Makes an outlet that holds nothing and has said nothing. The calls with the numbers in
+    /// `fail` fail; the first call has the number 0.
     pub fn make(alloc: Global, fail: Vec<u32>) -> MemOutlet
         ensures { result ≡ record {
           files = files.empty;
@@ -65,14 +65,14 @@ impl MemOutlet {
         }
     }
 
-    /// All bytes said.
+    /// Returns all bytes said.
     pub fn said(&self) -> &[u8]
         ensures { result.now ≡ self.now.said }
     {
         &self.said
     }
 
-    /// The bytes of the file of this name, if it was put.
+    /// Returns the bytes of the file of this name, if it was put.
     pub fn file(&self, name: &str) -> Option<&[u8]>
         ensures { option_copied result ≡ bytes_of self.now.files name.now }
     {
@@ -84,7 +84,7 @@ impl MemOutlet {
         None
     }
 
-    // Counts a call, and whether it is to fail.
+    // Counts a call. Returns true if it must fail.
     fn refuses(&mut self) -> bool
         ensures fails { result ≡ write_fails self.old }
         ensures grows { self.old.faults ≤ self.new.faults }
@@ -99,7 +99,7 @@ impl MemOutlet {
     }
 }
 
-// Adds an entry in front.
+// Adds an entry at the front.
 fn add(
     alloc: Global,
     log: &mut VecDeque<(String, Vec<u8>)>,
@@ -118,7 +118,7 @@ fn add(
 impl Outlet for MemOutlet {
     ghost outlet = { mem_outlet_state };
 
-    /// Fails where the call's number is listed, or the count of faults stands at its last value.
+    /// Returns `Failed` if the call's number is listed or the count of faults is at its last value.
     fn put(&mut self, name: &str, bytes: &[u8]) -> Result<(), PutError>
         ensures ok { OnOk result
             ((mem_outlet_state self.new).files ≡ put name.now bytes.now (mem_outlet_state self.old).files) }
@@ -128,7 +128,7 @@ impl Outlet for MemOutlet {
         ensures counts { NoCountFell (mem_outlet_state self.old) (mem_outlet_state self.new) }
         ensures cause { IsErrOf result PutError.Failed →
             Rose ((mem_outlet_state self.old).faults name.now) ((mem_outlet_state self.new).faults name.now) }
-        // Exactly when it fails, and all that it leaves.
+        // The condition of `Failed`, and the whole state afterwards.
         ensures failed { IsErrOf result PutError.Failed ↔ IsTrue (write_fails self.old) }
         ensures state_ok { OnOk result (self.new ≡ with_file name.now bytes.now (after_write self.old)) }
         ensures state_err { OnErr result (self.new ≡ after_write self.old) }
@@ -142,7 +142,7 @@ impl Outlet for MemOutlet {
         }
     }
 
-    /// Fails where the call's number is listed, or the count of faults stands at its last value.
+    /// Returns `Failed` if the call's number is listed or the count of faults is at its last value.
     fn say(&mut self, bytes: &[u8]) -> Result<(), PutError>
         ensures ok { OnOk result
             ((mem_outlet_state self.new).said ≡ say bytes.now (mem_outlet_state self.old).said) }
@@ -152,7 +152,7 @@ impl Outlet for MemOutlet {
         ensures counts { NoCountFell (mem_outlet_state self.old) (mem_outlet_state self.new) }
         ensures cause { IsErrOf result PutError.Failed →
             Rose (mem_outlet_state self.old).say_faults (mem_outlet_state self.new).say_faults }
-        // Exactly when it fails, and all that it leaves.
+        // The condition of `Failed`, and the whole state afterwards.
         ensures failed { IsErrOf result PutError.Failed ↔ IsTrue (write_fails self.old) }
         ensures state_ok { OnOk result (self.new ≡ with_said bytes.now (after_write self.old)) }
         ensures state_err { OnErr result (self.new ≡ after_write self.old) }

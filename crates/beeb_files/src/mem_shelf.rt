@@ -11,8 +11,8 @@ use crate::shelf::{Shelf, ShelfError};
 use std::alloc::Global;
 use std::marker::Model;
 
-/// Files in memory. Contracts see the files, the numbers of the calls that are to fail, how many
-/// calls there were, and how many of them failed. Both counts stop at 2^64 - 1.
+/// Files in memory. Contracts see the files, the numbers of the calls that must fail, the count of
+/// calls and the count of failed calls. Both counts stop at 2^64 - 1.
 #[derive(Drop)]
 pub struct MemShelf {
     files: Vec<(String, Vec<u8>)>,
@@ -37,7 +37,7 @@ impl Model for MemShelf {
 }
 
 impl MemShelf {
-    /// A shelf that holds these files, and whose calls of these numbers fail, where the first call
+    /// Makes a shelf that holds `files`. The calls with the numbers in `fail` fail; the first call
     /// has the number 0.
     pub fn make(files: Vec<(String, Vec<u8>)>, fail: Vec<u32>) -> MemShelf
         requires { NamesDiffer files.items }
@@ -57,7 +57,8 @@ impl MemShelf {
     }
 }
 
-// The call of this number is to fail: it is listed, or the count of faults stands at its last value.
+// Returns true if the call of this number must fail: it is listed, or the count of faults is at its
+// last value.
 pub(crate) fn is_to_fail(fail: &[u32], call: u64, faults: u64) -> bool
     ensures { result ≡ fails_at fail.now call faults }
 {
@@ -70,7 +71,7 @@ fn is_listed(fail: &[u32], call: u64) -> bool
     fail.iter().any(|n| u64::from(*n) == call)
 }
 
-// The bytes of the first entry of this name.
+// Returns the bytes of the first entry of this name.
 fn find<'a>(files: &'a [(String, Vec<u8>)], name: &str) -> Option<&'a [u8]>
     ensures { option_copied result ≡ bytes_of (files_of files.now) name.now }
 {
@@ -85,8 +86,8 @@ fn find<'a>(files: &'a [(String, Vec<u8>)], name: &str) -> Option<&'a [u8]>
 impl Shelf for MemShelf {
     ghost shelf = { mem_shelf_state };
 
-    /// Fails where the call's number is listed, the name is not held, or the count of faults stands
-    /// at its last value.
+    /// Returns `Failed` if the call's number is listed, the name is not held, or the count of
+    /// faults is at its last value.
     fn get(&mut self, alloc: Global, name: &str, cap: u64) -> Result<Vec<u8>, ShelfError>
         ensures files { (mem_shelf_state self.new).files ≡ (mem_shelf_state self.old).files }
         ensures counts { NoneFell (mem_shelf_state self.old).faults (mem_shelf_state self.new).faults }
@@ -96,7 +97,7 @@ impl Shelf for MemShelf {
             IsGetCause (mem_shelf_state self.old) (mem_shelf_state self.new) name.now cap e) }
         ensures too_long { SaysTooLong (mem_shelf_state self.old) (mem_shelf_state self.new)
             name.now cap result }
-        // Exactly when it fails, and all that it leaves.
+        // The condition of `Failed`, and the whole state afterwards.
         ensures failed { IsErrOf result ShelfError.Failed ↔ IsTrue (get_fails self.old name.now) }
         ensures state { self.new ≡ after_get name.now self.old }
     {

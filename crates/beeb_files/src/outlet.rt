@@ -1,4 +1,4 @@
-//! Where files are written and texts are said.
+//! The trait that writes files and says texts.
 ghost use Rattle.std.specs.Prelude.{◌≡◌, OnOk, OnErr, IsErrOf};
 ghost use Rattle.beeb_files.specs.Counts.{Rose};
 ghost use Rattle.beeb_files.specs.Files.{put, say, IsPartPut, IsPartSaid};
@@ -6,10 +6,10 @@ ghost use Rattle.beeb_files.specs.Outlet.{OutletState, NoCountFell};
 
 use thiserror::Error;
 
-/// Why bytes were not written, or only a part of them.
+/// The cause of bytes that were not written, or only in part.
 #[derive(Clone, Copy, Debug, PartialEq, Eq, Error)]
 pub enum PutError {
-    /// Writing failed. The outlet counted a fault of the name, or of what is said.
+    /// Writing failed. The outlet counted a fault of the name, or of `say`.
     #[error("cannot write")]
     Failed,
     /// There was no memory for the bytes.
@@ -17,13 +17,13 @@ pub enum PutError {
     NoMemory,
 }
 
-/// What takes files by name, and bytes that are said one after another.
+/// An outlet, which takes files by name, and bytes that are said one after another.
 pub trait Outlet {
-    /// The files and the bytes said, where the outlet tells them, and the counts of faults.
+    /// The files and the bytes said, if the outlet shows them, and the counts of faults.
     ghost outlet: { Self → OutletState };
 
-    /// Puts these bytes under the name, in place of what it held. After a refusal the name holds
-    /// what it held, or a first part of the bytes.
+    /// Puts the bytes under the name, in place of its old bytes. After an error the name holds its
+    /// old bytes or a prefix of the new ones.
     fn put(&mut self, name: &str, bytes: &[u8]) -> Result<(), PutError>
         ensures ok { OnOk result
             ((outlet self.new).files ≡ put name.now bytes.now (outlet self.old).files) }
@@ -34,7 +34,7 @@ pub trait Outlet {
         ensures cause { IsErrOf result PutError.Failed →
             Rose ((outlet self.old).faults name.now) ((outlet self.new).faults name.now) };
 
-    /// Says these bytes after those said before. After a refusal a first part of them may be said.
+    /// Says the bytes after those said before. After an error a prefix of them may have been said.
     fn say(&mut self, bytes: &[u8]) -> Result<(), PutError>
         ensures ok { OnOk result
             ((outlet self.new).said ≡ say bytes.now (outlet self.old).said) }

@@ -7,16 +7,18 @@ use std::os::unix::fs::MetadataExt;
 use std::rt::Files;
 use std::{fs, io};
 
-/// The longest name that is asked for, in bytes.
+/// The length of the longest name of a file beside another, in bytes.
 const LONGEST: usize = 4_096;
 
-/// What is added to a name for the file beside it, before a digit.
+/// The text added to a name for the file beside it, before a digit.
 const ADDED: &[u8] = b".new";
 
-/// How many names beside one are tried. A run that was ended in the midst of writing leaves its file there.
+/// The number of names beside one that are tried. A run that ends while it writes leaves its file
+/// there.
 const TRIES: u8 = 10;
 
-// The name with what is added to it, in this room; none where it is too long.
+// Returns the name with the addition and the digit `n`, in `room`. Returns `None` if it is too
+// long.
 fn name_beside<'a>(name: &str, n: u8, room: &'a mut [u8; LONGEST]) -> Option<&'a str>
     requires { n < 10 }
 {
@@ -30,7 +32,8 @@ fn name_beside<'a>(name: &str, n: u8, room: &'a mut [u8; LONGEST]) -> Option<&'a
     str::from_utf8(&room[..len + 5]).ok()
 }
 
-// Whether what stands under the name can be replaced: nothing, or a plain file that has this one name and may be written.
+// Returns true if the name can be replaced: it does not exist, or is a plain file with one name
+// that may be written.
 fn may_be_replaced<R: Files>(rt: &R, name: &str, there: &io::Result<Metadata>) -> bool {
     match there {
         Ok(there) => there.is_file()
@@ -40,7 +43,8 @@ fn may_be_replaced<R: Files>(rt: &R, name: &str, there: &io::Result<Metadata>) -
     }
 }
 
-// Makes a new file that belongs to whom the one belongs that it is to replace, with the same permissions; or none.
+// Makes a new file with the owner and the permissions of the file to replace. Returns `None` if it
+// cannot.
 fn make_beside<R: Files>(rt: &R, name: &str, there: Option<&Metadata>) -> Option<R::File> {
     let file = OpenOptions::new()
         .write(true)
@@ -67,7 +71,7 @@ fn is_owned_alike<F: OpenFile>(file: &F, there: &Metadata) -> bool {
     }
 }
 
-// Gives the file beside the name. `written` is what the write to it gave.
+// Renames the file beside to the name. `written` is the result of writing it.
 fn rename_written<R: Files>(
     rt: &R,
     written: &io::Result<()>,
@@ -80,7 +84,7 @@ fn rename_written<R: Files>(
     fs::rename(rt, beside, name)
 }
 
-// Gives the file beside the name if the write to it gave Ok. A fault of the write is the answer.
+// Renames the file beside to the name if it was written. Otherwise returns the error of writing.
 fn rename_if_written<R: Files>(
     rt: &R,
     written: io::Result<()>,
@@ -96,8 +100,8 @@ fn rename_if_written<R: Files>(
     }
 }
 
-// Writes the bytes to the file beside, and gives it the name. If either fails, the file goes and
-// what had the name keeps it.
+// Writes the bytes to the file beside, and renames it to the name. If either fails, it removes the
+// file beside and leaves the name unchanged.
 fn write_and_rename<R: Files>(
     rt: &R,
     mut file: R::File,
@@ -113,8 +117,9 @@ fn write_and_rename<R: Files>(
     done
 }
 
-/// Puts the bytes under the name. They are written to a new file beside, `NAME.new0` or the next digit, which is then renamed: what stood under the
-/// name stands there until all of them are written. A device, a pipe or a link is written as it is, and so is a plain file that has several names, or
+/// Puts the bytes under the name. The bytes are written to a new file beside it, `NAME.new0` or
+/// with the next digit, which is then renamed: the old file stays until all bytes are written. A
+/// device, a pipe or a link is written in place. So is a plain file that has several names or
 /// beside which no file can be made.
 pub(crate) fn write<R: Files>(rt: &R, name: &str, bytes: &[u8]) -> io::Result<()> {
     let there = fs::symlink_metadata(rt, name);

@@ -1,20 +1,20 @@
-//! Where files are read.
+//! The trait that reads files.
 ghost use Rattle.std.specs.Prelude.{◌≡◌, IfOk, IfErr};
 ghost use Rattle.beeb_files.specs.Counts.{NoneFell};
 
 use std::alloc::Global;
 use thiserror::Error;
 
-/// Why a file was not read.
+/// The cause of a file that was not read.
 #[derive(Clone, Copy, Debug, PartialEq, Eq, Error)]
 pub enum ShelfError {
-    /// The file is not there, or reading it failed. The shelf counted a fault of its name.
+    /// The file does not exist, or reading it failed. The shelf counted a fault of its name.
     #[error("cannot read the file")]
     Failed,
-    /// The file has more bytes than the caller would take.
+    /// The file has more bytes than the caller accepts.
     #[error("more than {cap} bytes")]
     TooLong {
-        /// The most bytes that the caller would take.
+        /// The most bytes that the caller accepts.
         cap: u64,
     },
     /// There was no memory for the bytes.
@@ -22,14 +22,14 @@ pub enum ShelfError {
     NoMemory,
 }
 
-/// What holds files by name.
+/// A shelf, which holds files by name.
 pub trait Shelf {
     ghost use Rattle.beeb_files.specs.Shelf.{ShelfState, IsFound, IsGetCause, SaysTooLong};
 
-    /// The files, where the shelf tells them, and the count of faults of each name.
+    /// The files, if the shelf shows them, and the count of faults of each name.
     ghost shelf: { Self → ShelfState };
 
-    /// All bytes of the file of this name, or a refusal where they are more than `cap`.
+    /// Returns all bytes of the file of this name. Returns an error if they are more than `cap`.
     fn get(&mut self, alloc: Global, name: &str, cap: u64) -> Result<Vec<u8>, ShelfError>
         ensures files { (shelf self.new).files ≡ (shelf self.old).files }
         ensures counts { NoneFell (shelf self.old).faults (shelf self.new).faults }

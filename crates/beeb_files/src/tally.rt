@@ -1,4 +1,4 @@
-//! What a crew has counted.
+//! The counts of a crew.
 ghost use Rattle.std.specs.Prelude.{◌≡◌};
 ghost use Rattle.beeb_files.specs.Crew.{no_counts, with_fault, with_pair, Grows};
 
@@ -20,7 +20,7 @@ impl Model for Tally {
 }
 
 impl Tally {
-    /// Nothing was counted.
+    /// Makes a tally with both counts 0.
     pub(crate) fn new() -> Tally
         ensures { result ≡ no_counts }
     {

@@ -7,8 +7,8 @@ use crate::crew::{Crew, Pairing};
 use crate::tally::Tally;
 use std::marker::Model;
 
-/// A crew that works the first job of each pair in a thread of its own and the second in the caller's. It counts each thread that could
-/// not be started, and each pair that was worked.
+/// A crew that works the first job of each pair in a thread of its own and the second in the
+/// caller's. The crew counts the threads that could not be started, and the pairs that were worked.
 #[derive(Drop)]
 pub struct ThreadCrew {
     tally: Tally,
@@ -23,7 +23,7 @@ impl Model for ThreadCrew {
 }
 
 impl ThreadCrew {
-    /// A crew that has counted nothing.
+    /// Makes a crew that has counted nothing.
     pub fn make() -> ThreadCrew
         ensures { result ≡ no_counts }
     {
@@ -32,14 +32,14 @@ impl ThreadCrew {
         }
     }
 
-    /// The threads that could not be started.
+    /// Returns the number of threads that could not be started.
     pub fn faults(&self) -> u64
         ensures { result ≡ self.now.faults }
     {
         self.tally.faults()
     }
 
-    /// The pairs that were worked.
+    /// Returns the number of pairs that were worked.
     pub fn pairs(&self) -> u64
         ensures { result ≡ self.now.pairs }
     {

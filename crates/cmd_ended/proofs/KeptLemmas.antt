@@ -1,4 +1,4 @@
--- What is kept of the accesses of a reference run: the first of both sides' first are the first of all.
+-- The accesses kept of a reference run: the first of both sides' first are the first of all.
 use Rattle.std.proofs.Common.{None, ◌≡◌, ◌∙◌, sym, refl, ap, ℕ, zero, suc, ◌+◌, ◌*◌, ◌<◌, ◌≤◌, length, take, List, [], ◌∷◌, ◌++◌, Bool}
 use Rattle.std.proofs.Common.{IsTrue, nat_lt, cond, All, Option, Some, Result, Ok, Err, IfOk, arith}
 use Rattle.std.proofs.lemmas.List.{take-take}
@@ -112,7 +112,7 @@ events_take zero xs = refl
 events_take (suc k) [] = refl
 events_take (suc k) (x ∷ xs) = ap (λ (z : List Event). event_of x ∷ z) (events_take k xs)
 
--- what is kept of a side, as events
+-- the accesses kept of a side, as events
 own_events : (s : Side) (list : List Event) (keep : ℕ) (own : List Entry) → own ≡ take keep (accesses (of_side s list)) →
     events_of own ≡ take keep (of_side s (events_of (accesses list)))
 own_events s list keep own is = ap events_of is ∙ events_take keep (accesses (of_side s list)) ∙ ap (take keep) (own_accesses s list)
@@ -123,7 +123,7 @@ of_one_side s list keep own rises is = record {
   each = rw is (All-take (IsFrom s) keep _ (entries_sided s (of_side s list) (sided s list)));
 }
 
--- what is kept of both sides
+-- the accesses kept of both sides
 pub of_both_sides : (n : ℕ) (list : List Event) (keep : ℕ) (host para : List Entry) → RisingListIsMerge → AreFirst n list keep host para → of_both keep host para ≡ take keep (accesses list)
 of_both_sides n list keep host para law first =
     let whole = events_of (accesses list) in
@@ -189,7 +189,7 @@ pub few_counted : (n : ℕ) (list : List Event) (host para : ℕ) → n ≤ 1073
     host ≡ length (accesses (of_side Host list)) → para ≡ length (accesses (of_side Para list)) → host + para < 18446744073709551616
 few_counted n list host para most is is_host is_para = omega (arith, counted list host para is_host is_para, few_all n (accesses list) is.below is.rises, most)
 
--- what is kept of both sides, as they are handed on
+-- the accesses kept of both sides, as the lists passed on
 pub first_of : {H P : Type 0} (n : ℕ) (list : List Event) (keep : ℕ) (d : Done H P) (host para : List Entry) → AreKept n list keep d → host ≡ d.host_list.items → para ≡ d.para_list.items →
     AreFirst n list keep host para
 first_of n list keep d host para kept is_host is_para =
@@ -203,13 +203,13 @@ pub kept_is : (clock : Clock) (begun : Option Session) (ticks keep : ℕ) (names
 unfolding kept_verdict
 kept_is clock begun ticks keep names w host para tube kept saved is_host is_para files = rw (is_host, is_para, files.kept_is, files.saved_is, files.tube_is)
 
--- what is so of a view is so of each run
+-- an equation for a view holds for each run
 pub for_each : {X E V : Type 0} (r : Result X E) (view : X → V) (v : V) (P : HostState → ParaState → Type 0) (w : HostState → ParaState → V) → IfOk r (λ x. view x ≡ v) →
     ((s : HostState) (t : ParaState) → P s t → v ≡ w s t) → IfOk r (λ x. (s : HostState) (t : ParaState) → P s t → view x ≡ w s t)
 for_each (Ok x) view v P w is all = λ s t run. is ∙ all s t run
 for_each (Err e) view v P w is all = tt
 
--- what both machines leave, where no bytes stand beside them
+-- the final state of both machines, without other bytes
 pub both_is : (clock : Clock) (ticks tube : ℕ) (names : Names) (bytes : List ℕ) (s : HostState) (p : ParaState) (kept : Kept) (saved : Option (List ℕ)) → bytes ≡ [] →
     record { names = names; clock = clock; ticks = ticks; tube = tube; host = Some s; para = Some p; kept = Some kept; saved = saved; counts = None; bytes = bytes }
     ≡ both_left clock ticks tube names s p kept saved

@@ -1,4 +1,4 @@
--- What the code holds of a run, as the definitions see it.
+-- The program's values of a run, as the definitions see them.
 use Rattle.std.specs.Prelude.{◌≡◌, ℕ, ◌≤◌, List, length, take, Option}
 use Rattle.beeb_bits.specs.declared.clock.Clock.{Clock}
 use Rattle.bus_plug.specs.Plug.{Plug}
@@ -19,27 +19,29 @@ use Rattle.save_state.specs.Saved.{Session}
 use Rattle.cmd_outcome.specs.Left.{Kept}
 use Rattle.cmd_ended.specs.Kept.{kept_of, saved_file}
 
--- both machines were run from these states as the reference run does, and of the accesses of each side the first `keep` were kept
+-- Both machines were run from the states s and t as the reference run does, and the first `keep`
+-- accesses of each side were kept.
 abbrev pub IsRun : {D : Type 0} → (D → Plug) → HostState → ParaState → ℕ → ℕ → Done (HostMachine D) ParaState → Type 0
 IsRun plug s t n keep d =
     IsPlayed (reference host_moves para_moves s t n) keep (played_of (host_seen plug) (λ m. m) d)
 
--- Of a list of events whose accesses are a trace below a tick that a run may have, these are the first accesses of each side.
+-- The accesses in a list of events are a trace below the tick n of a run. host and para are the
+-- first accesses of each side.
 pub record AreFirst (n : ℕ) (list : List Event) (keep : ℕ) (host para : List Entry) : Type 0 where
   pub most : n ≤ 1073741824
   pub trace : IsTraceBelow n (accesses list)
   pub host_is : host ≡ take keep (accesses (of_side sides.Host list))
   pub para_is : para ≡ take keep (accesses (of_side sides.Para list))
 
--- Of such a list of events two parties kept the first accesses of each side, and counted all.
+-- Two parties kept the first accesses of each side in a list of events, and counted all.
 pub record AreKept {H P : Type 0} (n : ℕ) (list : List Event) (keep : ℕ) (d : Done H P) : Type 0 where
   pub most : n ≤ 1073741824
   pub trace : IsTraceBelow n (accesses list)
   pub host_kept : IsKept sides.Host list keep d.host_list.items d.host_count
   pub para_kept : IsKept sides.Para list keep d.para_list.items d.para_count
 
--- What a run of so many ticks with this list of events leaves, which began so, if it is to be saved: how many its accesses are, what is kept of them, and
--- its session file.
+-- The results of a run of n ticks with a list of events: the number of its accesses, the accesses
+-- kept, and its session file. begun is the beginning of the run, if its session is saved.
 pub record AreFiles (clock : Clock) (begun : Option Session) (n keep : ℕ) (list : List Event) (tube : ℕ) (kept : Kept) (saved : Option (List ℕ)) : Type 0 where
   pub tube_is : tube ≡ length (accesses list)
   pub kept_is : kept ≡ kept_of clock (take keep (accesses list))

@@ -1,4 +1,4 @@
--- What comes of both machines after a run.
+-- The verdict of both machines after a run.
 use Rattle.std.specs.Prelude.{ℕ, nat_le, List, length, take, Option, option_map}
 use Rattle.beeb_bits.specs.declared.clock.Clock.{Clock}
 use Rattle.tube_chip.specs.Events.{Event}
@@ -17,16 +17,18 @@ use Rattle.cmd_outcome.specs.Left.{Kept}
 use Rattle.cmd_outcome.specs.Verdicts.{machine_verdict, both_left}
 use Rattle.cmd_ended.specs.Save.{saved_of}
 
--- the accesses that are kept: how many they are, and their trace, by the clock of the machines
+-- the accesses kept: their number, and their trace, by the clock of the machines
 abbrev pub kept_of : Clock → List Entry → Kept
 kept_of clock kept = record { count = length kept; trace = text_of clock kept }
 
--- the session file of a run that began so, of whose accesses the first `keep` are kept, if it is to be saved
+-- the session file of a run with the beginning begun, if it is saved; the first `keep` accesses are
+-- kept
 abbrev pub saved_file : Option Session → ℕ → ℕ → List Event → Option (List ℕ)
 saved_file begun ticks keep list =
     option_map (λ (b : Session). file_of (saved_of b ticks (nat_le (length (accesses list)) keep) (take keep (accesses list)))) begun
 
--- The world after a run, of whose accesses in their one order the first `keep` are kept, and what it began with, if it is to be saved.
+-- The verdict of the world after a run. The first `keep` accesses in their common order are kept.
+-- begun is the beginning of the run, if its session is saved.
 unfoldable pub kept_verdict : Clock → Option Session → ℕ → ℕ → Names → World host.HostState para.ParaState → Verdict Ending
 kept_verdict clock begun ticks keep names w =
     machine_verdict (both_left clock ticks (length (accesses w.list)) names w.host w.para (kept_of clock (take keep (accesses w.list)))

@@ -1,4 +1,4 @@
-//! What comes of both machines where their run ended, which `solo`, `run` and `resume` share.
+//! The outcome of both machines at the end of their run, for `solo`, `run` and `resume`.
 ghost use Rattle.std.specs.Prelude.{◌≡◌, ◌≤◌, ℕ, List, IfOk, IfSome, length, option_map, take};
 ghost use Rattle.tube_chip.specs.Events.{Event};
 ghost use Rattle.tube_trace.specs.Entries.{accesses};
@@ -26,7 +26,7 @@ use tube_chip::rising_list_is_merge;
 use tube_party::{Done, MOST, reference_is_trace};
 use tube_trace::{Entry, merge, write_both};
 
-// The first accesses of both sides, of which these are the first of each.
+// Merges the first accesses of each side into the first of both.
 fn merged(
     alloc: Global,
     keep: u32,
@@ -40,7 +40,7 @@ fn merged(
     Ok(merge(alloc, host, para, keep)?)
 }
 
-// The trace of the first accesses of both sides, of which these are the first of each.
+// Makes the trace of the first accesses of both sides from the first of each.
 fn trace_of(
     alloc: Global,
     clock: Clock,
@@ -54,7 +54,8 @@ fn trace_of(
     Ok(write_both(alloc, clock, host, para, keep)?)
 }
 
-// The session file of a run of so many accesses, of which these are the first of each side, if it is to be saved.
+// Makes the session file of a run of `tube` accesses from the first accesses of each side, if it is
+// saved.
 fn saved_in(
     alloc: Global,
     begun: Option<Saved>,
@@ -80,7 +81,8 @@ fn saved_in(
     Ok(Some(file))
 }
 
-// Two parties where their run ended, the number of their accesses, what is kept of these, and the session file, if it is to be saved.
+// Two parties at the end of their run, the number of their accesses, the accesses kept, and the
+// session file, if it is saved.
 struct Parts<H, P> {
     host: H,
     para: P,
@@ -89,7 +91,8 @@ struct Parts<H, P> {
     saved: Option<Vec<u8>>,
 }
 
-// What a run of so many ticks left of two parties. It knows neither, since a proof over any two parties goes through no machine's parts.
+// Makes the results of a run of `n` ticks of two parties. The function is generic over the parties,
+// so that its proof does not unfold the machines.
 fn ended<H: Drop, P: Drop>(
     alloc: Global,
     clock: Clock,
@@ -128,7 +131,8 @@ fn ended<H: Drop, P: Drop>(
     })
 }
 
-/// What comes of both machines where their run ended, of whose accesses the first `keep` are kept, and which began so, if it is to be saved.
+/// Makes the outcome of both machines at the end of their run. The first `keep` accesses are kept.
+/// `begun` is the beginning of the run, if its session is saved.
 pub fn kept_outcome<'a, D: BusDevice>(
     alloc: Global,
     clock: Clock,

@@ -1,4 +1,5 @@
-//! What both machines come to where their run ended, which `solo`, `run` and `resume` share, and the session that it is saved as.
+//! The outcome of both machines at the end of their run, for `solo`, `run` and `resume`, and the
+//! session that is saved.
 #![tactic(auto)]
 
 mod kept;

@@ -1,4 +1,4 @@
-//! The session file that a run is saved as.
+//! The session file of a run that is saved.
 ghost use Rattle.std.specs.Prelude.{◌≡◌, ◌≤◌, ℕ, IfOk, length, take};
 ghost use Rattle.tube_chip.specs.Events.{Rises};
 ghost use Rattle.tube_trace.specs.Entries.{events_of};
@@ -15,7 +15,8 @@ use std::alloc::{AllocError, Global};
 use tube_party::MOST;
 use tube_trace::Entry;
 
-// How many of these entries, each before the next, are below a tick: the first of them.
+// Returns the number of entries below a tick. Each entry is before the next, so they are the first
+// ones.
 #[tactic(auto, using(crate::proofs::SaveLemmas::count_here))]
 fn count_below(entries: &[Entry], tick: Tick) -> usize
     requires { Rises (events_of entries.now) }
@@ -30,7 +31,8 @@ fn count_below(entries: &[Entry], tick: Tick) -> usize
     entries.len()
 }
 
-/// Those of these entries, each before the next, that are below a tick. Those of a trace are a trace.
+/// Returns the entries below a tick. Each entry is before the next. The result is a trace if the
+/// entries are one.
 pub fn entries_below(entries: &[Entry], tick: Tick) -> &[Entry]
     requires { Rises (events_of entries.now) }
     ensures below { result.now ≡ entries_below tick.0 entries.now }
@@ -39,7 +41,7 @@ pub fn entries_below(entries: &[Entry], tick: Tick) -> &[Entry]
     &entries[..count_below(entries, tick)]
 }
 
-// The tick of the last entry, 0 where there is none.
+// Returns the tick of the last entry, 0 without entries.
 fn last_tick(entries: &[Entry]) -> Tick
     ensures { result.0 ≡ last_tick entries.now }
 {
@@ -49,14 +51,15 @@ fn last_tick(entries: &[Entry]) -> Tick
     }
 }
 
-// The moment of the session.
+// Returns the moment of the session.
 fn saved_tick(n: Tick, all: bool, kept: &[Entry]) -> Tick
     ensures { result.0 ≡ saved_tick n.0 all kept.now }
 {
     if all { n } else { last_tick(kept) }
 }
 
-/// The session file of a run of so many ticks that began as this session of no ticks, of its accesses that are kept: all of them, or the first.
+/// Makes the session file of a run of `n` ticks with the beginning `begun`, a session of no ticks.
+/// `kept` has all its accesses, or the first ones.
 #[tactic(auto, unfolding(crate::specs::Save::saved_of))]
 pub(crate) fn session_file(
     alloc: Global,

@@ -1,4 +1,4 @@
-//! What a listing of instructions comes to by what was read: `follow host` and `follow para`.
+//! The outcome of listing instructions: `follow host` and `follow para`.
 #![tactic(auto)]
 
 mod listed;

@@ -1,4 +1,5 @@
-//! `follow SIDE TRACE TICKS OUT` and options: a machine against a trace, its instructions listed.
+//! `follow SIDE TRACE TICKS OUT` and options: a machine replayed against a trace, with its
+//! instructions listed.
 ghost use Rattle.std.specs.Prelude.{◌≡◌, ◌<◌, ◌≤◌, All, Bool, IfOk, IsTrue, List, Option, Result, option_map};
 ghost use Rattle.tube_trace.specs.Entries.{IsEntry};
 ghost use Rattle.tube_trace.specs.FirstWrong.{wrong};
@@ -29,7 +30,7 @@ use std::alloc::{AllocError, Global};
 use tube_party::MOST;
 use tube_trace::{Entry, first_wrong};
 
-// How many lines a listing has, of how many starts that are chosen.
+// Makes the text with the numbers of instructions listed and chosen.
 #[tactic(auto, unfolding(crate::specs::Follow::listed_text))]
 fn listed_text(alloc: Global, listed: u64, chosen: u64) -> Result<Vec<u8>, AllocError>
     ensures { IfOk result (λ v. v.items ≡ listed_text listed chosen) }
@@ -38,8 +39,9 @@ fn listed_text(alloc: Global, listed: u64, chosen: u64) -> Result<Vec<u8>, Alloc
     text.as_bytes().to_vec(alloc)
 }
 
-// What comes of a machine and the entries that were read with it: the answers of the trace are checked first, as `check` does it. It knows no
-// machine, since a proof over any party goes through no machine's parts.
+// Makes the outcome of a machine and the entries that were read with it. The answers of the trace
+// are checked first, as in `check`. The function is generic over the machine, so that its proof
+// does not unfold one.
 #[tactic(auto, unfolding(crate::specs::Follow::listed_by))]
 fn listed<'a, D: BusDevice, M: Seen>(
     alloc: Global,
@@ -72,7 +74,7 @@ fn listed<'a, D: BusDevice, M: Seen>(
     }
 }
 
-// Why a file of addresses is refused.
+// Returns the refusal for an error in a file of addresses.
 fn points_refusal(error: PointsError) -> Refusal<Cause>
     ensures { result ≡ points_refusal error }
 {
@@ -83,7 +85,7 @@ fn points_refusal(error: PointsError) -> Refusal<Cause>
     }
 }
 
-// The addresses of a file.
+// Reads the addresses of a file.
 fn read_points(alloc: Global, bytes: &[u8]) -> Result<Option<Points>, Refusal<Cause>>
     ensures { Gives (λ (points : Option (List Bool)). points) result (points_read (points bytes.now)) }
 {
@@ -93,7 +95,7 @@ fn read_points(alloc: Global, bytes: &[u8]) -> Result<Option<Points>, Refusal<Ca
     }
 }
 
-// The addresses of a file, if one is given.
+// Reads the addresses of a file, if one is given.
 fn points_of(alloc: Global, bytes: &Option<Vec<u8>>) -> Result<Option<Points>, Refusal<Cause>>
     ensures { Gives (λ (points : Option (List Bool)). points) result (points_of (option_map items bytes.now)) }
 {
@@ -103,7 +105,7 @@ fn points_of(alloc: Global, bytes: &Option<Vec<u8>>) -> Result<Option<Points>, R
     }
 }
 
-// The same choice, with these addresses.
+// Returns a choice with the given addresses.
 fn with_points(choice: Choice, points: Option<Points>) -> Choice
     ensures { result ≡ with_points choice points }
 {
@@ -116,7 +118,7 @@ fn with_points(choice: Choice, points: Option<Points>) -> Choice
     }
 }
 
-// The same choice, with the addresses of a file, if one is given.
+// Returns a choice with the addresses of a file, if one is given.
 #[tactic(auto, unfolding(crate::specs::Follow::chosen_with))]
 fn chosen_with(
     alloc: Global,
@@ -131,7 +133,8 @@ fn chosen_with(
     }
 }
 
-// What comes of a machine and the entries that were read with it, where the choice is not refused. It knows no machine either.
+// Makes the outcome of a machine and the entries that were read with it, unless the choice is
+// refused. The function is generic over the machine too.
 fn listed_if<'a, D: BusDevice, M: Seen>(
     alloc: Global,
     machine: M,
@@ -159,7 +162,8 @@ fn listed_if<'a, D: BusDevice, M: Seen>(
     }
 }
 
-// What comes of the host against the trace that was read, where the choice is not refused.
+// Makes the outcome of the host replayed against the trace that was read, unless the choice is
+// refused.
 fn host_listed<'a, D: BusDevice>(
     alloc: Global,
     setup: Setup<D>,
@@ -187,7 +191,8 @@ fn host_listed<'a, D: BusDevice>(
     )
 }
 
-// The same of the second processor.
+// Makes the outcome of the second processor replayed against the trace that was read, unless the
+// choice is refused.
 fn para_listed<'a, D: BusDevice>(
     alloc: Global,
     setup: Setup<D>,
@@ -214,7 +219,8 @@ fn para_listed<'a, D: BusDevice>(
     )
 }
 
-/// What comes of the machine of a side against the trace that was read, its instructions listed.
+/// Makes the outcome of a side's machine replayed against the trace that was read, with its
+/// instructions listed.
 #[tactic(auto, unfolding(crate::specs::Follow::follow_after))]
 pub fn follow_outcome<'a, D: BusDevice>(
     alloc: Global,

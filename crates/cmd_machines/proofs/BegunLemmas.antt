@@ -1,4 +1,4 @@
--- What a run begins with keeps the rules of a session, where its machines can be made.
+-- The beginning of a run keeps the rules of a session, if its machines can be made.
 use Rattle.std.proofs.Common.{◌≡◌, ◌∙◌, sym, refl, ℕ, ◌≤◌, true, List, [], ◌∷◌, ◌++◌, length, map, replicate, zero, suc, ◌+◌}
 use Rattle.std.proofs.Common.{Option, Some, None, option_map, IfSome, Result, Ok, arith}
 use Rattle.std.proofs.lemmas.List.Elements.{All-nil}
@@ -95,7 +95,7 @@ pub keys_short : (keys : Option (Vec ℕ Global)) → IfSome keys (λ bytes. len
 keys_short None short = tt
 keys_short (Some bytes) short = short
 
--- what is to be saved keeps the rules
+-- the beginning of a run that is saved keeps the rules
 pub begun_keeps : (law : BegunIsSession) (save : Option (List ℕ)) (b : Option Saved) (set : Setup) (i : Inputs) (m : HostState × ParaState) → machines_of set i ≡ Ok m → set.number ≤ 8 →
     IfSome i.keys (λ keys. length keys ≤ 1048576) → option_map session b ≡ begun_if save set i → IfSome b (λ (s : Saved). IsSession (session s))
 begun_keeps law save b set i m made few short is = by_name save b set i is (law set i m made few short)

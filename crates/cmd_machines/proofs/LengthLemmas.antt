@@ -22,14 +22,14 @@ use Rattle.cmd_machines.specs.Machines.{rom_of, os_of, machines_of}
 use Rattle.cmd_machines.specs.Lengths.{Sized, rom_image, font_images, disc_images, further_images, host_images, first_misfit, unless_caused, if_fit, disc_in, roms_in, LengthsComeFirst}
 
 module _ {A B : Type 0} where
-  -- one test, and what follows it
+  -- one test, and the next step
   step : (b : Bool) (x : A) (cause : Cause) (f : A → Result B (Refusal Cause)) (m : Option Cause) (next : Result B (Refusal Cause)) →
       (b ≡ true → f x ≡ unless_caused m next) →
       ((if b then Ok x else Err (refusals.Cause cause)) >>= f) ≡ unless_caused (if b then m else Some cause) next
   step true x cause f m next go = go refl
   step false x cause f m next go = refl
 
-  -- the same where the test is whether it is too long
+  -- one test for a length that is too large
   step_not : (b : Bool) (x : A) (cause : Cause) (f : A → Result B (Refusal Cause)) (m : Option Cause) (next : Result B (Refusal Cause)) →
       f x ≡ unless_caused m next →
       ((if b then Err (refusals.Cause cause) else Ok x) >>= f) ≡ unless_caused (if not b then m else Some cause) next
@@ -44,7 +44,7 @@ module _ {B : Type 0} (roms : Roms) (f : Roms → Result B (Refusal Cause)) (nex
   one_slot true r found e m go = go
   one_slot false r found e m go = refl
 
-  -- the paged ROMs, and what is refused after them
+  -- the paged ROMs, and the refusals after them
   slots : (rs : List Rom) (e : Option RomError) (images : List Sized) → (unless_refused e roms >>= f) ≡ if_fit images next →
       (unless_refused (option_or (bad_slot (find (λ rom. not (fits rom)) rs)) e) roms >>= f) ≡ if_fit (map rom_image rs ++ images) next
   slots [] e images go = go
@@ -89,7 +89,7 @@ discs kinds disc0 disc1 f next go =
     ∙ disc next 0 kinds.0 disc0 _ (disc_images 1 kinds.1 disc1)
     (bound (disc_of 1 kinds.1 disc1) _ f ∙ disc_last kinds.1 disc1 (λ d1. f (disc_in kinds.0 disc0, d1)) next go)
 
--- the paged ROMs, the font and the discs, where the operating system fits
+-- the paged ROMs, the font and the discs, if the operating system fits
 further : {B : Type 0} (kinds : Kind × Kind) (i : Inputs) (f : Roms → Option Image × Option Image → Result B (Refusal Cause)) (next : Result B (Refusal Cause)) →
     (length i.os == 16384) ≡ true → f (roms_in i) (disc_in kinds.0 i.disc0, disc_in kinds.1 i.disc1) ≡ next →
     (roms_of (roms_in i) >>= λ roms. discs_of kinds i.disc0 i.disc1 >>= f roms) ≡ if_fit (further_images kinds i) next
@@ -98,7 +98,7 @@ further kinds i f next os go =
     rw os (slots (roms_in i) (λ roms. discs_of kinds i.disc0 i.disc1 >>= f roms) next i.roms (bad_font i.font) _
     (font (roms_in i) (λ roms. discs_of kinds i.disc0 i.disc1 >>= f roms) next i.font _ (discs kinds i.disc0 i.disc1 (f (roms_in i)) next go)))
 
--- an operating system of another length is refused before all
+-- an operating system of another length is refused before all others
 os_misfit : {B : Type 0} (i : Inputs) (f : Roms → Result B (Refusal Cause)) → (length i.os == 16384) ≡ false →
     (roms_of (roms_in i) >>= f) ≡ Err (refusals.Cause (BadImage places.Os (length i.os)))
 unfolding roms_of

@@ -1,4 +1,5 @@
--- What the machines of a session are made of: slots that rise and are below 16, and a script that is no longer than a session's.
+-- The inputs of a session's machines: slots that rise and are below 16, and a script within a
+-- session's limit.
 use Rattle.std.proofs.Common.{◌≡◌, ◌∙◌, sym, refl, ap, subst, ℕ, zero, suc, ◌+◌, ◌<◌, ◌≤◌, length, map, slice_index_or, get_or, IsTrue}
 use Rattle.std.proofs.Common.{List, [], ◌∷◌, ◌++◌, Option, Some, None, option_map, Result, Ok, Err, IfOk, IfSome, arith}
 use Rattle.std.proofs.lemmas.Bool.Decides.{nat_tests}
@@ -26,7 +27,7 @@ use Rattle.cmd_machines.proofs.ReadLemmas.{numbers_of, numbers_read, IsCapped, A
 abbrev these : List (Slot × List ℕ) → List ℕ
 these list = filter_map rom_slot (map (λ (one : Slot × List ℕ). one.0) list)
 
--- those that are there rise as the slots do
+-- those that are present rise as the slots do
 rise : (low : ℕ) (all : List Slot) (ps : List (Option (List ℕ))) → IsTrue (rise_from low (filter_map rom_slot all)) →
     IsTrue (rise_from low (these (there all ps)))
 rise low [] ps rises = refl
@@ -49,7 +50,7 @@ below_at (x ∷ xs) low rises (suc k) d h =
 
 -- ---- the length of the key script
 
--- what is there as what was wanted, of no name, and no longer than it is
+-- the parts that are present as files to read, without names, each with its length as the limit
 abbrev wants_of : List (Slot × List ℕ) → List (Want Slot)
 wants_of list = map (λ (x : Slot × List ℕ). (x.0, [], length x.1)) list
 

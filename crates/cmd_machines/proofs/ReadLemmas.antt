@@ -1,4 +1,5 @@
--- What the files that a command read make of its inputs: the slots of its paged ROMs, and how long its script is.
+-- The inputs of the files that a command read: the slots of its paged ROMs, and the length of its
+-- script.
 use Rattle.std.proofs.Common.{◌≡◌, ◌∙◌, sym, refl, subst, ℕ, ◌≤◌, List, [], ◌∷◌, ◌++◌, map, length, Bool, true, false, ◌==◌, Option, Some, None, IfSome, arith, append_assoc, append-nil, if◌then◌else◌}
 use Rattle.std.proofs.lemmas.List.{map-append}
 use Rattle.std.specs.List.{filter_map, cons_option}
@@ -16,14 +17,14 @@ use Rattle.cmd_machines.specs.Inputs as inputs
 abbrev pub numbers_of : List Rom → List ℕ
 numbers_of roms = map (λ (r : Rom). r.slot) roms
 
--- the slots of some inputs are those of the files that were wanted
+-- the slots of some inputs are those of the files to read
 pub same_slots : (ws : List (Want Slot)) (is : Inputs Slot) → AreWithin ws is → map (λ (i : Slot × List ℕ). i.0) is ≡ map (λ (w : Want Slot). w.0) ws
 same_slots [] [] fits = refl
 same_slots [] (i ∷ is) fits = absurd fits
 same_slots (w ∷ ws) [] fits = absurd fits
 same_slots (w ∷ ws) (i ∷ is) fits = rw (fits.0, same_slots ws is fits.2)
 
--- a disc leaves the paged ROMs and the script
+-- a disc leaves the paged ROMs and the script unchanged
 disc_leaves : (first : Bool) (bytes : List ℕ) (i : inputs.Inputs) →
     let j : inputs.Inputs = if first then record i { disc0 = Some bytes } else record i { disc1 = Some bytes } in (j.roms ≡ i.roms) × (j.keys ≡ i.keys)
 disc_leaves true bytes i = (refl, refl)
@@ -47,7 +48,7 @@ numbers_read (one ∷ more) i =
 
 -- ---- the length of the key script
 
--- a script that is wanted is at most so long
+-- a script to read is at most of this length
 abbrev pub IsCapped : Slot → ℕ → Type 0
 IsCapped slots.Keys cap = cap ≤ 1048576
 IsCapped slot cap = Unit {0}

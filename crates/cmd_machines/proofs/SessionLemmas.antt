@@ -3,7 +3,7 @@ use Rattle.std.proofs.Common.{◌≡◌, refl, ℕ, List, [], ◌∷◌, ◌++�
 use Rattle.cmd_words.specs.declared.keys.Slot.{Slot}
 use Rattle.cmd_machines.specs.Sessions.{there}
 
--- no part more
+-- no further part
 there_none : (slots : List Slot) → there slots [] ≡ []
 there_none [] = refl
 there_none (slot ∷ slots) = refl

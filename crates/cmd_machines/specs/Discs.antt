@@ -1,4 +1,4 @@
--- The discs in drive 0 and drive 1, of the files that are read.
+-- The discs in drive 0 and drive 1, made from the files that were read.
 use Rattle.std.specs.Prelude.{ℕ, nat_lt, List, length, Option, Some, None, Result, Ok, Err, if◌then◌else◌}
 use Rattle.disc_image.specs.declared.Kind.{Kind}
 use Rattle.disc_image.specs.Image.{Image, largest}
@@ -9,7 +9,7 @@ use Rattle.cmd_status.specs.declared.status.Which.TheVariants.{Disc}
 use Rattle.cmd_status.specs.declared.status.Cause.{Cause}
 use Rattle.cmd_status.specs.declared.status.Cause.TheVariants.{BadImage}
 
--- The disc in a drive, if one is given. Its image may have any length up to the largest of its kind.
+-- The disc in a drive, if one is given. Its image may have up to the largest size of its kind.
 unfoldable pub disc_of : ℕ → Kind → Option (List ℕ) → Result (Option Image) (Refusal Cause)
 disc_of drive kind None = Ok None
 disc_of drive kind (Some bytes) =

@@ -1,11 +1,11 @@
--- The bytes that a command read, by what they are to it.
+-- The bytes that a command read, by their purpose.
 use Rattle.std.specs.Prelude.{ℕ, ◌==◌, List, [], ◌∷◌, ◌++◌, Option, Some, None, if◌then◌else◌}
 use Rattle.cmd_words.specs.declared.keys.Slot.{Slot}
 use Rattle.cmd_words.specs.declared.keys.Slot.TheVariants.{Trace, Source, Image, State, Os, Tube, Font, Disc, Keys, Points}
 use Rattle.cmd_words.specs.declared.keys.Slot.TheVariants as slots
 use Rattle.rom_set.specs.Roms.{Rom}
 
--- what has to be there is empty where it wasn't read
+-- A required field is empty if its file wasn't read.
 pub record Inputs : Type 0 where
   pub trace : List ℕ
   pub source : List ℕ
@@ -20,7 +20,7 @@ pub record Inputs : Type 0 where
   pub disc0 : Option (List ℕ)
   pub disc1 : Option (List ℕ)
   pub keys : Option (List ℕ)
-  -- the addresses of the starts that are listed
+  -- the addresses whose instructions are listed
   pub points : Option (List ℕ)
 
 abbrev pub no_inputs : Inputs

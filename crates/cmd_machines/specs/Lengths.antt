@@ -1,4 +1,4 @@
--- Which image is refused: the first in order whose length is outside its set.
+-- The image that is refused: the first in order whose length is outside its set.
 use Rattle.std.specs.Prelude.{◌≡◌, ℕ, ◌==◌, ◌||◌, nat_lt, Bool, not, List, [], ◌∷◌, ◌++◌, map, length, Option, Some, None, option_map, Result, Ok, Err, if◌then◌else◌}
 use Rattle.disc_image.specs.declared.Kind.{Kind}
 use Rattle.disc_image.specs.Image.{Image, largest}
@@ -20,7 +20,7 @@ use Rattle.cmd_machines.specs.Roms.{roms_of}
 use Rattle.cmd_machines.specs.Discs.{discs_of}
 use Rattle.cmd_machines.specs.Machines.{rom_of, machines_of}
 
--- an image: its place, its length, and whether it may have that length
+-- an image: its place, its length, and true if it may have that length
 pub record Sized : Type 0 where
   pub place : Which
   pub len : ℕ
@@ -30,25 +30,25 @@ pub record Sized : Type 0 where
 abbrev pub os_image : List ℕ → Sized
 os_image bytes = record { place = places.Os; len = length bytes; fits = length bytes == 16384 }
 
--- the second processor's boot ROM has 2,048
+-- the second processor's boot ROM has 2,048 bytes
 abbrev pub tube_image : List ℕ → Sized
 tube_image bytes = record { place = places.Tube; len = length bytes; fits = length bytes == 2048 }
 
--- a paged ROM has 8,192 or 16,384
+-- a paged ROM has 8,192 or 16,384 bytes
 abbrev pub rom_image : Rom → Sized
 rom_image rom = record { place = places.Rom rom.slot; len = length rom.bytes; fits = length rom.bytes == 8192 || length rom.bytes == 16384 }
 
--- a font has 960
+-- a font has 960 bytes
 abbrev pub font_images : Option (List ℕ) → List Sized
 font_images None = []
 font_images (Some bytes) = record { place = places.Font; len = length bytes; fits = length bytes == 960 } ∷ []
 
--- a disc has at most those of its kind
+-- a disc has at most the largest size of its kind
 abbrev pub disc_images : ℕ → Kind → Option (List ℕ) → List Sized
 disc_images drive kind None = []
 disc_images drive kind (Some bytes) = record { place = places.Disc drive; len = length bytes; fits = not (nat_lt (largest kind) (length bytes)) } ∷ []
 
--- the host's images but the operating system, in the order in which they are read
+-- the host's images except the operating system, in the order in which they are read
 abbrev pub further_images : Kind × Kind → Inputs → List Sized
 further_images kinds i = map rom_image i.roms ++ (font_images i.font ++ (disc_images 0 kinds.0 i.disc0 ++ disc_images 1 kinds.1 i.disc1))
 
@@ -70,18 +70,19 @@ abbrev pub unless_caused : {A : Type 0} → Option Cause → Result A (Refusal C
 unless_caused None next = next
 unless_caused (Some cause) next = Err (refusals.Cause cause)
 
--- what follows where all of them fit; else the first that does not is refused
+-- the next step if all of them fit; otherwise the first that does not is refused
 abbrev pub if_fit : {A : Type 0} → List Sized → Result A (Refusal Cause) → Result A (Refusal Cause)
 if_fit images next = unless_caused (first_misfit images) next
 
--- a disc, if its image is there
+-- a disc, if its image was read
 abbrev pub disc_in : Kind → Option (List ℕ) → Option Image
 disc_in kind bytes = option_map (λ (b : List ℕ). record { kind = kind; bytes = b }) bytes
 
 abbrev pub roms_in : Inputs → Roms
 roms_in i = record { os = i.os; slots = i.roms; font = i.font }
 
--- The machines of a run, of a replay of the host and of one of the second processor: lengths first, whatever follows.
+-- The machines of a run, of a replay of the host and of one of the second processor: lengths are
+-- tested first, before any next step.
 pub record LengthsComeFirst : Type 0 where
   pub both : (set : Setup) (i : Inputs) →
       machines_of set i

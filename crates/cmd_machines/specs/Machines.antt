@@ -1,4 +1,4 @@
--- Both machines at power-on, of what a command read.
+-- Both machines at power-on, made from what a command read.
 use Rattle.std.specs.Prelude.{ℕ, ◌==◌, List, length, Result, Ok, Err, if◌then◌else◌}
 use Rattle.host_mach.specs.State as host
 use Rattle.para_mach.specs.State as para
@@ -22,8 +22,8 @@ rom_of bytes = if length bytes == 2048 then Ok bytes else Err (refusals.Cause (B
 unfoldable pub os_of : List ℕ → Result (List ℕ) (Refusal Cause)
 os_of bytes = if length bytes == 16384 then Ok bytes else Err (refusals.Cause (BadImage Os (length bytes)))
 
--- Both machines at power-on, as the words say, if the images have their lengths, tested in the order in which they are read, and then the script
--- its form.
+-- Both machines at power-on with the given setup. The lengths of the images are tested in the order
+-- in which they are read, then the form of the script.
 unfoldable pub machines_of : Setup → Inputs → Result (host.HostState × para.ParaState) (Refusal Cause)
 machines_of set i =
     os_of i.os

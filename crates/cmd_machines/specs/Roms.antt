@@ -1,4 +1,5 @@
--- The images of the host's operating system, its paged ROMs and its font, each with a length that it may have.
+-- The images of the host's operating system, its paged ROMs and its font, each with an allowed
+-- length.
 use Rattle.std.specs.Prelude.{Option, Some, None, Result, Ok, Err}
 use Rattle.rom_set.specs.Roms.{Roms, refusal}
 use Rattle.rom_set.specs.declared.RomError.{RomError}
@@ -9,7 +10,7 @@ use Rattle.cmd_status.specs.declared.status.Which.TheVariants.{Os, Rom, Font}
 use Rattle.cmd_status.specs.declared.status.Cause.{Cause}
 use Rattle.cmd_status.specs.declared.status.Cause.TheVariants.{BadImage}
 
--- the image of another length than it has to have
+-- the cause of an image with a length that is not allowed
 abbrev pub rom_cause : RomError → Cause
 rom_cause (BadOs len) = BadImage Os len
 rom_cause (BadSlot slot len) = BadImage (Rom slot) len
@@ -19,6 +20,6 @@ abbrev pub unless_refused : Option RomError → Roms → Result Roms (Refusal Ca
 unless_refused None roms = Ok roms
 unless_refused (Some error) roms = Err (refusals.Cause (rom_cause error))
 
--- the images, if none is refused: the operating system first, then the paged ROMs in their order, then the font
+-- the images, if none is refused: first the operating system, then the paged ROMs, then the font
 unfoldable pub roms_of : Roms → Result Roms (Refusal Cause)
 roms_of roms = unless_refused (refusal roms.os roms.slots roms.font) roms

@@ -1,4 +1,4 @@
--- What the code holds of what was read, as the definitions see it.
+-- The program's inputs, as the definitions see them.
 use Rattle.std.specs.Prelude.{ℕ, List, map, option_map}
 use Rattle.std.specs.declared.vec.Vec.{Vec}
 use Rattle.std.specs.declared.alloc.Global.{Global}
@@ -28,6 +28,6 @@ seen_inputs i = record {
   points = option_map items i.points;
 }
 
--- what the words say of the machines, by what the plugged devices are
+-- the setup of the machines; plug gives the view of a plugged device
 abbrev pub seen_setup : {D : Type 0} → (D → Plug) → Setup D → setups.Setup
 seen_setup plug s = setups.setup s.clock s.kinds s.number (map plug s.plugs.items) s.tube

@@ -1,4 +1,4 @@
-//! The discs in drive 0 and drive 1, of the files that are read.
+//! The discs in drive 0 and drive 1, made from the files that were read.
 ghost use Rattle.std.specs.Prelude.{Option, option_map};
 ghost use Rattle.disc_image.specs.Image.{Image};
 ghost use Rattle.cmd_stages.specs.View.{Gives};
@@ -10,7 +10,7 @@ use cmd_status::{Cause, Which};
 use disc_image::{Disc, DiscError, Kind};
 use std::alloc::Global;
 
-// The disc in a drive, if one is given.
+// Makes the disc in a drive, if one is given.
 #[tactic(auto, unfolding(crate::specs::Discs::disc_of))]
 fn disc_of(
     alloc: Global,
@@ -33,7 +33,7 @@ fn disc_of(
     }
 }
 
-/// The discs of both drives, by their kinds and their images.
+/// Makes the discs of both drives, by their kinds and their images.
 #[tactic(auto, unfolding(crate::specs::Discs::discs_of))]
 pub fn discs_of(
     alloc: Global,

@@ -7,7 +7,8 @@ ghost use Rattle.cmd_machines.specs.View.{seen_inputs};
 use cmd_words::Slot;
 use std::alloc::{AllocError, Global};
 
-/// The bytes that a command read, by what they are to it. What has to be there is empty where it wasn't read.
+/// The bytes that a command read, by their purpose. A required field is empty if its file wasn't
+/// read.
 #[derive(Drop)]
 pub struct Inputs {
     pub trace: Vec<u8>,
@@ -64,7 +65,7 @@ impl Inputs {
         Ok(())
     }
 
-    /// What was read, each in its place.
+    /// Makes the inputs of the bytes that were read, each in its place.
     #[tactic(auto, unfolding(crate::specs::Inputs::inputs_of))]
     pub fn of(alloc: Global, list: Vec<(Slot, Vec<u8>)>) -> Result<Inputs, AllocError>
         ensures { IfOk result (λ inputs. seen_inputs inputs ≡ inputs_of (map seen_input list.items)) }

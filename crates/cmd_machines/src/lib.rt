@@ -1,4 +1,5 @@
-//! What a command read, by what it is to it, and the machines at power-on that are made of it and of the devices that are plugged.
+//! The inputs of a command by their purpose, and the machines at power-on that are made from them
+//! and from the plugged devices.
 #![tactic(auto)]
 
 mod discs;

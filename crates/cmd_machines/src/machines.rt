@@ -1,4 +1,4 @@
-//! Both machines at power-on, of what a command read.
+//! Both machines at power-on, made from what a command read.
 ghost use Rattle.std.specs.Prelude.{◌≡◌, ◌<◌, All, Ok, Err, List, ℕ, map, IfOk, MatchResult};
 ghost use Rattle.host_mach.specs.Step.{host_moves};
 ghost use Rattle.host_mach.specs.View.{host_seen};
@@ -21,10 +21,10 @@ use host_mach::HostMachine;
 use para_mach::{ParaError, ParaMachine};
 use std::alloc::Global;
 
-/// The bytes of the operating system's image.
+/// The size of the operating system's image in bytes.
 const OS_SIZE: usize = 16_384;
 
-/// The second processor of this clock at power-on, with this boot ROM.
+/// Makes the second processor at power-on, with the given clock and boot ROM.
 #[tactic(auto, unfolding(crate::specs::Machines::rom_of))]
 pub fn machine_of(alloc: Global, clock: Clock, rom: Vec<u8>) -> Result<ParaMachine, Refusal<Cause>>
     ensures { let made = rom_of rom.items in
@@ -41,7 +41,7 @@ pub fn machine_of(alloc: Global, clock: Clock, rom: Vec<u8>) -> Result<ParaMachi
     }
 }
 
-// The operating system's image has its length.
+// Tests the length of the operating system's image.
 #[tactic(auto, unfolding(crate::specs::Machines::os_of))]
 fn test_os(os: &[u8]) -> Result<(), Refusal<Cause>>
     ensures { Gives (λ _. os.now) result (os_of os.now) }
@@ -56,7 +56,7 @@ fn test_os(os: &[u8]) -> Result<(), Refusal<Cause>>
     }
 }
 
-/// Both machines at power-on, as the words say.
+/// Makes both machines at power-on with the given setup.
 #[tactic(auto, unfolding(crate::specs::Machines::machines_of))]
 pub fn machines_of<D: BusDevice>(
     alloc: Global,

@@ -27,7 +27,7 @@ fn rom_cause(error: RomError) -> Cause
     }
 }
 
-/// The images, if each has a length that it may have.
+/// Makes the host's images, if each has an allowed length.
 #[tactic(auto, unfolding(crate::specs::Roms::roms_of))]
 pub fn roms_of(
     os: Vec<u8>,

@@ -10,7 +10,7 @@ use cmd_status::Cause;
 use key_script::{Script, ScriptError, read};
 use std::alloc::Global;
 
-// Why a script is refused.
+// Returns the refusal for an error in a script.
 fn script_refusal(error: ScriptError) -> Refusal<Cause>
     ensures { result ≡ script_refusal error }
 {
@@ -22,7 +22,7 @@ fn script_refusal(error: ScriptError) -> Refusal<Cause>
     }
 }
 
-/// The script of these bytes, an empty one where there are none.
+/// Returns the script of the bytes. Returns an empty script if there are none.
 #[tactic(auto, unfolding(crate::specs::Script::script_of))]
 pub fn script_of(alloc: Global, bytes: Option<Vec<u8>>) -> Result<Script, Refusal<Cause>>
     ensures { Gives (λ (events : List Event). events) result (script_of (option_map items bytes)) }

@@ -1,4 +1,4 @@
-//! A run as a session file holds it.
+//! A run in a session file.
 ghost use Rattle.std.specs.Prelude.{◌≡◌, ◌<◌, ◌≤◌, ◌++◌, All, IfOk, IfSome, length, Option, List, ℕ, option_copied, option_map, map};
 ghost use Rattle.cmd_stages.specs.View.{seen_input};
 ghost use Rattle.rom_set.specs.Roms.{roms_seen};
@@ -16,10 +16,10 @@ use disc_image::Kind;
 use save_state::{Blob, Saved};
 use std::alloc::{AllocError, Global};
 
-/// How many parts a session has.
+/// The number of parts of a session.
 const PARTS: usize = 22;
 
-// What the parts of a session are, in their order.
+// Returns the purposes of a session's parts, in order.
 #[tactic(auto, unfolding(crate::specs::Sessions::part_slots))]
 fn part_slots() -> [Slot; PARTS]
     ensures { result ≡ part_slots }
@@ -50,7 +50,7 @@ fn part_slots() -> [Slot; PARTS]
     ]
 }
 
-// A part of these bytes.
+// Makes a part of a copy of the bytes.
 fn blob_of(alloc: Global, bytes: &[u8]) -> Result<Blob, AllocError>
     ensures { IfOk result (λ blob. blob ≡ bytes.now) }
 {
@@ -58,7 +58,7 @@ fn blob_of(alloc: Global, bytes: &[u8]) -> Result<Blob, AllocError>
     Ok(Blob::new(bytes))
 }
 
-// A part that may be absent.
+// Makes a part that may be absent.
 fn if_read(alloc: Global, bytes: &Option<Vec<u8>>) -> Result<Option<Blob>, AllocError>
     ensures { IfOk result (λ (part : Option (List ℕ)). part ≡ option_map items bytes.now) }
 {
@@ -68,7 +68,7 @@ fn if_read(alloc: Global, bytes: &Option<Vec<u8>>) -> Result<Option<Blob>, Alloc
     }
 }
 
-// The ROM of a slot: of two for one slot the first.
+// Returns the ROM of a slot. Returns the first if two have the same slot.
 fn rom_of_slot(alloc: Global, roms: &[(u8, Vec<u8>)], slot: u8) -> Result<Option<Blob>, AllocError>
     ensures { IfOk result (λ (part : Option (List ℕ)). part ≡ rom_of_slot (roms_seen roms.now) slot) }
 {
@@ -80,7 +80,7 @@ fn rom_of_slot(alloc: Global, roms: &[(u8, Vec<u8>)], slot: u8) -> Result<Option
     Ok(None)
 }
 
-// The bytes that were read of a part, if they were.
+// Returns the bytes of a part, if they were read.
 fn part_of(alloc: Global, inputs: &Inputs, slot: Slot) -> Result<Option<Blob>, AllocError>
     ensures { IfOk result (λ (part : Option (List ℕ)). part ≡ part_of (seen_inputs inputs.now) slot) }
 {
@@ -96,7 +96,7 @@ fn part_of(alloc: Global, inputs: &Inputs, slot: Slot) -> Result<Option<Blob>, A
     }
 }
 
-// The parts of a session, of what was read.
+// Makes the parts of a session from the inputs.
 fn parts_of(alloc: Global, inputs: &Inputs) -> Result<Vec<Option<Blob>>, AllocError>
     ensures { IfOk result (λ parts. parts.items ≡ map (part_of (seen_inputs inputs.now)) part_slots) }
 {
@@ -108,7 +108,7 @@ fn parts_of(alloc: Global, inputs: &Inputs) -> Result<Vec<Option<Blob>>, AllocEr
     Ok(parts)
 }
 
-// A disc that is there is of a kind with two sides.
+// Returns true if a disc is present and its kind has two sides.
 fn has_two_sides(kind: Kind, bytes: &Option<Vec<u8>>) -> bool
     ensures { result ≡ has_two_sides kind (option_map items bytes.now) }
 {
@@ -118,8 +118,8 @@ fn has_two_sides(kind: Kind, bytes: &Option<Vec<u8>>) -> bool
     }
 }
 
-// What a run begins with, of what was read and of what the words say of the machines: a session of no ticks. The images and the script are
-// copied, since the machines are made of those that were read, and write on their discs.
+// Makes the beginning of a run from the setup and the inputs: a session of no ticks. The images and
+// the script are copied, since the machines use the originals and write to their discs.
 #[tactic(auto, unfolding(crate::specs::Sessions::begun))]
 fn begun<D: BusDevice>(
     alloc: Global,
@@ -141,8 +141,8 @@ fn begun<D: BusDevice>(
     })
 }
 
-/// What a run begins with that is to be saved under a name, of what was read and of what the words say of the machines: a session of no ticks.
-/// The images and the script are copied.
+/// Makes the beginning of a run, if its session is saved under a name: a session of no ticks. The
+/// images and the script are copied.
 pub(crate) fn begun_if<D: BusDevice>(
     alloc: Global,
     save: Option<&str>,
@@ -158,7 +158,7 @@ pub(crate) fn begun_if<D: BusDevice>(
     }
 }
 
-// Appends a part, if it is there, with what it is.
+// Appends a part with its purpose, if it is present.
 fn push_there(
     list: &mut Vec<(Slot, Vec<u8>)>,
     slot: Slot,
@@ -172,7 +172,7 @@ fn push_there(
     }
 }
 
-// The parts that are there, each with what it is.
+// Returns the parts that are present, each with its purpose.
 #[tactic(auto, using(crate::proofs::SessionLemmas::there_end))]
 fn there(alloc: Global, parts: Vec<Option<Blob>>) -> Result<Vec<(Slot, Vec<u8>)>, AllocError>
     ensures { IfOk result (λ v. map seen_input v.items ≡ there part_slots parts.items) }
@@ -189,7 +189,7 @@ fn there(alloc: Global, parts: Vec<Option<Blob>>) -> Result<Vec<(Slot, Vec<u8>)>
     Ok(list)
 }
 
-/// What the machines of a session are made of, of its parts.
+/// Makes the inputs of a session's machines from its parts.
 #[tactic(auto, unfolding(crate::specs::Sessions::inputs_in))]
 pub fn inputs_in(alloc: Global, parts: Vec<Option<Blob>>) -> Result<Inputs, AllocError>
     ensures inputs { (s : Session) → s.parts ≡ parts.items → IfOk result (λ i. seen_inputs i ≡ inputs_in s) }
@@ -207,8 +207,8 @@ fn kind_by(double: bool) -> Kind
     if double { Kind::Dsd } else { Kind::Ssd }
 }
 
-/// What a session says of the machines. Of these devices the first are plugged, as many as the session says, or all if they are fewer; the
-/// others are dropped.
+/// Makes the setup of a session's machines. The first `saved.plugs` devices of `plugs` are plugged,
+/// or all if they are fewer. The others are dropped.
 #[tactic(auto, unfolding(crate::specs::Sessions::setup_in), using(crate::proofs::PlugLemmas::first_plugs))]
 pub fn setup_in<D: BusDevice>(saved: &Saved, plugs: Vec<D>) -> Setup<D>
     requires { saved.now.plugs ≤ 8 }

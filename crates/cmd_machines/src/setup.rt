@@ -1,4 +1,4 @@
-//! What the words say of the machines.
+//! The setup of the machines, from the options.
 ghost use Rattle.std.specs.Prelude.{◌≡◌, ◌≤◌, map};
 
 use beeb_bits::Clock;
@@ -6,8 +6,8 @@ use bus_plug::BusDevice;
 use cmd_words::Given;
 use disc_image::Kind;
 
-/// The clock of the machines, the kinds of the discs in drive 0 and drive 1, how many devices are asked for, the devices that are plugged, and
-/// whether the host has a Tube.
+/// The setup of the machines: their clock, the kinds of the discs in drive 0 and drive 1, the
+/// number of devices asked for, and the plugged devices. `tube` is true if the host has a Tube.
 #[derive(Drop)]
 pub struct Setup<D> {
     pub clock: Clock,
@@ -23,8 +23,8 @@ impl<D: BusDevice> Setup<D> {
     ghost use Rattle.cmd_machines.specs.Setup.{setup_of};
     ghost use Rattle.cmd_machines.specs.View.{seen_setup};
 
-    /// What the options say. Of these devices the first are plugged, as many as the options say, or all if they are fewer; the others are
-    /// dropped.
+    /// Makes the setup from the options. The first `number` devices of `plugs` are plugged, or all
+    /// if they are fewer. The others are dropped.
     #[tactic(auto, using(crate::proofs::PlugLemmas::first_plugs))]
     pub fn of(given: &Given<'_>, plugs: Vec<D>) -> Setup<D>
         ensures { seen_setup D.plug result ≡ setup_of (seen_given given.now) (map D.plug plugs.items) }

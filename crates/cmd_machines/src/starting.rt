@@ -1,4 +1,4 @@
-//! Both machines at power-on, and what their run begins with.
+//! Both machines at power-on, and the beginning of their run.
 ghost use Rattle.std.specs.Prelude.{◌≡◌, ◌<◌, ◌≤◌, All, IfOk, IfSome, length, option_copied, option_map};
 ghost use Rattle.host_mach.specs.Step.{host_moves};
 ghost use Rattle.host_mach.specs.View.{host_seen};
@@ -23,7 +23,8 @@ use para_mach::ParaMachine;
 use save_state::Saved;
 use std::alloc::Global;
 
-/// Both machines at power-on, as the words say, and what their run begins with, where it is to be saved under a name.
+/// Makes both machines at power-on with the given setup, and the beginning of their run, if its
+/// session is saved under a name.
 pub fn started<D: BusDevice>(
     alloc: Global,
     save: Option<&str>,

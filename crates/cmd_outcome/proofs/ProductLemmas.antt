@@ -1,4 +1,4 @@
--- What machines leave, by the list of their outputs.
+-- The verdict of machines, by the list of their outputs.
 use Rattle.std.proofs.Common.{◌≡◌, refl, [], Result, Ok, Err, IfOk}
 use Rattle.std.specs.declared.vec.Vec.{Vec}
 use Rattle.std.specs.declared.alloc.Global.{Global}

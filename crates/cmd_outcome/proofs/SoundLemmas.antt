@@ -1,4 +1,4 @@
--- How many microseconds begin below a tick, by division.
+-- The number of microseconds that begin below a tick, by division.
 use Rattle.std.proofs.Common.{◌≡◌, refl, ℕ, zero, suc, arith}
 use Rattle.std.proofs.lemmas.Bool.Decides.{nat_tests}
 use Rattle.std.specs.Int.{div_ceil}

@@ -1,4 +1,5 @@
--- The file of each output: its name, by the names that are given, and its bytes. What is not there has no bytes.
+-- The file of each output: its name, made from the given names, and its bytes. An absent machine or
+-- part gives no bytes.
 use Rattle.std.specs.Prelude.{ℕ, ◌/◌, ◌%◌, List, [], ◌++◌, length, Option, Some, None, option_map, slice_get, unwrap_or, decimal, codes}
 use Rattle.beeb_bits.specs.declared.Side.{Side}
 use Rattle.beeb_bits.specs.declared.Side.TheVariants as sides
@@ -23,19 +24,20 @@ host_line s = record { regs = s.cpu.regs; stopped = halted s.cpu }
 abbrev pub para_line : ParaState → Line
 para_line s = record { regs = shown_regs s; stopped = s.bus.is_held }
 
--- the number of frames that shots took
+-- the number of frames taken by shots
 abbrev pub frame_count : HostState → ℕ
 frame_count s = length s.bus.bus.board.shots
 
 abbrev pub kept_count : Kept → ℕ
 kept_count k = k.count
 
--- The report: the lines of the machines that are there, the number of their accesses to the Tube, of those that are kept, and of frames.
+-- The report: the lines of the machines that are present, their number of Tube accesses, and the
+-- numbers of accesses kept and of frames.
 unfoldable pub report_text : Left → List ℕ
 report_text l =
     text l.ticks (option_map host_line l.host) (option_map para_line l.para) l.tube (option_map kept_count l.kept) (option_map frame_count l.host)
 
--- the bytes that a part makes, where it is there
+-- the bytes made of a part, if it is present
 abbrev pub bytes_in : {S : Type 0} → (S → List ℕ) → Option S → List ℕ
 bytes_in bytes None = []
 bytes_in bytes (Some s) = bytes s
@@ -50,18 +52,18 @@ abbrev pub ram_of : Side → Left → List ℕ
 ram_of sides.Host l = bytes_in host_ram l.host
 ram_of sides.Para l = bytes_in para_ram l.para
 
--- a disc as the machine leaves it: exactly its bytes
+-- the disc's image at the end of the run: exactly its bytes
 abbrev pub image_bytes : Image → List ℕ
 image_bytes disc = disc.bytes
 
 abbrev pub disc_bytes : ℕ → HostState → List ℕ
 disc_bytes drive s = bytes_in image_bytes (bus_disc drive s.bus.bus)
 
--- a frame that a shot took: a pixmap
+-- the pixmap of a frame taken by a shot
 abbrev pub frame_bytes : ℕ → HostState → List ℕ
 frame_bytes number s = bytes_in pixmap (slice_get s.bus.bus.board.shots number)
 
--- what a plugged device spills
+-- the bytes that a plugged device spills
 abbrev pub plug_bytes : ℕ → HostState → List ℕ
 plug_bytes number s = bytes_in plug_spills (slice_get s.bus.bus.plugs number)
 
@@ -72,7 +74,7 @@ trace_text k = k.trace
 abbrev pub three_digits : ℕ → List ℕ
 three_digits number = decimal (number / 100) ++ (decimal (number / 10 % 10) ++ decimal (number % 10))
 
--- how the name of a machine's memory goes on
+-- the suffix of the name of a machine's memory
 abbrev pub memory_name : Side → List ℕ
 memory_name sides.Host = codes ".host"
 memory_name sides.Para = codes ".para"
@@ -80,7 +82,7 @@ memory_name sides.Para = codes ".para"
 abbrev pub frame_name : List ℕ → ℕ → List ℕ
 frame_name out number = out ++ (codes "." ++ (three_digits number ++ codes ".ppm"))
 
--- a name of its own that an output is given
+-- the name given for one output alone
 abbrev pub own_name : Option (List ℕ) → List ℕ
 own_name name = unwrap_or name []
 
@@ -96,5 +98,5 @@ file_of l Sound = (own_name l.names.wav, bytes_in (sound_bytes l.clock l.ticks) 
 file_of l Session = (own_name l.names.save, unwrap_or l.saved [])
 file_of l Listing = (l.names.out ++ codes ".list", l.bytes)
 file_of l Counts = (l.names.out ++ codes ".counts", unwrap_or l.counts [])
--- under the given name itself
+-- under the given name without a suffix
 file_of l Bytes = (l.names.out, l.bytes)

@@ -1,19 +1,19 @@
--- The names that the words give for outputs.
+-- The names given for outputs.
 use Rattle.std.specs.Prelude.{ℕ, List, Option, None}
 use Rattle.cmd_words.specs.Given.{Values, wav_of, save_of}
 
--- names are lists of bytes
+-- Names are lists of bytes.
 pub record Names : Type 0 where
-  -- that of all outputs without a name of their own
+  -- the name of all outputs without one of their own
   pub out : List ℕ
-  -- that of the sound file, if one is asked for
+  -- the name of the sound file, if given
   pub wav : Option (List ℕ)
-  -- that of the session file, if one is to be saved
+  -- the name of the session file, if given
   pub save : Option (List ℕ)
 
 abbrev pub names_of : List ℕ → Values → Names
 names_of out given = record { out = out; wav = wav_of given; save = save_of given }
 
--- no output has a name of its own
+-- one name for all outputs
 abbrev pub one_name : List ℕ → Names
 one_name out = record { out = out; wav = None; save = None }

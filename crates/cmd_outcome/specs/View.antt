@@ -1,4 +1,4 @@
--- What the code holds, as the definitions see it.
+-- The program's values, as the definitions see them.
 use Rattle.std.specs.Prelude.{ℕ, List, option_map, option_copied}
 use Rattle.std.specs.declared.vec.Vec.{Vec}
 use Rattle.std.specs.declared.alloc.Global.{Global}
@@ -25,7 +25,8 @@ names_seen n = record { out = n.out.now; wav = option_copied n.wav; save = optio
 abbrev pub kept_seen : Kept → lefts.Kept
 kept_seen k = record { count = k.count; trace = k.trace.items }
 
--- what a command left, by what its plugged devices are: of the host, as far as its devices are stepped
+-- the final state of a command; plug gives the view of a plugged device, and the host's devices are
+-- at the step that they have reached
 abbrev pub left_seen : {D : Type 0} → (D → Plug) → Left D → lefts.Left
 left_seen plug l = record {
   names = names_seen l.names;
@@ -40,6 +41,6 @@ left_seen plug l = record {
   bytes = l.bytes.items;
 }
 
--- the verdict of what came of a command, by what its plugged devices are
+-- the verdict of a command's outcome; plug gives the view of a plugged device
 abbrev pub verdict_of : {D : Type 0} → (D → Plug) → Outcome Ending Output (Left D) → Verdict Ending
 verdict_of plug o = stages.verdict_of (λ l. file_of (left_seen plug l)) o

@@ -9,7 +9,7 @@ use bus_plug::BusDevice;
 use host_mach::HostMachine;
 use std::alloc::{AllocError, Global};
 
-/// The bytes of the disc in a drive, none where there is no disc.
+/// Returns the bytes of the disc in a drive. Returns no bytes if there is no disc.
 pub(crate) fn disc_bytes<D: BusDevice>(host: &HostMachine<D>, drive: u8) -> &[u8]
     ensures { result.now ≡ disc_bytes drive (host_stepped D.plug host.now) }
 {
@@ -19,7 +19,7 @@ pub(crate) fn disc_bytes<D: BusDevice>(host: &HostMachine<D>, drive: u8) -> &[u8
     }
 }
 
-/// Appends the discs that are there.
+/// Appends the discs that are present.
 pub(crate) fn push_discs<D: BusDevice>(
     outputs: &mut Vec<Output>,
     host: &HostMachine<D>,

@@ -20,7 +20,7 @@ use host_mach::HostMachine;
 use std::alloc::{AllocError, Global};
 use std::borrow::CowSlice;
 
-// The bytes of the disc in a drive of the host.
+// Returns the bytes of the disc in a drive of the host.
 fn disc_in<D: BusDevice>(host: &Option<HostMachine<D>>, drive: u8) -> &[u8]
     ensures { result.now ≡ bytes_in (disc_bytes drive) (option_map (host_stepped D.plug) host.now) }
 {
@@ -30,7 +30,7 @@ fn disc_in<D: BusDevice>(host: &Option<HostMachine<D>>, drive: u8) -> &[u8]
     }
 }
 
-// The pixmap of a frame of the host.
+// Returns the pixmap of a frame of the host.
 fn frame_in<D: BusDevice>(
     alloc: Global,
     host: &Option<HostMachine<D>>,
@@ -44,7 +44,7 @@ fn frame_in<D: BusDevice>(
     }
 }
 
-// What a plugged device of the host spills.
+// Returns the bytes that a plugged device of the host spills.
 fn plug_in<D: BusDevice>(
     alloc: Global,
     host: &Option<HostMachine<D>>,
@@ -58,7 +58,7 @@ fn plug_in<D: BusDevice>(
     }
 }
 
-// The trace of what is kept.
+// Returns the trace of the accesses kept.
 fn trace_in(kept: &Option<Kept>) -> &[u8]
     ensures { result.now ≡ bytes_in trace_text (option_map kept_seen kept.now) }
 {
@@ -68,7 +68,7 @@ fn trace_in(kept: &Option<Kept>) -> &[u8]
     }
 }
 
-// Bytes that may be there: the session file of a run that is to be saved, and what is counted of the starts.
+// Returns bytes that may be absent: the session file of a run, or the counts of instruction starts.
 fn bytes_there(there: &Option<Vec<u8>>) -> &[u8]
     ensures { result.now ≡ unwrap_or (option_map items there.now) [] }
 {
@@ -78,7 +78,7 @@ fn bytes_there(there: &Option<Vec<u8>>) -> &[u8]
     }
 }
 
-// What is heard of the host.
+// Returns the sound of the host.
 fn sound_in<D: BusDevice>(alloc: Global, left: &Left<'_, D>) -> Result<Vec<u8>, AllocError>
     ensures { let there = option_map (host_stepped D.plug) left.now.host in
         IfOk result (λ v. v.items ≡ bytes_in (sound_bytes left.now.clock left.now.ticks.0) there) }

@@ -1,4 +1,4 @@
-//! The frames that shots took.
+//! The frames taken by shots.
 ghost use Rattle.std.specs.Prelude.{◌≡◌, ◌++◌, IfOk, string_bytes};
 ghost use Rattle.frame_out.specs.Pixmap.{pixmap};
 ghost use Rattle.host_mach.specs.View.{host_stepped};
@@ -12,7 +12,7 @@ use host_mach::HostMachine;
 use raster::Frame;
 use std::alloc::{AllocError, Global};
 
-// A number below 1000 in three digits.
+// Returns a number below 1000 in three digits.
 fn three_digits(alloc: Global, number: usize) -> Result<String, AllocError>
     ensures { IfOk result (λ text. string_bytes text ≡ three_digits number) }
 {
@@ -20,7 +20,7 @@ fn three_digits(alloc: Global, number: usize) -> Result<String, AllocError>
     format!(in alloc; "{hundreds}{tens}{ones}")
 }
 
-/// The name of the frame of this number: `OUT.000.ppm` and so on.
+/// Returns the name of the frame of this number: `OUT.000.ppm` and so on.
 pub(crate) fn frame_name(alloc: Global, out: &str, number: usize) -> Result<String, AllocError>
     ensures { IfOk result (λ name. string_bytes name ≡ frame_name out.now number) }
 {
@@ -28,7 +28,7 @@ pub(crate) fn frame_name(alloc: Global, out: &str, number: usize) -> Result<Stri
     format!(in alloc; "{out}.{digits}.ppm")
 }
 
-// The pixmap of a frame.
+// Returns the pixmap of a frame.
 fn picture(alloc: Global, frame: &Frame) -> Result<Vec<u8>, AllocError>
     ensures { IfOk result (λ v. v.items ≡ pixmap frame.now) }
 {
@@ -36,7 +36,7 @@ fn picture(alloc: Global, frame: &Frame) -> Result<Vec<u8>, AllocError>
     Ok(bytes)
 }
 
-/// The pixmap of the frame of this number, no bytes where there is none.
+/// Returns the pixmap of the frame of this number. Returns no bytes if there is none.
 pub(crate) fn frame_bytes<D: BusDevice>(
     alloc: Global,
     host: &HostMachine<D>,
@@ -50,7 +50,7 @@ pub(crate) fn frame_bytes<D: BusDevice>(
     }
 }
 
-/// Appends this many frames, numbered from 0.
+/// Appends `count` frames, numbered from 0.
 pub(crate) fn push_frames(outputs: &mut Vec<Output>, count: usize) -> Result<(), AllocError>
     ensures { IfOk result (λ _. outputs.new.items ≡ outputs.old.items ++ frames count) }
 {

@@ -1,4 +1,4 @@
-//! What a command leaves, of which the files of its outputs are made.
+//! The final state of a command, from which the files of its outputs are made.
 ghost use Rattle.std.specs.Prelude.{◌≤◌};
 
 use crate::names::Names;
@@ -7,33 +7,33 @@ use bus_plug::BusDevice;
 use host_mach::HostMachine;
 use para_mach::ParaMachine;
 
-/// The accesses that are kept.
+/// The accesses kept.
 #[derive(Drop)]
 pub struct Kept {
-    /// How many they are.
+    /// The number of accesses kept.
     pub count: u64,
-    /// Their trace.
+    /// The trace of the accesses kept.
     pub trace: Vec<u8>,
 }
 
-/// What a command leaves.
+/// The final state of a command.
 #[derive(Drop)]
 pub struct Left<'a, D> {
     pub names: Names<'a>,
     pub clock: Clock,
     pub ticks: Tick,
-    /// How many accesses to the Tube the machines that are there had.
+    /// The number of Tube accesses of the machines that are present.
     pub tube: u64,
-    /// The host where it ended, as far as its devices are stepped.
+    /// The host at its end, with its devices at the step that they have reached.
     pub host: Option<HostMachine<D>>,
-    /// The second processor where it ended.
+    /// The second processor at its end.
     pub para: Option<ParaMachine>,
     pub kept: Option<Kept>,
-    /// The session file of the run, if it is to be saved.
+    /// The session file of the run, if it is saved.
     pub saved: Option<Vec<u8>>,
-    /// What is counted of the starts of instructions, if it is asked for.
+    /// The counts of instruction starts, if they are written.
     pub counts: Option<Vec<u8>>,
-    /// Bytes that are an output by themselves.
+    /// The bytes of an output without a machine.
     pub bytes: Vec<u8>,
     ghost most: { ticks.0 ≤ 1073741824 },
 }

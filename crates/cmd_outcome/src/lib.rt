@@ -1,4 +1,5 @@
-//! What comes of a command: how it ends, what it says, and its outputs as data, the file of each made when its turn comes.
+//! The outcome of a command: its ending, its text, and its outputs as data. The file of each output
+//! is made just before it is written.
 #![tactic(auto)]
 
 mod discs;

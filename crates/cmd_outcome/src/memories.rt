@@ -12,7 +12,7 @@ use para_mach::ParaMachine;
 use report::{Line, text};
 use std::alloc::{AllocError, Global};
 
-// The host's line in a report.
+// Returns the host's line in a report.
 fn host_line<D: BusDevice>(there: &Option<HostMachine<D>>) -> Option<Line>
     ensures { result ≡ option_map host_line (option_map (host_stepped D.plug) there.now) }
 {
@@ -25,7 +25,7 @@ fn host_line<D: BusDevice>(there: &Option<HostMachine<D>>) -> Option<Line>
     }
 }
 
-// The second processor's line in a report.
+// Returns the second processor's line in a report.
 fn para_line(para: &Option<ParaMachine>) -> Option<Line>
     ensures { result ≡ option_map para_line para.now }
 {
@@ -38,7 +38,7 @@ fn para_line(para: &Option<ParaMachine>) -> Option<Line>
     }
 }
 
-// How many frames the host has.
+// Returns the number of frames that the host has.
 fn frame_count<D: BusDevice>(host: &Option<HostMachine<D>>) -> Option<u64>
     ensures { result ≡ option_map frame_count (option_map (host_stepped D.plug) host.now) }
 {
@@ -48,7 +48,7 @@ fn frame_count<D: BusDevice>(host: &Option<HostMachine<D>>) -> Option<u64>
     }
 }
 
-// How many accesses are kept.
+// Returns the number of accesses kept.
 fn kept_count(kept: &Option<Kept>) -> Option<u64>
     ensures { result ≡ option_map kept_count (option_map kept_seen kept.now) }
 {
@@ -58,7 +58,7 @@ fn kept_count(kept: &Option<Kept>) -> Option<u64>
     }
 }
 
-/// The text of the report.
+/// Returns the text of the report.
 #[tactic(auto, unfolding(crate::specs::Files::report_text))]
 pub(crate) fn report_text<D: BusDevice>(
     alloc: Global,
@@ -74,7 +74,7 @@ pub(crate) fn report_text<D: BusDevice>(
     Ok(bytes)
 }
 
-/// The memory of a machine, no bytes where it is not there.
+/// Returns the memory of a machine. Returns no bytes if it is absent.
 pub(crate) fn ram_of<'l, D: BusDevice>(left: &'l Left<'_, D>, side: Side) -> &'l [u8]
     ensures { result.now ≡ ram_of side (left_seen D.plug left.now) }
 {

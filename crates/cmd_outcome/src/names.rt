@@ -1,4 +1,4 @@
-//! The names that the words give for outputs.
+//! The names given for outputs.
 ghost use Rattle.std.specs.Prelude.{◌≡◌};
 ghost use Rattle.cmd_words.specs.View.{seen_given};
 ghost use Rattle.cmd_outcome.specs.Names.{names_of};
@@ -9,16 +9,16 @@ use cmd_words::Given;
 /// The names of a command's outputs.
 #[derive(Clone, Copy)]
 pub struct Names<'a> {
-    /// That of all outputs without a name of their own.
+    /// The name of all outputs without one of their own.
     pub out: &'a str,
-    /// That of the sound file, if one is asked for.
+    /// The name of the sound file, if given.
     pub wav: Option<&'a str>,
-    /// That of the session file, if one is to be saved.
+    /// The name of the session file, if given.
     pub save: Option<&'a str>,
 }
 
 impl<'a> Names<'a> {
-    /// The names that the words give.
+    /// Makes the names from the options.
     pub fn of(out: &'a str, given: &Given<'a>) -> Names<'a>
         ensures { names_seen result ≡ names_of out.now (seen_given given.now) }
     {

@@ -1,8 +1,8 @@
 //! The outputs that a command may have.
 use beeb_bits::Side;
 
-/// An output: which file it is, without its bytes. `OUT` is the name that is given for all that have none of
-/// their own.
+/// An output of a command, without its bytes. `OUT` is the name given for all outputs without one
+/// of their own.
 #[derive(Clone, Copy, Debug, PartialEq, Eq)]
 pub enum Output {
     /// `OUT.report`
@@ -13,18 +13,18 @@ pub enum Output {
     Disc(u8),
     /// `OUT.000.ppm` and so on: a frame, by its number.
     Frame(usize),
-    /// `OUT.trace`: what is kept of the accesses to the Tube.
+    /// `OUT.trace`: the accesses to the Tube that are kept.
     Trace,
-    /// `OUT.plug0` and so on: what a plugged device spills.
+    /// `OUT.plug0` and so on: the bytes that a plugged device spills.
     Plug(usize),
-    /// The name that `--wav` gives: what is heard of the host's writes to its sound chip.
+    /// The name given by `--wav`: the sound of the host's writes to its sound chip.
     Sound,
-    /// The name that `--save` gives: the run as a session file.
+    /// The name given by `--save`: the run as a session file.
     Session,
-    /// `OUT.list`: a listing of instructions, made before.
+    /// `OUT.list`: a listing of instructions, whose bytes are stored.
     Listing,
-    /// `OUT.counts`: what is counted of the starts of instructions.
+    /// `OUT.counts`: the counts of instruction starts.
     Counts,
-    /// `OUT`: bytes that were made before.
+    /// `OUT`: bytes that are stored.
     Bytes,
 }

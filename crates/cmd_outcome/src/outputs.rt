@@ -1,4 +1,4 @@
-//! Which outputs the machines have.
+//! The outputs of the machines.
 ghost use Rattle.std.specs.Prelude.{◌≡◌, ◌++◌, IfOk, option_map, is_some, List};
 ghost use Rattle.host_mach.specs.View.{host_stepped};
 ghost use Rattle.host_mach.specs.State.{HostState};
@@ -15,7 +15,7 @@ use bus_plug::BusDevice;
 use host_mach::HostMachine;
 use std::alloc::{AllocError, Global};
 
-// Appends an output, if what it is made of is there.
+// Appends an output, if its source is present.
 fn push_if<T>(outputs: &mut Vec<Output>, output: Output, part: &Option<T>) -> Result<(), AllocError>
     ensures { IfOk result (λ _. outputs.new.items ≡ outputs.old.items ++ if_there output part.now) }
 {
@@ -25,7 +25,7 @@ fn push_if<T>(outputs: &mut Vec<Output>, output: Output, part: &Option<T>) -> Re
     }
 }
 
-// Appends the discs and the frames of the host, if it is there.
+// Appends the discs and the frames of the host, if it is present.
 fn push_media<D: BusDevice>(
     outputs: &mut Vec<Output>,
     host: &Option<HostMachine<D>>,
@@ -42,7 +42,7 @@ fn push_media<D: BusDevice>(
     }
 }
 
-// Appends the plugged devices of the host, if it is there.
+// Appends the plugged devices of the host, if it is present.
 fn push_spills<D: BusDevice>(
     outputs: &mut Vec<Output>,
     host: &Option<HostMachine<D>>,
@@ -56,7 +56,7 @@ fn push_spills<D: BusDevice>(
     }
 }
 
-/// The outputs of the machines that are there, in the order in which they are written.
+/// Returns the outputs of the machines that are present, in the order in which they are written.
 #[tactic(auto, unfolding(crate::specs::Outputs::machine_outputs))]
 pub(crate) fn machine_outputs<D: BusDevice>(
     alloc: Global,

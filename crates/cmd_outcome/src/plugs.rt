@@ -1,4 +1,4 @@
-//! What the plugged devices spill.
+//! The bytes that the plugged devices spill.
 ghost use Rattle.std.specs.Prelude.{◌≡◌, ◌++◌, IfOk};
 ghost use Rattle.bus_plug.specs.Plug.{plug_spills};
 ghost use Rattle.host_mach.specs.View.{host_stepped};
@@ -10,7 +10,7 @@ use bus_plug::BusDevice;
 use host_mach::HostMachine;
 use std::alloc::{AllocError, Global};
 
-// What a device spills.
+// Returns the bytes that a device spills.
 fn spilled<D: BusDevice>(alloc: Global, plug: &D) -> Result<Vec<u8>, AllocError>
     ensures { IfOk result (λ v. v.items ≡ plug_spills (D.plug plug.now)) }
 {
@@ -19,7 +19,8 @@ fn spilled<D: BusDevice>(alloc: Global, plug: &D) -> Result<Vec<u8>, AllocError>
     Ok(bytes)
 }
 
-/// What the plugged device of this number spills, no bytes where there is none.
+/// Returns the bytes that the plugged device of this number spills. Returns no bytes if there is
+/// none.
 pub(crate) fn plug_bytes<D: BusDevice>(
     alloc: Global,
     host: &HostMachine<D>,
@@ -33,7 +34,7 @@ pub(crate) fn plug_bytes<D: BusDevice>(
     }
 }
 
-/// Appends this many plugged devices, numbered from 0.
+/// Appends `count` plugged devices, numbered from 0.
 pub(crate) fn push_plugs(outputs: &mut Vec<Output>, count: usize) -> Result<(), AllocError>
     ensures { IfOk result (λ _. outputs.new.items ≡ outputs.old.items ++ plugs count) }
 {

@@ -1,4 +1,4 @@
-//! What comes of a command.
+//! The outcome of a command.
 ghost use Rattle.std.specs.Prelude.{◌≡◌, IfOk, Ok, [], option_map};
 ghost use Rattle.cmd_status.specs.declared.status.Ending.TheVariants.{Done};
 ghost use Rattle.cmd_outcome.specs.View.{items, left_seen, names_seen, verdict_of};
@@ -14,10 +14,11 @@ use bus_plug::BusDevice;
 use cmd_status::Ending;
 use std::alloc::{AllocError, Global};
 
-/// What comes of a command: how it ends, its outputs, its text, and what it leaves.
+/// The outcome of a command: its ending, its outputs, its text, and its final state.
 pub type Outcome<'a, D> = cmd_stages::Outcome<Ending, Output, Left<'a, D>>;
 
-// Bytes under a name, with what is counted, if it is, and no machine.
+// Makes the final state of a command without a machine: bytes under a name, and the counts, if they
+// are written.
 fn bytes_left<'a, D: BusDevice>(
     out: &'a str,
     bytes: Vec<u8>,
@@ -45,7 +46,7 @@ fn bytes_left<'a, D: BusDevice>(
     }
 }
 
-/// A text alone.
+/// Makes the outcome of a text and no files.
 pub fn said_outcome<'a, D: BusDevice>(
     alloc: Global,
     ending: Ending,
@@ -61,7 +62,8 @@ pub fn said_outcome<'a, D: BusDevice>(
     }
 }
 
-/// The file of a listing with these bytes, that of what is counted, if it is, and a text.
+/// Makes the outcome of a listing: its file with `bytes`, that of the counts, if they are written,
+/// and a text.
 pub fn listing_outcome<'a, D: BusDevice>(
     alloc: Global,
     out: &'a str,
@@ -93,7 +95,7 @@ pub fn listing_outcome<'a, D: BusDevice>(
     }
 }
 
-/// One file of this name with these bytes.
+/// Makes the outcome of one file with the given name and bytes.
 pub fn file_outcome<'a, D: BusDevice>(
     alloc: Global,
     out: &'a str,
@@ -111,8 +113,8 @@ pub fn file_outcome<'a, D: BusDevice>(
     })
 }
 
-// These outputs of what is left, if there was memory for their list. It knows no machine, since a proof over anything that is left goes through no
-// machine's parts.
+// Makes the outcome of outputs and a final state, if there was memory for the list of outputs. The
+// function is generic over the final state, so that its proof does not unfold the machines.
 fn with_outputs<L: Drop>(
     alloc: Global,
     outputs: Result<Vec<Output>, AllocError>,
@@ -133,7 +135,7 @@ fn with_outputs<L: Drop>(
     }
 }
 
-/// What machines leave where they ended.
+/// Makes the outcome of the machines' final states.
 #[tactic(auto, unfolding(crate::specs::Verdicts::machine_verdict))]
 pub fn machine_outcome<'a, D: BusDevice>(
     alloc: Global,

@@ -1,4 +1,4 @@
-//! What is heard of the host.
+//! The sound of the host.
 ghost use Rattle.std.specs.Prelude.{◌≡◌, ◌≤◌, ◌^◌, IfOk};
 ghost use Rattle.beeb_bits.specs.Clock.{micro};
 ghost use Rattle.sn76489.specs.Samples.{NeverFallFrom};
@@ -12,7 +12,7 @@ use sn76489::{SoundWrite, render, wav};
 use std::alloc::{AllocError, Global};
 use tube_party::MOST;
 
-// How many microseconds begin below tick `n`.
+// Returns the number of microseconds that begin below tick `n`.
 fn microseconds_below(clock: Clock, n: Tick) -> u64
     requires { n.0 ≤ MOST }
     ensures value { result ≡ microseconds_below (micro clock) n.0 }
@@ -21,7 +21,7 @@ fn microseconds_below(clock: Clock, n: Tick) -> u64
     n.0.div_ceil(clock.micro())
 }
 
-// The sound file of these writes after a run of so many ticks.
+// Makes the sound file of the writes after a run of `ticks`.
 #[tactic(auto, unfolding(crate::specs::Sound::sound_file))]
 fn sound_file(
     alloc: Global,
@@ -38,7 +38,7 @@ fn sound_file(
     Ok(bytes)
 }
 
-/// The sound file of a host after a run of so many ticks.
+/// Makes the sound file of a host after a run of `ticks`.
 pub(crate) fn sound_bytes<D: BusDevice>(
     alloc: Global,
     clock: Clock,

@@ -1,4 +1,4 @@
-//! The trace that a command reads, and the answer of a line that the chip would not give.
+//! The trace that a command reads, and the outcome of a line whose answer is not the chip's.
 ghost use Rattle.std.specs.Prelude.{◌≡◌, All, IfOk};
 ghost use Rattle.tube_trace.specs.Entries.{IsEntry};
 ghost use Rattle.cmd_stages.specs.View.{Gives};
@@ -25,7 +25,7 @@ fn wrong_text(alloc: Global, line: u64, byte: u8) -> Result<Vec<u8>, AllocError>
     Ok(text)
 }
 
-// Why a trace is refused.
+// Returns the refusal for an error in a trace.
 fn refusal_of(error: TraceError) -> Refusal<Cause>
     ensures { result ≡ refusal_of error }
 {
@@ -36,7 +36,7 @@ fn refusal_of(error: TraceError) -> Refusal<Cause>
     }
 }
 
-/// The trace of these bytes, of either clock.
+/// Returns the trace of the bytes, with its clock.
 #[tactic(auto, unfolding(crate::specs::Trace::trace_of))]
 pub fn trace_of(alloc: Global, bytes: &[u8]) -> Result<Trace, Refusal<Cause>>
     ensures told { Gives (λ t. (t.clock, t.entries.items)) result (trace_of bytes.now) }
@@ -46,7 +46,7 @@ pub fn trace_of(alloc: Global, bytes: &[u8]) -> Result<Trace, Refusal<Cause>>
     Ok(trace)
 }
 
-// The entries of a trace that has to be of this clock.
+// Returns the entries of a trace if it has the given clock.
 fn if_same(clock: Clock, trace: Trace) -> Result<Vec<Entry>, Refusal<Cause>>
     ensures told { Gives (λ v. v.items) result (if_same clock (trace.clock, trace.entries.items)) }
     ensures entries { IfOk result (λ v. v.items ≡ trace.entries.items) }
@@ -58,7 +58,7 @@ fn if_same(clock: Clock, trace: Trace) -> Result<Vec<Entry>, Refusal<Cause>>
     }
 }
 
-/// The entries of the bytes of a trace, which has to be of this clock.
+/// Returns the entries of the bytes of a trace, which must have the given clock.
 #[tactic(auto, unfolding(crate::specs::Trace::entries_of))]
 pub fn entries_of(alloc: Global, clock: Clock, bytes: &[u8]) -> Result<Vec<Entry>, Refusal<Cause>>
     ensures told { Gives (λ v. v.items) result (entries_of clock bytes.now) }
@@ -68,7 +68,7 @@ pub fn entries_of(alloc: Global, clock: Clock, bytes: &[u8]) -> Result<Vec<Entry
     if_same(clock, trace)
 }
 
-/// The chip would not give the answer of a line, but this byte.
+/// Makes the outcome of a line for which the chip gives `byte` as the answer.
 pub fn wrong_outcome<'a, D: BusDevice>(
     alloc: Global,
     line: u64,

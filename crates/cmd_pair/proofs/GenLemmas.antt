@@ -1,4 +1,4 @@
--- Want of memory, of which a promise says nothing.
+-- NoMemory, about which a promise says nothing.
 use Rattle.std.proofs.Common.{◌≡◌, Result, Ok, Err, IsErrAnd}
 use Rattle.cmd_stages.specs.declared.stop.Refusal.{Refusal}
 use Rattle.cmd_stages.specs.declared.stop.Refusal.TheVariants.{Cause, NoMemory}

@@ -1,5 +1,5 @@
--- What the code holds, as the definitions see it.
+-- The program's values, as the definitions see them.
 
--- what is taken for nothing but that it is there
+-- the view of a value that ignores its content
 abbrev pub nothing : {X : Type 0} → X → Unit {0}
 nothing x = tt

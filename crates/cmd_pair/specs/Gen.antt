@@ -23,30 +23,30 @@ use Rattle.cmd_machines.specs.Setup.{Setup, setup}
 use Rattle.cmd_outcome.specs.Verdicts.{said_verdict}
 use Rattle.cmd_machines.specs.Machines.{machines_of}
 
--- Both programs have images, so that this refusal never comes.
+-- Both programs have images, so this refusal never occurs.
 abbrev pub no_image : AsmError → Refusal Cause
 no_image error = refusals.NoMemory
 
--- the images of the pair, and nothing else
+-- the images of the pair, without other inputs
 abbrev pub pair_inputs : List ℕ → List ℕ → Inputs
 pair_inputs os tube = record no_inputs { os = os; tube = tube }
 
--- what stands before the sum and behind it
+-- the text before the sum, and the text after it
 unfoldable pub before_sum : ℕ → List ℕ
 before_sum seed = codes "seed " ++ decimal seed ++ codes "\nbytes 4096\nsum "
 
 unfoldable pub behind_sum : List ℕ
 behind_sum = codes "\nticks 1000000\n"
 
--- Four lines: the seed, the number of bytes that are sent, their sum as the host keeps it, its high byte at 0071 and its low byte at 0070,
--- and the ticks.
+-- Four lines: the seed; the number of bytes sent; their sum, which the host stores with its high
+-- byte at 0071 and its low byte at 0070; and the ticks.
 abbrev pub summary : ℕ → List ℕ → List ℕ
 summary seed ram = before_sum seed ++ hex_digits 2 (slice_index ram 0x71) ++ hex_digits 2 (slice_index ram 0x70) ++ behind_sum
 
 abbrev pub gen_verdict : ℕ → HostState → Verdict Ending
 gen_verdict seed s = said_verdict Done (summary seed s.bus.bus.board.ram)
 
--- a second processor at 3 MHz, and nothing plugged
+-- a second processor at 3 MHz, and no plugged devices
 abbrev pub gen_setup : Setup
 gen_setup = setup Three (Ssd, Ssd) 0 [] true
 
@@ -54,7 +54,8 @@ gen_setup = setup Three (Ssd, Ssd) 0 [] true
 unfoldable pub gen_ticks : ℕ
 gen_ticks = 1000000
 
--- The reference run of both machines from power-on, with the images of the pair, no discs, no script and no plugged devices.
+-- The reference run of both machines from power-on, with the images of the pair, and without discs,
+-- script and plugged devices.
 unfoldable pub gen_after : ℕ → Result (Verdict Ending) (Refusal Cause)
 gen_after seed =
     or_refusal no_image (image_of (source Nmos host_text))

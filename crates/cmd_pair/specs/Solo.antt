@@ -1,4 +1,5 @@
--- `solo TICKS OUT --os NAME --tube NAME` and `run` with the same words, and options: both machines at the Tube, by the reference run.
+-- `solo` and `run`, each with `TICKS OUT --os NAME --tube NAME` and options: both machines at the
+-- Tube, by the reference run.
 use Rattle.std.specs.Prelude.{ℕ, Result, Ok}
 use Rattle.tube_party.specs.Reference.{reference}
 use Rattle.host_mach.specs.Step.{host_moves}

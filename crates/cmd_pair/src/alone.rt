@@ -7,7 +7,8 @@ use beeb_bits::Tick;
 use std::alloc::{AllocError, Global};
 use tube_party::{Done, MOST, Party, Rewinds, solo};
 
-/// Two parties where their run ended. It stands apart from the machines, since a proof over any two parties goes through no machine's parts.
+/// Runs two parties on one thread. The function is generic over the parties, so that its proof does
+/// not unfold the machines.
 pub(crate) fn run_alone<H: Party, P: Rewinds>(
     alloc: Global,
     host: H,

@@ -18,10 +18,10 @@ use disc_image::Kind;
 use std::alloc::{AllocError, Global};
 use tube_party::MOST;
 
-/// Where the host keeps the low byte and the high byte of the sum.
+/// The addresses of the low byte and the high byte of the sum in the host.
 const SUM: (usize, usize) = (0x70, 0x71);
 
-// The ticks of the run. They are what a call answers, so that no proof goes through them one by one.
+// Returns the ticks of the run. As the result of a call, the number is not unfolded in proofs.
 #[tactic(auto, unfolding(crate::specs::Gen::gen_ticks))]
 fn gen_ticks() -> u64
     ensures ticks { result ≡ gen_ticks }
@@ -30,7 +30,7 @@ fn gen_ticks() -> u64
     1_000_000
 }
 
-// The images as the bytes that a command read.
+// Makes the inputs of a command from the images.
 fn pair_inputs(alloc: Global, demo: Demo) -> Inputs
     ensures { seen_inputs result ≡ pair_inputs demo.os.items demo.tube.items }
 {
@@ -65,7 +65,7 @@ fn push_behind_sum(text: &mut Vec<u8>) -> Result<(), AllocError>
     text.extend_from_slice(b"\nticks 1000000\n")
 }
 
-// The four lines of the summary, by the host's memory.
+// Makes the four lines of the summary from the host's memory.
 fn summary(alloc: Global, seed: u64, ram: &[u8]) -> Result<Vec<u8>, AllocError>
     ensures { IfOk result (λ v. v.items ≡ summary seed ram.now) }
 {
@@ -76,7 +76,7 @@ fn summary(alloc: Global, seed: u64, ram: &[u8]) -> Result<Vec<u8>, AllocError>
     Ok(text)
 }
 
-/// What comes of the pair of a seed on one thread.
+/// Makes the outcome of running the pair of a seed on one thread.
 #[tactic(auto, unfolding(crate::specs::Gen::gen_after))]
 pub fn gen_outcome<'a, D: BusDevice>(
     alloc: Global,
@@ -96,7 +96,7 @@ pub fn gen_outcome<'a, D: BusDevice>(
     let (host, para) = machines_of(alloc, setup, inputs)?;
     let done = run_alone(alloc, host, para, Tick(gen_ticks()), 0)?;
     let text = summary(alloc, seed, done.host.ram());
-    // Here, so that both machines are dropped in one place.
+    // An explicit drop, so that both machines are dropped in one place.
     drop(done);
     Ok(said_outcome(alloc, Ending::Done, text?))
 }

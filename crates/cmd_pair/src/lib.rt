@@ -1,4 +1,4 @@
-//! What both machines come to by what was read: `solo`, `run` and `gen`.
+//! The outcomes of running both machines: `solo`, `run` and `gen`.
 #![tactic(auto)]
 
 mod alone;

@@ -24,8 +24,8 @@ use std::sync::Wait;
 use std::thread::Threads;
 use tube_party::{Done, MOST, Party, Rewinds};
 
-// Two parties where their run in two threads ended, or why they were not run. The crew works it. It stands apart from the machines, since a proof
-// over any two parties goes through no machine's parts.
+// Runs two parties in two threads of the crew. Returns the cause if they were not run. The function
+// is generic over the parties, so that its proof does not unfold the machines.
 fn run_parties<E: Drop, C: Crew, H: Party + Send, P: Rewinds + Send, R: Threads + Wait + Sync>(
     rt: &R,
     alloc: Global,
@@ -42,7 +42,7 @@ where
     requires closed { AreClosedWithin H.moves P.Party.moves (H.state host) (P.Party.state para) n.0 }
     ensures played { let w = reference H.moves P.Party.moves (H.state host) (P.Party.state para) n.0 in
         IfOk result (λ d. IsPlayed w keep (played_of H.state P.Party.state d)) }
-    // It comes to something, whatever that is taken for, or no thread could be started, or memory was wanting.
+    // The result is a run of any content, or no thread could be started, or memory ran out.
     ensures works { Works nothing true (C.counts crew.old) (C.counts crew.new) result (Ok tt) }
     ensures grows { Grows (C.counts crew.old) (C.counts crew.new) }
 {
@@ -53,7 +53,7 @@ where
     }
 }
 
-/// What comes of both machines that the words tell of in two threads, where the first `keep` accesses are kept.
+/// Makes the outcome of running both machines in two threads. The first `keep` accesses are kept.
 #[tactic(auto, unfolding(crate::specs::Solo::solo_after))]
 pub fn run_outcome<'a, D: BusDevice + Send, C: Crew, R: Threads + Wait + Sync>(
     rt: &R,

@@ -16,7 +16,7 @@ use cmd_status::Cause;
 use std::alloc::Global;
 use tube_party::MOST;
 
-/// What comes of both machines that the words tell of on one thread, where the first `keep` accesses are kept.
+/// Makes the outcome of running both machines on one thread. The first `keep` accesses are kept.
 #[tactic(auto, unfolding(crate::specs::Solo::solo_after))]
 pub fn solo_outcome<'a, D: BusDevice>(
     alloc: Global,

@@ -1,4 +1,5 @@
--- The outcome of a replay that differs nowhere, of one that differs, and of a trace with a wrong answer.
+-- The outcome of a replay that does not differ, of one that differs, and of a trace with a wrong
+-- answer.
 use Rattle.std.proofs.Common.{◌≡◌, ℕ, ◌+◌, List, [], Option, Some, None}
 use Rattle.beeb_bits.specs.declared.clock.Clock.{Clock}
 use Rattle.beeb_bits.specs.declared.Side.{Side}
@@ -33,7 +34,7 @@ module _ {S : Type 0} (moves : Moves S) (side : Side) (ticks : ℕ) (left : ℕ 
   unfolding replayed
   wrong_is at byte is = rw is
 
--- what a machine leaves, where no bytes stand beside it
+-- the final state of a machine, without other bytes
 pub left_is : (clock : Clock) (ticks tube : ℕ) (names : Names) (bytes : List ℕ) (parts shown : Option HostState × Option ParaState) → bytes ≡ [] → parts ≡ shown →
     record { names = names; clock = clock; ticks = ticks; tube = tube; host = parts.0; para = parts.1; kept = None; saved = None; counts = None; bytes = bytes }
     ≡ left_of clock ticks tube names shown

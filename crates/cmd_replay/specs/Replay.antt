@@ -1,4 +1,4 @@
--- `replay SIDE TRACE TICKS OUT` and options: a machine against a trace.
+-- `replay SIDE TRACE TICKS OUT` and options: a machine replayed against a trace.
 use Rattle.std.specs.Prelude.{ℕ, ◌+◌, ◌&&◌, nat_lt, List, [], ◌∷◌, Option, None, Result, Ok, if◌then◌else◌}
 use Rattle.beeb_bits.specs.declared.clock.Clock.{Clock}
 use Rattle.beeb_bits.specs.declared.Side.{Side}
@@ -32,8 +32,8 @@ side_count side n (x ∷ entries) = if is_side side x.side && nat_lt (x.tick).0 
 abbrev pub verdict_of_end : {S : Type 0} → (S → Verdict Ending) → Ended S → Verdict Ending
 verdict_of_end done e = verdict_of_place done e.machine e.place
 
--- What comes of a machine and the entries that were read with it, by what it leaves with so many accesses. The trace's answers are checked before
--- the machine goes.
+-- The verdict of a machine and the entries that were read with it. left makes the final state from
+-- the number of accesses and the machine. The trace's answers are checked before the machine runs.
 unfoldable pub replayed : {S : Type 0} → Moves S → Side → ℕ → (ℕ → S → Left) → List Entry × S → Verdict Ending
 replayed moves side ticks left m =
     unless_wrong (wrong m.0) (verdict_of_end (λ s. machine_verdict (left (side_count side ticks m.0) s)) (replay_of moves side m.0 ticks m.1))
@@ -42,7 +42,7 @@ unfoldable pub replay_after : Setup → Side → ℕ → Names → Inputs → Re
 replay_after set Host ticks names i = host_of set i >>= λ m. Ok (replayed host_moves Host ticks (λ tube. host_left set.clock ticks tube names) m)
 replay_after set Para ticks names i = para_of set.clock i >>= λ m. Ok (replayed para_moves Para ticks (λ tube. para_left set.clock ticks tube names) m)
 
--- what a replay leaves of the machine that it has
+-- the final state of a replay with its machine
 abbrev pub left_of : Clock → ℕ → ℕ → Names → Option HostState × Option ParaState → Left
 left_of clock ticks tube names parts =
     record { names = names; clock = clock; ticks = ticks; tube = tube; host = parts.0; para = parts.1; kept = None; saved = None; counts = None; bytes = [] }

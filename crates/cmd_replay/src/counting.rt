@@ -5,7 +5,7 @@ ghost use Rattle.cmd_replay.specs.Replay.{side_count};
 use beeb_bits::{Side, Tick};
 use tube_trace::Entry;
 
-/// How many entries a side has below a tick.
+/// Returns the number of entries that a side has below a tick.
 pub(crate) fn side_count(side: Side, entries: &[Entry], n: Tick) -> u64
     ensures { result ≡ side_count side n.0 entries.now }
 {

@@ -1,4 +1,4 @@
-//! What a replay comes to by what it reads: `replay host` and `replay para`.
+//! The outcome of a replay: `replay host` and `replay para`.
 #![tactic(auto)]
 
 mod counting;

@@ -11,10 +11,11 @@ use tube_party::Party;
 
 /// A machine that is replayed: the host or the second processor.
 pub(crate) trait Parts<D: BusDevice>: Party {
-    /// What contracts see of it, as the host or as the second processor.
+    /// The machine in contracts, as the host or as the second processor.
     ghost shown: { Self → Option HostState × Option ParaState };
 
-    /// It as a command leaves it: the host with its devices stepped as far as its bus is closed.
+    /// Returns the machine in its final state. The host's devices have done all steps up to the
+    /// closed tick of its bus.
     fn parts(self) -> (Option<HostMachine<D>>, Option<ParaMachine>)
         ensures { (option_map (host_stepped D.plug) result.0, result.1) ≡ shown self };
 }

@@ -20,8 +20,8 @@ use std::alloc::{AllocError, Global};
 use tube_party::{MOST, replay};
 use tube_trace::{Entry, first_wrong};
 
-// What comes of a machine and the entries that were read with it. It knows no machine, since a proof over any party goes through no machine's
-// parts.
+// Makes the outcome of a machine and the entries that were read with it. The function is generic
+// over the machine, so that its proof does not unfold one.
 fn replayed<'a, D: BusDevice, M: Parts<D>>(
     alloc: Global,
     machine: M,
@@ -63,7 +63,7 @@ fn replayed<'a, D: BusDevice, M: Parts<D>>(
     }
 }
 
-/// What comes of a replay of the machine of a side, by what the words say and what was read.
+/// Makes the outcome of replaying a side's machine with the given setup and inputs.
 #[tactic(auto, unfolding(crate::specs::Replay::replay_after))]
 pub fn replay_outcome<'a, D: BusDevice>(
     alloc: Global,

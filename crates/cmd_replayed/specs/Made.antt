@@ -1,4 +1,4 @@
--- The machines that a trace is held against, as `replay` and `follow` make them.
+-- The machines that `replay` and `follow` make, and the entries of their trace.
 use Rattle.std.specs.Prelude.{ℕ, Bool, true, false, List, [], ◌∷◌, Result, Ok, Err}
 use Rattle.beeb_bits.specs.declared.clock.Clock.{Clock}
 use Rattle.tube_trace.specs.declared.Entry.{Entry}
@@ -17,14 +17,16 @@ use Rattle.cmd_outcome.specs.Trace.{entries_of}
 use Rattle.cmd_machines.specs.Script.{script_of}
 use Rattle.cmd_machines.specs.Discs.{discs_of}
 
--- The entries of a trace of this clock. A host without a Tube has an empty one: any other is refused at its first line.
+-- The entries of a trace with the given clock. A host without a Tube has an empty trace: any other
+-- is refused at its first line.
 unfoldable pub entries_at : Bool → Clock → List ℕ → Result (List Entry) (Refusal Cause)
 entries_at true clock bytes = entries_of clock bytes
 entries_at false clock [] = Ok []
 entries_at false clock (b ∷ bytes) = Err (refusals.Cause (BadTrace 1 5))
 
--- The entries that the host is replayed against, and the host at power-on. Refused are in order the lengths of the images, the discs' last, the
--- trace's form and its clock, or that there is one without a Tube, and the script's form.
+-- The entries against which the host is replayed, and the host at power-on. The refusals come in
+-- this order: the lengths of the images, the discs' last; the form of the trace and its clock, or
+-- any trace without a Tube; the form of the script.
 unfoldable pub host_of : Setup → Inputs → Result (List Entry × host.HostState) (Refusal Cause)
 host_of set i =
     roms_of (record { os = i.os; slots = i.roms; font = i.font })
@@ -33,7 +35,7 @@ host_of set i =
     >>= λ entries. script_of i.keys
     >>= λ script. Ok (entries, host.with_tube set.tube (host.power_on set.clock roms discs.0 discs.1 script set.plugs))
 
--- The entries that the second processor is replayed against, and it at power-on. Refused are in order the ROM's length, the trace's form, and its
--- clock.
+-- The entries against which the second processor is replayed, and the second processor at power-on.
+-- The refusals come in this order: the length of the ROM, the form of the trace, and its clock.
 unfoldable pub para_of : Clock → Inputs → Result (List Entry × para.ParaState) (Refusal Cause)
 para_of clock i = rom_of i.tube >>= λ rom. entries_of clock i.trace >>= λ entries. Ok (entries, para.power_on clock rom)

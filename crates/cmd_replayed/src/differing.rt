@@ -1,4 +1,4 @@
-//! What is said of the place where a machine differs from a trace.
+//! The text of the place where a machine differs from a trace.
 ghost use Rattle.std.specs.Prelude.{◌≡◌, ◌++◌, IfOk};
 ghost use Rattle.cmd_status.specs.declared.status.Ending.TheVariants.{Differs};
 ghost use Rattle.cmd_outcome.specs.Verdicts.{said_verdict};
@@ -12,7 +12,7 @@ use std::alloc::{AllocError, Global};
 use tube_party::Doing;
 use tube_trace::push_access;
 
-// What a machine does at a place.
+// Appends the access of a machine at a place.
 #[tactic(auto, unfolding(crate::specs::Replay::doing_text))]
 fn push_doing(text: &mut Vec<u8>, doing: Option<Doing>) -> Result<(), AllocError>
     ensures { IfOk result (λ _. text.new.items ≡ text.old.items ++ doing_text doing) }
@@ -24,7 +24,7 @@ fn push_doing(text: &mut Vec<u8>, doing: Option<Doing>) -> Result<(), AllocError
     Ok(())
 }
 
-// The text of a place.
+// Makes the text of a place.
 #[tactic(auto, unfolding(crate::specs::Replay::differs_text))]
 fn differs_text(alloc: Global, line: u64, doing: Option<Doing>) -> Result<Vec<u8>, AllocError>
     ensures { IfOk result (λ v. v.items ≡ differs_text line doing) }
@@ -36,7 +36,7 @@ fn differs_text(alloc: Global, line: u64, doing: Option<Doing>) -> Result<Vec<u8
     Ok(text)
 }
 
-/// The place where a machine differs from a trace.
+/// Makes the outcome of a machine that differs from a trace.
 pub fn differs_outcome<'a, D: BusDevice>(
     alloc: Global,
     line: u64,

@@ -1,5 +1,5 @@
-//! What the commands share that hold a machine against a trace: `replay`, `follow` and `resume`. The machines with the entries that were read, and
-//! what is said where one differs.
+//! The parts that `replay`, `follow` and `resume` share to replay a machine against a trace: the
+//! machines with the entries that were read, and the text if one differs.
 #![tactic(auto)]
 
 mod differing;

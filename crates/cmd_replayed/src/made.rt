@@ -1,4 +1,4 @@
-//! The machines that a trace is held against, with its entries.
+//! The machines that are replayed against a trace, with its entries.
 ghost use Rattle.std.specs.Prelude.{◌≡◌, ◌<◌, All, map, IfOk};
 ghost use Rattle.tube_trace.specs.Entries.{IsEntry};
 ghost use Rattle.host_mach.specs.View.{host_seen};
@@ -18,7 +18,7 @@ use para_mach::ParaMachine;
 use std::alloc::Global;
 use tube_trace::Entry;
 
-// The entries of a trace, which is empty where there is no Tube.
+// Returns the entries of a trace, which must be empty if there is no Tube.
 #[tactic(auto, unfolding(crate::specs::Made::entries_at))]
 fn entries_at(
     alloc: Global,
@@ -39,7 +39,7 @@ fn entries_at(
     }
 }
 
-/// The entries of the trace that was read, and the host at power-on that is held against them.
+/// Makes the entries of the trace that was read, and the host at power-on to replay against them.
 #[tactic(auto, unfolding(crate::specs::Made::host_of))]
 pub fn host_made<D: BusDevice>(
     alloc: Global,
@@ -76,7 +76,8 @@ pub fn host_made<D: BusDevice>(
     Ok((entries, machine.with_tube(tube)))
 }
 
-/// The entries of the trace that was read, and the second processor of this clock at power-on that is held against them.
+/// Makes the entries of the trace that was read, and the second processor at power-on to replay
+/// against them.
 #[tactic(auto, unfolding(crate::specs::Made::para_of))]
 pub fn para_made(
     alloc: Global,

@@ -1,4 +1,4 @@
--- What comes of a session.
+-- The verdict of a session.
 use Rattle.std.proofs.Common.{◌≡◌, sym, ap, ℕ, Option, List, Ok}
 use Rattle.beeb_bits.specs.declared.clock.Clock.{Clock}
 use Rattle.bus_plug.specs.Plug.{Plug}
@@ -47,7 +47,7 @@ module _ {D : Type 0} (plug : D → Plug) (clock : Clock) (begun : Option Sessio
 pub accesses_are : (s : Session) (entries : List Entry) → IsSession s → entries ≡ s.entries → AreAccesses s.ticks entries
 accesses_are s entries keeps is = rw is (record { each = λ k d h. (keeps.lines k d h).may; rises = keeps.rises; low = keeps.below })
 
--- what a session comes to, by its parts
+-- the verdict of a session, by its parts
 pub session_gives : (plugs : List Plug) (ticks keep : ℕ) (names : Names) (i made : Inputs) (bytes : List ℕ) (s : Session) (set : Setup) (m : HostState × ParaState) (begun : Option Session)
     (entries : List Entry) (v : Verdict Ending) → bytes ≡ i.state → state_of bytes ≡ Ok s → set ≡ setup_in s plugs → made ≡ inputs_in s → machines_of set made ≡ Ok m →
     begun ≡ begun_if names.save set made → entries ≡ s.entries →

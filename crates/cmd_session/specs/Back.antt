@@ -1,4 +1,4 @@
--- What comes of two parties and the accesses of a session.
+-- The continuation of two parties after the accesses of a session.
 use Rattle.std.specs.Prelude.{ℕ, ◌≡◌, ◌<◌, ◌+◌, min, All, List, Option, None, Some}
 use Rattle.tube_chip.specs.Events.{Rises}
 use Rattle.tube_trace.specs.declared.Entry.{Entry}
@@ -13,17 +13,17 @@ use Rattle.save_state.specs.Resume.{first_difference}
 use Rattle.cmd_session.specs.declared.going.Back.{Back}
 use Rattle.cmd_session.specs.declared.going.Back.TheVariants.{On, Wrong, Differs}
 
--- entries of operations that their sides may do, each before the next and all below a moment
+-- valid entries of their sides, each before the next and all below a moment
 pub record AreAccesses (moment : ℕ) (entries : List Entry) : Type 0 where
   pub each : All IsEntry entries
   pub rises : Rises (events_of entries)
   pub low : All (λ e. (e.tick).0 < moment) entries
 
--- where the parties and the accesses below the moment and below the end of the run differ first
+-- the first difference between the parties and the accesses below the moment and the end of the run
 abbrev pub place_of : {S T : Type 0} → Moves S → Moves T → List Entry → ℕ → ℕ → S → T → Option (ℕ × Option Doing)
 place_of h p entries moment n s t = first_difference h p (entries_below (min moment n) entries) (min moment n) s t
 
--- The parties went on as the reference run does, or an answer is wrong, or a party differs.
+-- The parties continued as the reference run does, or an answer is wrong, or a party differs.
 abbrev pub Goes : {H P S T : Type 0} → (H → S) → (P → T) → Moves S → Moves T → S → T → List Entry → ℕ → ℕ → ℕ → Back H P → Type 0
 Goes host para h p s t entries moment n keep (On done) =
     (wrong entries ≡ None) × (place_of h p entries moment n s t ≡ None) × IsPlayed (reference h p s t n) keep (played_of host para done)

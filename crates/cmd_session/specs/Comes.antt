@@ -1,4 +1,4 @@
--- What comes of both machines, once they are back.
+-- The verdict after both machines were brought back to the session's moment.
 use Rattle.std.specs.Prelude.{ℕ, ◌≡◌, ⊤, Option}
 use Rattle.beeb_bits.specs.declared.clock.Clock.{Clock}
 use Rattle.bus_plug.specs.Plug.{Plug}
@@ -21,13 +21,13 @@ use Rattle.cmd_ended.specs.Kept.{kept_verdict}
 use Rattle.cmd_session.specs.declared.going.Back.{Back}
 use Rattle.cmd_session.specs.declared.going.Back.TheVariants.{On, Wrong, Differs}
 
--- both machines, where they went on, were run from some states as the reference run does
+-- if both machines continued, they were run from some states as the reference run does
 abbrev pub Went : {D : Type 0} → (D → Plug) → ℕ → ℕ → Back (HostMachine D) ParaState → Type 0
 Went plug n keep (On done) = (s : HostState) × (t : ParaState) × IsRun plug s t n keep done
 Went plug n keep (Wrong line byte) = ⊤
 Went plug n keep (Differs line doing) = ⊤
 
--- what the reference run leaves, or what is said of a wrong access or of a difference
+-- the verdict of the reference run, or that of a wrong access or of a difference
 abbrev pub Comes : {D : Type 0} → (D → Plug) → Clock → Option Session → ℕ → ℕ → Names → Back (HostMachine D) ParaState → Verdict Ending → Type 0
 Comes plug clock begun n keep names (On done) v =
     (s : HostState) (t : ParaState) → IsRun plug s t n keep done → v ≡ kept_verdict clock begun n keep names (reference host_moves para_moves s t n)

@@ -1,4 +1,4 @@
--- `resume STATE TICKS OUT` and options: a run goes on from a session file.
+-- `resume STATE TICKS OUT` and options: a run continues from a session file.
 use Rattle.std.specs.Prelude.{ℕ, min, List, Option, Result, Ok}
 use Rattle.bus_plug.specs.Plug.{Plug}
 use Rattle.tube_trace.specs.FirstWrong.{wrong}
@@ -27,27 +27,29 @@ use Rattle.cmd_outcome.specs.Names.{Names}
 use Rattle.cmd_replayed.specs.Replay.{verdict_of_place, unless_wrong}
 use Rattle.cmd_ended.specs.Kept.{kept_verdict}
 
--- the refusal that an error of a session file is
+-- the refusal for an error in a session file
 abbrev pub state_refusal : StateError → Refusal Cause
 state_refusal (state_errors.BadField at) = refusals.Cause (BadState at)
 state_refusal state_errors.NoMemory = refusals.NoMemory
 
--- the session that a file holds
+-- the session in a file
 unfoldable pub state_of : List ℕ → Result Session (Refusal Cause)
 state_of bytes = or_refusal state_refusal (file bytes)
 
--- Where both machines from power-on and the accesses of a session differ first: the accesses below its moment and below the end of a run.
+-- The first difference between both machines from power-on and the accesses of a session below its
+-- moment and the end of the run.
 abbrev pub place_of : Session → ℕ → HostState × ParaState → Option (ℕ × Option Doing)
 place_of s ticks m = first_difference host_moves para_moves (entries_below (min s.ticks ticks) s.entries) (min s.ticks ticks) m.0 m.1
 
--- The reference run of both machines from power-on, where they and the accesses of the session differ nowhere.
+-- The reference run of both machines from power-on, if they and the accesses of the session do not
+-- differ.
 unfoldable pub session_ended : List Plug → ℕ → ℕ → Names → Session → HostState × ParaState → Verdict Ending
 session_ended plugs ticks keep names s m =
     verdict_of_place (kept_verdict s.clock (begun_if names.save (setup_in s plugs) (inputs_in s)) ticks keep names)
     (reference host_moves para_moves m.0 m.1 ticks) (place_of s ticks m)
 
--- A session's machines are made of its parts. Refused are in order the form of the file and that of the script. The answers of all its accesses are
--- checked before the machines go.
+-- A session's machines are made from its parts. The form of the file is refused first, then that of
+-- the script. The answers of all its accesses are checked before the machines run.
 unfoldable pub session_after : List Plug → ℕ → ℕ → Names → Inputs → Result (Verdict Ending) (Refusal Cause)
 session_after plugs ticks keep names i =
     state_of i.state

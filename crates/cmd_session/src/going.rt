@@ -1,4 +1,4 @@
-//! Two parties that are brought back to a moment and go on.
+//! Two parties that are brought back to a moment and continue.
 ghost use Rattle.std.specs.Prelude.{◌≡◌, ◌≤◌, IfOk, min};
 ghost use Rattle.tube_party.specs.OneThread.{TakeSides, AreClosedWithin};
 ghost use Rattle.cmd_session.specs.Back.{AreAccesses, Goes};
@@ -10,26 +10,29 @@ use std::alloc::{AllocError, Global};
 use tube_party::{Doing, Done, MOST, Party, Rewinds};
 use tube_trace::{Entry, first_wrong};
 
-/// What comes of two parties and the accesses of a session.
+/// The continuation of two parties after the accesses of a session.
 #[derive(Drop)]
 pub(crate) enum Back<H, P> {
-    /// Both went on from the moment to the end of the run.
+    /// Both continued from the moment to the end of the run.
     On(Done<H, P>),
-    /// The access, counted from 1, whose answer the chip would not give, and the byte that it would.
+    /// The access, counted from 1, whose answer is not the chip's, and the byte that the chip
+    /// gives.
     Wrong { line: u64, byte: u8 },
-    /// The access, counted from 1, that a party does not do, and what it does there, if it does something.
+    /// The access, counted from 1, at which a party differs, and the party's access there, if it
+    /// makes one.
     Differs { line: u64, doing: Option<Doing> },
 }
 
-// The smaller of two ticks.
+// Returns the earlier of two ticks.
 fn earlier(a: Tick, b: Tick) -> Tick
     ensures { result.0 ≡ min a.0 b.0 }
 {
     if a.0 <= b.0 { a } else { b }
 }
 
-/// Two parties against the accesses of a session up to a moment: where the chip gives all their answers, and each party does its own below the end
-/// of the run, both go on from there. It stands apart from the machines, since a proof over any two parties goes through no machine's parts.
+/// Brings two parties back to a moment by the accesses of a session. Both continue from there if
+/// the chip gives all the answers and each party makes its own accesses below the end of the run.
+/// The function is generic over the parties, so that its proof does not unfold the machines.
 pub(crate) fn bring_back<H: Party, P: Rewinds>(
     alloc: Global,
     host: H,

@@ -1,4 +1,4 @@
-//! What a session file comes to when its run goes on: `resume`.
+//! The outcome of a session file whose run continues: `resume`.
 #![tactic(auto)]
 
 mod going;

@@ -24,7 +24,7 @@ use save_state::Saved;
 use std::alloc::{AllocError, Global};
 use tube_party::MOST;
 
-// What comes of both machines, once they are back.
+// Makes the outcome after both machines were brought back.
 fn ended<'a, D: BusDevice>(
     alloc: Global,
     clock: Clock,
@@ -49,8 +49,8 @@ fn ended<'a, D: BusDevice>(
     }
 }
 
-/// What comes of the session that was read, of which the first `keep` accesses are kept. The first of these devices are plugged, as many as the
-/// session says.
+/// Makes the outcome of the session that was read. The first `keep` accesses are kept. The first
+/// devices of `plugs` are plugged, in the number that the session gives.
 #[tactic(auto, unfolding(crate::specs::Session::session_after))]
 pub fn session_outcome<'a, D: BusDevice>(
     alloc: Global,

@@ -10,7 +10,7 @@ use cmd_status::Cause;
 use save_state::{Saved, StateError, decode};
 use std::alloc::Global;
 
-/// The session that a file holds.
+/// Returns the session in a file.
 #[tactic(auto, unfolding(crate::specs::Session::state_of))]
 pub(crate) fn state_of(alloc: Global, bytes: &[u8]) -> Result<Saved, Refusal<Cause>>
     ensures told { Gives session result (state_of bytes.now) }

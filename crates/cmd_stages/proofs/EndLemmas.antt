@@ -1,4 +1,4 @@
--- What was read, computed and written keeps the whole promise.
+-- A command that read, computed and wrote keeps the whole promise.
 use Rattle.std.proofs.lemmas.Option.{IfSome_then}
 use Rattle.std.proofs.Common.{◌≡◌, refl, ap, ℕ, Bool, true, false, map, Option, Some, None, Result, Ok, Err, IfSome, IsOkAnd, arith, inl, inr}
 use Rattle.beeb_files.specs.Files.{Files}
@@ -22,7 +22,7 @@ pub thread_not_stayed : (paired : Bool) (before now : Counts) → HasNoThread pa
 thread_not_stayed true before now rose stayed = rose_not_stayed before.faults now.faults rose stayed
 thread_not_stayed false before now none stayed = none
 
--- what holds anyway holds where the files are told
+-- A statement that always holds holds if the files are shown.
 told_any : {Q : Files → Type 0} (o : Option Files) → ((files : Files) → Q files) → IfSome o Q
 told_any None f = tt
 told_any (Some files) f = f files
@@ -32,7 +32,7 @@ module _ {K E C : Type 0} (p : Plan K E C) where
   comes_told None v comes = tt
   comes_told (Some files) v comes = comes
 
-  -- what was read, and what comes of it
+  -- the inputs, and the result
   pub comes_after : (o : Option Files) (inputs : Inputs K) (v : Result (Verdict E) (Stop C)) → AreWithin p.reads inputs →
       IfSome o (λ files. read_all {C = C} files p.reads ≡ Ok inputs) → or_stop (p.after inputs) ≡ v → ComesTo p o v
   comes_after None inputs v fit told after = (inputs, fit, after)
@@ -62,7 +62,7 @@ module _ {K E C : Type 0} (p : Plan K E C) where
     unread NoMemory reads same = inl (untouched same)
     unread stop reads same = absurd reads
 
-    -- what comes of what was read, where it comes to something
+    -- the verdict of the inputs, if they have one
     comes_ok : (inputs : Inputs K) → AreWithin p.reads inputs → IfSome old.shelf.files (λ files. read_all {C = C} files p.reads ≡ Ok inputs) →
         (r : Result (Verdict E) (Refusal C)) → p.after inputs ≡ r → IsOkAnd r (λ _. Unit {0}) → (v : Verdict E) × ComesTo p old.shelf.files (Ok v)
     comes_ok inputs fit told (Ok v) is ok = (v, comes_after old.shelf.files inputs (Ok v) fit told (ap or_stop is))

@@ -1,4 +1,4 @@
--- Reading the files that are wanted one by one.
+-- Reading the files one by one.
 use Rattle.std.proofs.Common.{◌≡◌, ◌∙◌, sym, refl, ap, ℕ, ◌+◌, ◌<◌, ◌≤◌, List, [], ◌∷◌, ◌++◌, map, take, drop, length, get_or, Option, Some, None, Result, Ok, Err, IfSome, IsErrAnd, Contains}
 use Rattle.std.proofs.lemmas.Option.{IfSome_then}
 use Rattle.std.specs.declared.vec.Vec.{Vec}
@@ -15,12 +15,12 @@ use Rattle.cmd_stages.specs.Stages.{ReadsOne, ReadsAll}
 use Rattle.beeb_files.specs.Shelf.{ShelfState}
 use Rattle.cmd_stages.specs.declared.stop.Stop.TheVariants.{ReadFault, TooLong, NoMemory}
 
--- an answer whose error is this one
+-- a result with the given error
 pub err_is : {A C : Type 0} (r : Result A C) (e : C) → IsErrAnd r (λ given. given ≡ e) → r ≡ Err e
 err_is (Ok x) e same = absurd same
 err_is (Err given) e same = ap Err same
 
--- what is told of one thing and of another
+-- two statements about the files, if they are shown
 told_both : {P Q R : Files → Type 0} (o : Option Files) → IfSome o P → IfSome o Q → ((files : Files) → P files → Q files → R files) → IfSome o R
 told_both None p q f = tt
 told_both (Some files) p q f = f files p q
@@ -44,7 +44,7 @@ want_split : {K : Type 0} (ws : List (Want K)) (i : ℕ) (w : Want K) → i < le
 want_split ws i w h is =
     let split : drop i ws ≡ w ∷ drop (i + 1) ws = rw is at (drop_more ws i w h) in sym (take-append-drop i ws) ∙ ap (λ rest. take i ws ++ rest) split
 
--- the first of the files that are wanted were read
+-- the first of the files were read
 pub record AreRead {K : Type 0} (C : Type 0) (ws : List (Want K)) (i : ℕ) (got : Inputs K) (old mid : ShelfState) : Type 0 where
   pub files : mid.files ≡ old.files
   pub faults : mid.faults ≡ old.faults
@@ -90,7 +90,7 @@ module _ {K C : Type 0} (wants : List (K × Bor (List ℕ) × ℕ)) (i : ℕ) (i
   wanted : Contains (read_names ws) w.1
   wanted = (i, rw length-map low, get_or-map (λ v. v.1) ws i w w.1 low ∙ ap (λ v. v.1) here)
 
-  -- what the stop at one file says of all
+  -- the stop at one file is that of all
   pub read_stopped : (s : Stop C) → ReadsOne w.1 w.2 mid new (Err s) → ReadsAll {K = K} ws old new (Err s)
   read_stopped (ReadFault who) one = record {
     wanted = rw one.0 wanted;

@@ -42,7 +42,7 @@ module _ (fs : List (List ℕ × List ℕ)) (i : ℕ) (f : List ℕ × List ℕ)
     said = stays ∙ puts.said;
   }
 
-  -- what the stop at one file says of all
+  -- the stop at one file is that of all
   stopped_at : {C : Type 0} (s : Stop C) → PutsOne f.0 f.1 mid new (Err s) → PutsAll fs old new (Err s)
   stopped_at (WriteFault who) one =
       let rose : Rose (old.faults f.0) (new.faults f.0) = let le = puts.fell.names f.0 in let more = one.1 in omega arith in
@@ -50,7 +50,7 @@ module _ (fs : List (List ℕ × List ℕ)) (i : ℕ) (f : List ℕ × List ℕ)
   stopped_at NoMemory one = (f.0, cut_at one.0 one.1)
   stopped_at stop one = absurd one
 
--- the same of a file by other words for its name and its bytes
+-- one file under an equal name and with equal bytes
 pub puts_named : {C : Type 0} (name bytes told_name told_bytes : List ℕ) (old new : OutletState) (r : Result (Unit {0}) (Stop C)) → told_name ≡ name → told_bytes ≡ bytes →
     PutsOne told_name told_bytes old new r → PutsOne name bytes old new r
 puts_named name bytes told_name told_bytes old new r named held one = rw (← named, ← held) one
@@ -67,7 +67,7 @@ module _ {L O : Type 0} (file_of : L → O → List ℕ × List ℕ) (left : L) 
   file_at : (o : O) (f : List ℕ × List ℕ) → o ≡ get_or outputs i o → f ≡ file_of left o → get_or fs i f ≡ f
   file_at o f is made = get_or-map (file_of left) outputs i o f h ∙ ap (file_of left) (sym is) ∙ sym made
 
-  -- memory was wanting before it was put
+  -- there was no memory before it was put
   pub puts_wanting : (C : Type 0) → PutsAll {C = C} fs old mid (Err NoMemory)
   puts_wanting C = let f : List ℕ × List ℕ = get_or fs i ([], []) in (f.0, cut_at fs i f old mid mid puts low (itself_at fs i ([], []) low) (inl refl) refl)
 

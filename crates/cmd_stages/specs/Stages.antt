@@ -1,4 +1,4 @@
--- What the stages of a command promise: reading its files, working, and writing what comes of them.
+-- The promises of the stages of a command: reading its files, working, and writing the outcome.
 use Rattle.std.specs.Prelude.{◌≡◌, ◌⊎◌, ◌<◌, ◌≤◌, ⊤, ℕ, Bool, List, map, length, Result, Ok, Err, IfSome, Contains, IsOkAnd}
 use Rattle.std.specs.declared.vec.Vec.{Vec}
 use Rattle.std.specs.declared.alloc.Global.{Global}
@@ -15,7 +15,7 @@ use Rattle.beeb_files.specs.Files.{bytes_of, put, say, IsPartPut, IsPartSaid}
 use Rattle.cmd_stages.specs.Promise.{World, HasPaired, HasNoThread, IsCrewAfter, CarriesOut, IsUnread, IsTooLong, IsWhole, IsUntouched, IsUnwritten, IsCutShort, IsCutAtFile, names, dash, put_all}
 use Rattle.cmd_stages.specs.View.{seen_input}
 
--- the bytes of one file, or why not
+-- the bytes of one file, or the cause of an error
 abbrev pub ReadsOne : {C : Type 0} → List ℕ → ℕ → ShelfState → ShelfState → Result (Vec ℕ Global) (Stop C) → Type 0
 ReadsOne {C = C} name cap old new (Ok v) =
     (new.faults ≡ old.faults) × (length v.items ≤ cap) × IfSome old.files (λ files. within {C = C} name cap (bytes_of files name) ≡ Ok v.items)
@@ -26,7 +26,7 @@ ReadsOne {C = C} name cap old new (Err (TooLong who)) =
 ReadsOne name cap old new (Err NoMemory) = ⊤
 ReadsOne name cap old new (Err stop) = ⊥
 
--- the bytes of all files that are wanted, or why not
+-- the bytes of all files to read, or the cause of an error
 abbrev pub ReadsAll : {K C : Type 0} → List (Want K) → ShelfState → ShelfState → Result (Vec (K × Vec ℕ Global) Global) (Stop C) → Type 0
 ReadsAll {C = C} ws old new (Ok v) =
     AreWithin ws (map seen_input v.items) × IfSome old.files (λ files. read_all {C = C} files ws ≡ Ok (map seen_input v.items))
@@ -35,8 +35,9 @@ ReadsAll {C = C} ws old new (Err (TooLong name)) = IsTooLong C ws name old new
 ReadsAll ws old new (Err NoMemory) = ⊤
 ReadsAll ws old new (Err stop) = ⊥
 
--- What a command works out of what it read, with a crew where it has a pair. `view` is what the code's answer is seen as, `stage` what the
--- definitions say. No thread is told only of a command that comes to something.
+-- The work of a command on the bytes that it read, with a crew if it has a pair. `view` maps the
+-- program's result to that of the definitions, `stage`. NoThread comes only for a command that has
+-- a verdict.
 abbrev pub Works : {X Y C : Type 0} → (X → Y) → Bool → Counts → Counts → Result X (Stop C) → Result Y (Refusal C) → Type 0
 Works view paired old new (Ok x) stage = (stage ≡ Ok (view x)) × HasPaired paired old new
 Works view paired old new (Err (Refused cause)) stage = stage ≡ Err (refusals.Cause cause)
@@ -44,7 +45,7 @@ Works view paired old new (Err NoThread) stage = IsOkAnd stage (λ _. ⊤) × Ha
 Works view paired old new (Err NoMemory) stage = ⊤
 Works view paired old new (Err stop) stage = ⊥
 
--- how what comes of a command was written
+-- the writing of a command's outcome
 abbrev pub Writes : {E C : Type 0} → Verdict E → OutletState → OutletState → Result E (Stop C) → Type 0
 Writes v old new (Ok ending) = (ending ≡ v.ending) × IsWhole v old new
 Writes v old new (Err (WriteFault name)) = IsUnwritten v name old new
@@ -59,7 +60,7 @@ PutsOne name bytes old new (Err (WriteFault who)) =
 PutsOne name bytes old new (Err NoMemory) = IsPartPut name bytes old.files new.files × (new.said ≡ old.said)
 PutsOne name bytes old new (Err stop) = ⊥
 
--- the files were put, or which of them not
+-- all files were put, or those before one that failed
 abbrev pub PutsAll : {C : Type 0} → List (List ℕ × List ℕ) → OutletState → OutletState → Result (Unit {0}) (Stop C) → Type 0
 PutsAll fs old new (Ok done) = (new.files ≡ put_all fs old.files) × (new.said ≡ old.said)
 PutsAll fs old new (Err (WriteFault name)) = Contains (names fs) name × Rose (old.faults name) (new.faults name) × IsCutAtFile name fs old new
@@ -74,27 +75,29 @@ Says text old new (Err (WriteFault name)) =
 Says text old new (Err NoMemory) = IsPartSaid text old.said new.said × (new.files ≡ old.files)
 Says text old new (Err stop) = ⊥
 
--- What stages leave beside what they promise: no count fell, and the files of the shelf are as they were.
+-- The stages also leave this: no count fell, and the files of the shelf are unchanged.
 pub record HasKept {K E C : Type 0} (p : Plan K E C) (old new : World) : Type 0 where
   pub read : NoneFell old.shelf.faults new.shelf.faults
   pub written : NoCountFell old.outlet new.outlet
   pub crew : IsCrewAfter p.paired old.crew new.crew
   pub files : new.shelf.files ≡ old.shelf.files
 
--- a command whose reading stopped it, before its work and before anything was written, was carried out
+-- A command that stops while it reads, before its work and before anything is written, is carried
+-- out.
 abbrev pub StopsAtReading : (K E C : Type 0) → Type 0
 StopsAtReading K E C =
     (p : Plan K E C) (old new : World) (stop : Stop C) → ReadsAll {K = K} p.reads old.shelf new.shelf (Err stop) →
     new.outlet ≡ old.outlet → new.crew ≡ old.crew → HasKept p old new → CarriesOut p old new (Err stop)
 
--- a command that read its files, and whose work stopped it before anything was written, was carried out
+-- A command that read its files and stops during its work, before anything is written, is carried
+-- out.
 abbrev pub StopsAtWork : (K E C : Type 0) → Type 0
 StopsAtWork K E C =
     (p : Plan K E C) (old new : World) (inputs : Vec (K × Vec ℕ Global) Global) (stop : Stop C) →
     ReadsAll {C = C} p.reads old.shelf new.shelf (Ok inputs) → Works (λ (v : Verdict E). v) p.paired old.crew new.crew (Err stop) (p.after (map seen_input inputs.items)) →
     new.outlet ≡ old.outlet → HasKept p old new → CarriesOut p old new (Err stop)
 
--- a command that read its files, worked, and wrote what came of it, or as much as could be written, was carried out
+-- A command that read its files, worked, and wrote its outcome, or a part of it, is carried out.
 abbrev pub GoesOnToWriting : (K E C : Type 0) → Type 0
 GoesOnToWriting K E C =
     (p : Plan K E C) (old new : World) (inputs : Vec (K × Vec ℕ Global) Global) (v : Verdict E) (result : Result E (Stop C)) →

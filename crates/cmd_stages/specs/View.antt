@@ -1,4 +1,4 @@
--- What the code holds, as the definitions see it.
+-- The program's values, as the definitions see them.
 use Rattle.std.specs.Prelude.{◌≡◌, ⊤, ℕ, List, map, Result, Ok, Err, string_bytes}
 use Rattle.std.specs.declared.string.String.{String}
 use Rattle.std.specs.declared.vec.Vec.{Vec}
@@ -20,12 +20,12 @@ seen_input i = (i.0, i.1.items)
 abbrev pub seen_file : String Global × CowSlice ℕ Global → List ℕ × List ℕ
 seen_file f = (string_bytes f.0, cow_slice_items f.1)
 
--- What a function answers, seen by view, is what the stage gives, but for want of memory.
+-- The result of a function, mapped by view, is that of the stage, or NoMemory.
 abbrev pub Gives : {X Y C : Type 0} → (X → Y) → Result X (Refusal C) → Result Y (Refusal C) → Type 0
 Gives view (Ok x) stage = stage ≡ Ok (view x)
 Gives view (Err (Cause c)) stage = stage ≡ Err (Cause c)
 Gives view (Err NoMemory) stage = ⊤
 
--- What comes of a command, where this is the file of each output that it leaves.
+-- The verdict of an outcome, if file_of gives the file of each output.
 abbrev pub verdict_of : {E O L : Type 0} → (L → O → List ℕ × List ℕ) → Outcome E O L → Verdict E
 verdict_of file_of o = record { ending = o.ending; files = map (file_of o.left) o.outputs.items; said = o.said.items }

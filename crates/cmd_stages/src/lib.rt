@@ -1,4 +1,5 @@
-//! The stages of a command: its files are read in their order, something comes of them, and that is written in its order.
+//! The stages of a command: reading its files in order, working on them, and writing the outcome in
+//! order.
 #![tactic(auto)]
 
 mod law;

@@ -1,4 +1,4 @@
-//! Reading the files of a command, in their order.
+//! Reading the files of a command, in order.
 ghost use Rattle.std.specs.Prelude.{◌≡◌, map};
 ghost use Rattle.beeb_files.specs.Counts.{NoneFell};
 ghost use Rattle.cmd_stages.specs.View.{seen_want};
@@ -9,7 +9,7 @@ use crate::stop::Stop;
 use beeb_files::{Shelf, ShelfError};
 use std::alloc::Global;
 
-// The bytes of one file.
+// Reads the bytes of one file.
 fn read_one<C: Drop, S: Shelf>(
     alloc: Global,
     shelf: &mut S,
@@ -28,7 +28,8 @@ fn read_one<C: Drop, S: Shelf>(
     }
 }
 
-/// The bytes of each file that is wanted, in their order, or why the first is refused that is refused.
+/// Reads the bytes of each file in `wants`, in order. Returns the cause of the first one that is
+/// refused.
 pub fn read_all<K: Copy, C: Drop, S: Shelf>(
     alloc: Global,
     shelf: &mut S,

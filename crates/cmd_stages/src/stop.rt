@@ -1,4 +1,4 @@
-//! Why a command ends before its outputs stand.
+//! The causes that end a command before its outputs are written.
 ghost use Rattle.std.specs.Prelude.{◌≡◌};
 ghost use Rattle.cmd_stages.specs.declared.stop.Refusal.TheVariants as refusals;
 ghost use Rattle.cmd_stages.specs.declared.stop.Stop.TheVariants as stops;
@@ -8,25 +8,26 @@ use crate::name::Name;
 use beeb_bits::NoMemory;
 use std::alloc::{AllocError, AllocFailed};
 
-/// Why nothing comes of what was read.
+/// The cause of a command's work without an outcome.
 #[derive(Debug, Drop)]
 pub enum Refusal<C> {
-    /// What was read is refused.
+    /// The input is refused.
     Cause(C),
     /// There was no memory.
     NoMemory,
 }
 
-/// Why a command ends before its outputs stand.
+/// The cause that ends a command before its outputs are written.
 #[derive(Debug, Drop)]
 pub enum Stop<C> {
-    /// What was read is refused.
+    /// The input is refused.
     Refused(C),
     /// The file of this name could not be read.
     ReadFault(Name),
-    /// The file of this name is longer than the command takes.
+    /// The file of this name is longer than the command accepts.
     TooLong(Name),
-    /// The file of this name could not be written, or, for `-`, the text not said.
+    /// The file of this name could not be written, or the text could not be said if the name is
+    /// `-`.
     WriteFault(Name),
     /// No thread could be started.
     NoThread,

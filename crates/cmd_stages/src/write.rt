@@ -1,4 +1,4 @@
-//! Writing what comes of a command, in its order.
+//! Writing the outcome of a command, in order.
 ghost use Rattle.std.specs.Prelude.{◌≡◌, map};
 ghost use Rattle.beeb_files.specs.Outlet.{NoCountFell};
 ghost use Rattle.cmd_stages.specs.View.{verdict_of};
@@ -27,7 +27,7 @@ fn put<C: Drop, O: Outlet>(
     }
 }
 
-// Puts the files of the outputs in their order, each made when its turn comes.
+// Puts the files of the outputs in order, and makes each just before it is written.
 fn put_all<C: Drop, L: Leaves, O: Outlet>(
     alloc: Global,
     left: &L,
@@ -59,7 +59,7 @@ fn say<C: Drop, O: Outlet>(alloc: Global, text: &[u8], out: &mut O) -> Result<()
     }
 }
 
-/// Puts the files of the outputs, says the text, and tells how the command ends.
+/// Puts the files of the outputs, says the text, and returns the ending of the command.
 pub fn write_outcome<C: Drop, E: Drop, L: Leaves, O: Outlet>(
     alloc: Global,
     outcome: Outcome<E, L::Output, L>,

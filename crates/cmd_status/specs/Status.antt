@@ -30,7 +30,7 @@ number NoMemory = 7
 number (Wrong line byte) = 8
 number (Differs line doing) = 8
 
--- which image it is, as it is printed
+-- the printed name of an image
 abbrev pub which_text : Which → List ℕ
 which_text Os = codes "os"
 which_text Tube = codes "tube"
@@ -56,7 +56,7 @@ text NoMemory = codes "no memory"
 text (Wrong line byte) = []
 text (Differs line doing) = []
 
--- How the command ended that has this status. `Usage` is the status of no command.
+-- The result of the command that has this status. `Usage` is the status of no command.
 abbrev pub end_of : Status → Option (Result Ending (Stop Cause))
 end_of Done = Some (Ok endings.Done)
 end_of Usage = None

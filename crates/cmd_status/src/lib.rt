@@ -1,4 +1,4 @@
-//! How a command ends, why it is refused, and the program's number and text of each end.
+//! The endings of a command, the causes of its refusals, and the program's number and text of each.
 #![tactic(auto)]
 
 mod status;

@@ -1,4 +1,4 @@
-//! How the program ends.
+//! The endings of the program.
 ghost use Rattle.std.specs.Prelude.{◌≡◌, ◌++◌, IfOk, Some, codes};
 ghost use Rattle.std.specs.Fmt.{decimal};
 ghost use Rattle.cmd_status.specs.Status.{number, which_text, text, end_of};
@@ -8,7 +8,7 @@ use cmd_stages::{Name, Stop};
 use std::alloc::{AllocError, Global};
 use tube_party::Doing;
 
-/// An image, by its place among those that a command reads.
+/// The purpose of an image among those that a command reads.
 #[derive(Clone, Copy, Debug, PartialEq, Eq)]
 pub enum Which {
     /// The host's operating system.
@@ -21,79 +21,89 @@ pub enum Which {
     Font,
     /// The disc of drive 0 or 1.
     Disc(u8),
-    /// The image to be disassembled.
+    /// The image to disassemble.
     Image,
 }
 
-/// What a command ends with.
+/// The status of a command's end.
 #[derive(Debug, Drop)]
 pub enum Status {
-    /// The outputs stand.
+    /// The outputs were written.
     Done,
     /// The words spell no command.
     Usage,
     /// The file of this name could not be read.
     ReadFault { name: Name },
-    /// The file of this name is longer than the command takes.
+    /// The file of this name is longer than the command accepts.
     TooLong { name: Name },
     /// The image has a length outside its set.
     BadImage { which: Which, len: u64 },
-    /// The key script's first line, counted from 1, that is outside its form (kind 1) or its order (kind 2), or has the 257th shot (kind 3).
+    /// The key script's first offending line, counted from 1: outside its form (kind 1) or its
+    /// order (kind 2), or the line of the 257th shot (kind 3).
     BadScript { line: u64, kind: u8 },
-    /// The first line of the file of addresses, counted from 1, that is outside its form (kind 1) or does not rise (kind 2).
+    /// The first offending line of the file of addresses, counted from 1: outside its form (kind
+    /// 1), or not rising (kind 2).
     BadPoints { line: u64, kind: u8 },
-    /// The trace's first line, counted from 1, that is outside its form (kind 1) or its order (kind 2), line 1 of a trace of another clock (kind 4), or
-    /// of any, where there is no Tube (kind 5).
+    /// The trace's first offending line, counted from 1: outside its form (kind 1) or its order
+    /// (kind 2). Line 1 of a trace of the other clock (kind 4), or of any trace if there is no Tube
+    /// (kind 5).
     BadTrace { line: u64, kind: u8 },
-    /// The source text's first offending line, counted from 1: syntax (kind 1), no such form (2), unknown label (3), repeated
-    /// label (4), out of range (5), past the end of memory (6).
+    /// The source text's first offending line, counted from 1: syntax (kind 1), no such form (2),
+    /// unknown label (3), repeated label (4), out of range (5), past the end of memory (6).
     BadSource { line: u64, kind: u8 },
-    /// The offset of the session file's first field at fault; its length, where it ends before that field or inside it; or the offset of the
-    /// first byte that stands behind its last field.
+    /// The offset of the session file's first wrong field; the file's length, if the file ends
+    /// before or inside that field; or the offset of the first byte after the last field.
     BadState { at: u64 },
-    /// The file of this name could not be written, or, for `-`, the text not said.
+    /// The file of this name could not be written, or the text could not be said if the name is
+    /// `-`.
     WriteFault { name: Name },
     /// No thread could be started.
     NoThread,
     /// There was no memory.
     NoMemory,
-    /// The trace's first line, counted from 1, whose answer the chip would not give, and the byte that it would.
+    /// The trace's first line, counted from 1, whose answer is not the chip's, and the byte that
+    /// the chip gives.
     Wrong { line: u64, byte: u8 },
-    /// The line of the trace, counted from 1, that the replayed machine does not do, and what it does there, if it does something.
-    /// Where the trace has no more lines of its side, it is one past the last line.
+    /// The line of the trace, counted from 1, at which the replayed machine differs, and the
+    /// machine's access there, if it makes one. The line is one past the last if the trace has no
+    /// more lines of the machine's side.
     Differs { line: u64, doing: Option<Doing> },
 }
 
-/// How a command ends once its outputs stand.
+/// The ending of a command whose outputs were written.
 #[derive(Debug, Drop)]
 pub enum Ending {
-    /// As it was asked.
+    /// The command ended as requested.
     Done,
-    /// The trace's first line, counted from 1, whose answer the chip would not give, and the byte that it would.
+    /// The trace's first line, counted from 1, whose answer is not the chip's, and the byte that
+    /// the chip gives.
     Wrong { line: u64, byte: u8 },
-    /// The line of the trace, counted from 1, that the replayed machine does not do, and what it does there.
+    /// The line of the trace, counted from 1, at which the replayed machine differs, and the
+    /// machine's access there.
     Differs { line: u64, doing: Option<Doing> },
 }
 
-/// Why a command refuses what it read.
+/// The cause of a refusal of what a command read.
 #[derive(Debug, Drop)]
 pub enum Cause {
     /// The image has a length outside its set.
     BadImage { which: Which, len: u64 },
-    /// The key script's first offending line, counted from 1, and the kind of its offence.
+    /// The key script's first offending line, counted from 1, and the kind of its fault.
     BadScript { line: u64, kind: u8 },
-    /// The first offending line of the file of addresses, counted from 1, and the kind of its offence.
+    /// The first offending line of the file of addresses, counted from 1, and the kind of its
+    /// fault.
     BadPoints { line: u64, kind: u8 },
-    /// The trace's first line, counted from 1, that is outside its form (kind 1) or its order (kind 2), line 1 of a trace of another clock (kind 4), or
-    /// of any, where there is no Tube (kind 5).
+    /// The trace's first offending line, counted from 1: outside its form (kind 1) or its order
+    /// (kind 2). Line 1 of a trace of the other clock (kind 4), or of any trace if there is no Tube
+    /// (kind 5).
     BadTrace { line: u64, kind: u8 },
-    /// The source text's first offending line, counted from 1, and the kind of its offence.
+    /// The source text's first offending line, counted from 1, and the kind of its fault.
     BadSource { line: u64, kind: u8 },
-    /// Where the session file is outside its form.
+    /// The offset at which the session file is outside its form.
     BadState { at: u64 },
 }
 
-/// The status of a command's end.
+/// Returns the status of a command's end.
 pub fn status_of(end: Result<Ending, Stop<Cause>>) -> Status
     ensures { end_of result ≡ Some end }
 {
@@ -153,7 +163,7 @@ fn bad_image(alloc: Global, which: Which, len: u64) -> Result<Vec<u8>, AllocErro
 }
 
 impl Status {
-    /// The number that the program ends with, from 0 to 8.
+    /// Returns the exit status of the program, from 0 to 8.
     pub fn number(&self) -> u8
         ensures { result ≡ number self.now }
     {
@@ -174,7 +184,8 @@ impl Status {
         }
     }
 
-    /// The text for standard error, without a line feed: no bytes for `Done`, `Wrong` and `Differs`.
+    /// Returns the text for standard error, without a line feed. `Done`, `Wrong` and `Differs` have
+    /// no text.
     pub fn text(&self, alloc: Global) -> Result<Vec<u8>, NoMemory>
         ensures { IfOk result (λ v. v.items ≡ text self.now) }
     {

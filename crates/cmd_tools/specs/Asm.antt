@@ -14,7 +14,7 @@ use Rattle.cmd_status.specs.declared.status.Cause.{Cause}
 use Rattle.cmd_status.specs.declared.status.Cause.TheVariants.{BadImage, BadSource}
 use Rattle.cmd_outcome.specs.Verdicts.{file_verdict}
 
--- the refusal that an error of the assembler is
+-- the refusal for an error of the assembler
 abbrev pub refusal_of : AsmError → Refusal Cause
 refusal_of (asm_errors.Syntax line) = refusals.Cause (BadSource line 1)
 refusal_of (asm_errors.NoSuchForm line) = refusals.Cause (BadSource line 2)

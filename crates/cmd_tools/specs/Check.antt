@@ -1,4 +1,4 @@
--- `check TRACE`: whether the Tube chip would give the answers of a trace.
+-- `check TRACE`: compares the answers of a trace with those of the Tube chip.
 use Rattle.std.specs.Prelude.{ℕ, ◌+◌, List, ◌++◌, length, Option, Some, None, Result, Ok, codes}
 use Rattle.std.specs.Fmt.{decimal}
 use Rattle.tube_trace.specs.declared.Entry.{Entry}
@@ -15,7 +15,8 @@ use Rattle.cmd_outcome.specs.Verdicts.{said_verdict}
 unfoldable pub ok_text : ℕ → List ℕ
 ok_text n = codes "ok " ++ decimal n ++ codes "\n"
 
--- What the chip says of the entries: the number of lines, or the first line whose answer it would not give, and its byte.
+-- The verdict on the entries: the number of lines, or the first line whose answer is not the
+-- chip's, and the chip's byte.
 abbrev pub check_verdict : List Entry → Option (ℕ × ℕ) → Verdict Ending
 check_verdict entries None = said_verdict Done (ok_text (length entries))
 check_verdict entries (Some w) = wrong_verdict (w.0 + 1) w.1

@@ -21,7 +21,7 @@ fn bad_source(line: u64, kind: u8) -> Refusal<Cause>
     Refusal::Cause(Cause::BadSource { line, kind })
 }
 
-// Why a source text is refused.
+// Returns the refusal for an error of the assembler.
 fn refusal_of(error: AsmError) -> Refusal<Cause>
     ensures { result ≡ refusal_of error }
 {
@@ -36,7 +36,7 @@ fn refusal_of(error: AsmError) -> Refusal<Cause>
     }
 }
 
-/// What comes of assembling a source text.
+/// Makes the outcome of assembling a source text.
 #[tactic(auto, unfolding(crate::specs::Asm::asm_after))]
 pub fn asm_outcome<'a, D: BusDevice>(
     alloc: Global,
@@ -52,7 +52,7 @@ pub fn asm_outcome<'a, D: BusDevice>(
     }
 }
 
-/// What comes of disassembling an image.
+/// Makes the outcome of disassembling an image.
 #[tactic(auto, unfolding(crate::specs::Asm::dis_after))]
 pub fn dis_outcome<'a, D: BusDevice>(
     alloc: Global,

@@ -21,7 +21,7 @@ fn ok_text(alloc: Global, n: usize) -> Result<Vec<u8>, AllocError>
     text.as_bytes().to_vec(alloc)
 }
 
-// What the chip says of the entries.
+// Makes the outcome of comparing the entries with the chip.
 fn judged<'a, D: BusDevice>(alloc: Global, entries: &[Entry]) -> Result<Outcome<'a, D>, AllocError>
     requires { All IsEntry entries.now }
     ensures { IfOk result (λ outcome. verdict_of D.plug outcome ≡ check_verdict entries.now (wrong entries.now)) }
@@ -35,7 +35,7 @@ fn judged<'a, D: BusDevice>(alloc: Global, entries: &[Entry]) -> Result<Outcome<
     }
 }
 
-/// What comes of checking the bytes of a trace.
+/// Makes the outcome of checking the bytes of a trace.
 #[tactic(auto, unfolding(crate::specs::Check::check_after))]
 pub fn check_outcome<'a, D: BusDevice>(
     alloc: Global,

@@ -1,4 +1,4 @@
-//! What the tools come to by what they read: `check`, `asm` and `dis`.
+//! The outcomes of the tools: `check`, `asm` and `dis`.
 #![tactic(auto)]
 
 mod asm;

@@ -1,4 +1,4 @@
--- The theorems of sessions and of listings follow from what each command promises.
+-- The theorems of sessions and of listings follow from the promise of each command.
 use Rattle.std.proofs.Common.{◌≡◌, ◌∙◌, sym, refl, ap, ℕ, List, Option, Some, Result, Ok}
 use Rattle.beeb_bits.specs.declared.Side.{Side}
 use Rattle.beeb_bits.specs.declared.Side.TheVariants.{Host, Para}
@@ -62,7 +62,7 @@ module _ (plugs : List Plug) (old new : World) where
         said = c.ends.3.said ∙ ap (λ (v : Verdict Ending). say v.said old.outlet.said) got.4 ∙ say_nothing old.outlet.said;
       }
 
-  -- a listing that ended as it was asked
+  -- a listing that ended with `Done`
   listed_gone : {S : Type 0} (c : Command) (made_of : Inputs → Result (List Entry × S) (Refusal Cause)) (m : Moves S) (sights : S → Sight) (part : Part) (side : Side) (choice : Choice)
       (out : List ℕ) → ((i : Inputs) → after plugs c i
       ≡ (made_of i >>= λ x. chosen_with choice i.points >>= λ chosen. Ok (listed_ended m sights part side (ticks_of c) chosen out x))) → Ends c →
@@ -99,7 +99,7 @@ done_gone plugs (follow Para trace ticks out given) old new e =
     listed_gone plugs old new (follow Para trace ticks out given) (para_of (clock_of given)) para_moves para_sight Cmos Para (choice_of given) out (λ i. refl) e
 done_gone plugs c old new e = tt
 
--- a command that was carried out as its status says
+-- a command that was carried out with its status
 pub gone_of : (plugs : List Plug) (c : Command) {o : Option Command} {old new : World} {status : Status} {end : Result Ending (Stop Cause)} → Some c ≡ o →
     end_of status ≡ Some end → CarriesOut (plan plugs c) old new end → status ≡ Done → Gone plugs o old new
 gone_of plugs c {old = old} {new = new} is ended carried done = rw (← is) (done_gone plugs c old new (done_as plugs c ended carried done))

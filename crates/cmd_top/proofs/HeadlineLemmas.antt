@@ -1,4 +1,4 @@
--- The headline follows from what `run` promises.
+-- The headline follows from the promise of `run`.
 use Rattle.std.proofs.Common.{◌≡◌, ◌∙◌, refl, ap, ℕ, true, List, [], Option, Some, None, Result, Ok, Err, IfSome, append-nil}
 use Rattle.beeb_files.specs.Files.{Files, say}
 use Rattle.cmd_words.specs.Command.{Command, run}
@@ -31,7 +31,7 @@ pub say_nothing : (said : Option (List ℕ)) → say [] said ≡ said
 say_nothing None = refl
 say_nothing (Some bytes) = ap Some (append-nil bytes)
 
--- what follows gave this, so there was something that it follows
+-- a next step gave a result, so the step before it gave one too
 pub bound_ok : {A B C : Type 0} (r : Result A C) (after : A → Result B C) (v : B) → (r >>= after) ≡ Ok v → (x : A) × (r ≡ Ok x) × (after x ≡ Ok v)
 bound_ok (Ok x) after v same = (x, refl, same)
 bound_ok (Err stop) after v same = cc
@@ -74,7 +74,7 @@ unfolding EndsWith Headline
 done_headline plugs (run ticks out keep given) old new e = run_done plugs ticks keep out given old new e
 done_headline plugs c old new e = tt
 
--- a command that was carried out as its status says is done
+-- a command that was carried out with status `Done` ended with `Done`
 pub done_as : (plugs : List Plug) (c : Command) {old new : World} {status : Status} {end : Result Ending (Stop Cause)} → end_of status ≡ Some end →
     CarriesOut (plan plugs c) old new end → status ≡ Done → EndsWith plugs c old new Done
 unfolding EndsWith

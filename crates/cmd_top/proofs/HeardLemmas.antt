@@ -1,4 +1,4 @@
--- The theorem of the sound file follows from what each command promises.
+-- The theorem of the sound file follows from the promise of each command.
 use Rattle.std.proofs.Common.{◌≡◌, ◌∙◌, sym, refl, ap, subst, cond, ℕ, Bool, true, false, take, unwrap_or, List, [], ◌∷◌, ◌++◌, map, length, Option, Some, None, Result, Ok, Err, IfSome}
 use Rattle.std.proofs.lemmas.List.{map-append}
 use Rattle.std.specs.Cmp.Lexicographic.{nat_list_cmp_total, bytes_decides, texts_ties}
@@ -56,7 +56,7 @@ use Rattle.cmd_top.specs.Commands.{EndsWith, if_unpaired}
 use Rattle.cmd_top.specs.Heard.{WereRead, IsHeard, Heard, reference_host, replayed_host, session_host}
 use Rattle.cmd_top.proofs.HeadlineLemmas.{bound_ok, stage_ok, done_as}
 
--- ---- what is put last
+-- ---- the file that is put last
 
 last_put : (name bytes : List ℕ) (files : Option Files) → IfSome (put name bytes files) (λ now. bytes_of now name ≡ Some bytes)
 last_put name bytes None = tt
@@ -68,7 +68,7 @@ cond_other : {A : Type 0} (t : Bool) (x y : A) → (t ≡ true → ⊥) → cond
 cond_other true x y differ = absurd (differ refl)
 cond_other false x y differ = refl
 
--- what is put under another name leaves this one
+-- a file that is put under another name leaves this one unchanged
 other_put : (other name put_bytes bytes : List ℕ) (files : Option Files) → (other ≡ name → ⊥) → IfSome files (λ now. bytes_of now name ≡ Some bytes) →
     IfSome (put other put_bytes files) (λ now. bytes_of now name ≡ Some bytes)
 other_put other name put_bytes bytes None differ is = tt
@@ -81,7 +81,7 @@ put_behind : (fs gs : List (List ℕ × List ℕ)) (files : Option Files) → pu
 put_behind [] gs files = refl
 put_behind (f ∷ fs) gs files = put_behind fs gs (put f.0 f.1 files)
 
--- ---- what machines leave
+-- ---- the files of machines
 
 sound_is : (l : Left) (s : HostState) (name : List ℕ) → l.host ≡ Some s → l.names.wav ≡ Some name → file_of l Sound ≡ (name, sound_bytes l.clock l.ticks s)
 sound_is l s name host wav = rw (host, wav)
@@ -116,7 +116,7 @@ left_heard l s name old new host wav differ is =
     (session_behind l name (sound_bytes l.clock l.ticks s) l.names.save (put_all (map f sound) before) refl differ
     (one_sound l s name l.names.wav before host refl wav))
 
--- ---- what each command comes to
+-- ---- the verdict of each command
 
 right_trace : (w : Option (ℕ × ℕ)) (v : Verdict Ending) → endings.Done ≡ (unless_wrong w v).ending → unless_wrong w v ≡ v
 right_trace None v done = refl
@@ -138,7 +138,7 @@ placed done s place w v is ends =
     let right = right_trace w (verdict_of_place done s place) fine in
     is ∙ right ∙ no_place done s place (fine ∙ ap (λ (x : Verdict Ending). x.ending) right)
 
--- a session that ended as it was asked: its machines' reference run
+-- a session that ended with `Done`: its machines' reference run
 pub session_done : (plugs : List Plug) (ticks keep : ℕ) (names : Names) (i : Inputs) (v : Verdict Ending) → or_stop (session_after plugs ticks keep names i) ≡ Ok v → endings.Done ≡ v.ending →
     (s : sessions.Session) × (m : HostState × ParaState) × (state_of i.state ≡ Ok s) × (machines_of (setup_in s plugs) (inputs_in s) ≡ Ok m)
     × (v ≡ kept_verdict s.clock (begun_if names.save (setup_in s plugs) (inputs_in s)) ticks keep names (reference host_moves para_moves m.0 m.1 ticks))
@@ -156,7 +156,7 @@ session_done plugs ticks keep names i v comes done =
           (place_of s ticks m) (wrong s.entries) v got.4 done,
     )
 
--- in these files the sound file of a host stands under this name, where the session file has another
+-- The files have the sound file of a host under the name, if the session file has another name.
 abbrev Hears : Values → ℕ → List ℕ → Option Files → Result (Clock × HostState) (Refusal Cause) → Type 0
 Hears given ticks name new host =
     (clock : Clock) × (last : HostState) × (host ≡ Ok (clock, last)) × ((save_of given ≡ Some name → ⊥) → IfSome new (λ files. bytes_of files name ≡ Some (sound_bytes clock ticks last)))
@@ -220,7 +220,7 @@ if_name : (o : Option (List ℕ)) (P : List ℕ → Type 0) → ((name : List �
 if_name None P each = tt
 if_name (Some name) P each = each name refl
 
--- what is heard of a command that is done, by what is heard of what it comes to
+-- the sound of a command that is done, by the sound of its verdict
 heard_by : (plugs : List Plug) (old new : World) (c : Command) (given : Values) (host : Inputs → Result (Clock × HostState) (Refusal Cause))
     (e : CarriesOut (plan plugs c) old new (Ok endings.Done)) →
     ((name : List ℕ) → wav_of given ≡ Some name → (i : Inputs) → or_stop (after plugs c i) ≡ Ok e.ends.0 → Hears given (ticks_of c) name new.outlet.files (host i)) →
@@ -246,7 +246,7 @@ done_heard plugs (resume state ticks out keep given) old new e =
     (λ name wav i comes. session_heard plugs ticks out given name wav i e.ends.0 old.outlet.files new.outlet.files e.ends.3.files keep comes e.ends.2)
 done_heard plugs c old new e = tt
 
--- a command that was carried out as its status says
+-- a command that was carried out with its status
 pub heard_of : (plugs : List Plug) (c : Command) {o : Option Command} {old new : World} {status : Status} {end : Result Ending (Stop Cause)} → Some c ≡ o →
     end_of status ≡ Some end → CarriesOut (plan plugs c) old new end → status ≡ Done → Heard plugs o old new
 heard_of plugs c {old = old} {new = new} is ended carried done = rw (← is) (done_heard plugs c old new (done_as plugs c ended carried done))

@@ -14,7 +14,7 @@ use Rattle.cmd_machines.specs.declared.inputs.Inputs as held
 use Rattle.cmd_machines.proofs.PartLemmas.{keys_held, below_at, numbers_seen}
 use Rattle.cmd_machines.proofs.ReadLemmas.{numbers_of, same_slots, numbers_read, AreCapped, ShortKeys, all_short, files_capped}
 
--- what was read by a plan whose paged ROMs have slots below 16 has them there
+-- The paged ROMs read by a plan have slots below 16 if those of the plan have.
 pub slots_below : (ws : List (Want Slot)) (list : Inputs Slot) (i : held.Inputs) → AreWithin ws list → HaveRomSlots (map (λ (w : Want Slot). w.0) ws) →
     seen_inputs i ≡ inputs.inputs_of list → All (λ (slot : ℕ × Vec ℕ Global). slot.0 < 16) i.roms.items
 unfolding inputs.inputs_of

@@ -1,4 +1,4 @@
--- The command that words spell, and how it ends.
+-- The command that words spell, and its ending.
 use Rattle.std.specs.Prelude.{List, Option, Some, None, IsSomeAnd, map, string_bytes, if◌then◌else◌}
 use Rattle.std.specs.declared.string.String.{String}
 use Rattle.std.specs.declared.alloc.Global.{Global}
@@ -19,6 +19,6 @@ abbrev pub if_unpaired : Option Command → Option Command
 if_unpaired None = None
 if_unpaired (Some c) = if is_paired c then None else Some c
 
--- the command was carried out, where these devices are handed in, and ended as this status says
+-- the command was carried out with the given devices, and has the given status
 unfoldable pub EndsWith : List Plug → Command → World → World → Status → Type 0
 EndsWith plugs c old new status = IsSomeAnd (end_of status) (λ end. CarriesOut (plan plugs c) old new end)

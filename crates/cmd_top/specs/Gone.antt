@@ -1,4 +1,5 @@
--- The theorems of sessions and of listings: what stands when `resume` and `follow` have ended as they were asked.
+-- The theorems of sessions and of listings: the outputs of `resume` and `follow` that end with
+-- `Done`.
 use Rattle.std.specs.Prelude.{◌≡◌, ⊤, ℕ, List, ◌∷◌, ◌++◌, Option, Some, Result, Ok, codes}
 use Rattle.beeb_bits.specs.declared.Side.{Side}
 use Rattle.beeb_bits.specs.declared.Side.TheVariants.{Host, Para}
@@ -39,11 +40,13 @@ use Rattle.cmd_follow.specs.Follow.{listed_text, chosen_with}
 use Rattle.cmd_top.specs.Heard.{WereRead}
 use Rattle.cmd_top.specs.Plans.{choice_of}
 
--- What was written is what the reference run of the session's machines leaves, from power-on to the end of the run.
+-- The written files are those of the reference run of the session's machines, from power-on to the
+-- end of the run.
 pub record IsResumed (plugs : List Plug) (c : Command) (keep : ℕ) (out : List ℕ) (given : Values) (old new : World) : Type 0 where
   pub inputs : plans.Inputs Slot
   pub read : WereRead (reads c) old.shelf.files inputs
-  -- the session that the file holds, and both machines at power-on of its parts, with the devices as they were handed in
+  -- the session in the file, and both machines at power-on from its parts, with the devices as they
+  -- were handed in
   pub session : Session
   pub held : state_of (inputs_of inputs).state ≡ Ok session
   pub machines : HostState × ParaState
@@ -56,7 +59,8 @@ pub record IsResumed (plugs : List Plug) (c : Command) (keep : ℕ) (out : List 
   -- nothing was said
   pub said : new.outlet.said ≡ old.outlet.said
 
--- What was written is the listing of the machine's replay, and what is counted, if it is asked for; and then its number of lines was said.
+-- The written files are the listing of the machine's replay, and the counts, if they are written.
+-- The text with the listing's numbers was said after them.
 pub record IsListed {S : Type 0} (c : Command) (made_of : Inputs → Result (List Entry × S) (Refusal Cause)) (m : Moves S) (sights : S → Sight) (part : Part) (side : Side)
     (choice : Choice) (out : List ℕ) (old new : World) : Type 0 where
   pub inputs : plans.Inputs Slot
@@ -64,7 +68,7 @@ pub record IsListed {S : Type 0} (c : Command) (made_of : Inputs → Result (Lis
   pub entries : List Entry
   pub machine : S
   pub made : made_of (inputs_of inputs) ≡ Ok (entries, machine)
-  -- what is chosen, with the addresses of the file that the words name, if they do
+  -- the choice, with the addresses of the file, if one is given
   pub chosen : Choice
   pub chosen_is : chosen_with choice (inputs_of inputs).points ≡ Ok chosen
   pub listing : ListingState

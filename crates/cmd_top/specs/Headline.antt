@@ -1,4 +1,4 @@
--- The headline: what stands when `run` has ended as it was asked.
+-- The headline: the outputs of a `run` that ends with `Done`.
 use Rattle.std.specs.Prelude.{◌≡◌, ⊤, ℕ, List, Option, Some, IfSome, Ok}
 use Rattle.beeb_files.specs.Counts.{Rose}
 use Rattle.beeb_files.specs.Files.{Files}
@@ -23,18 +23,20 @@ use Rattle.cmd_machines.specs.Sessions.{begun_if}
 use Rattle.cmd_outcome.specs.Names.{names_of}
 use Rattle.cmd_ended.specs.Kept.{kept_verdict}
 
--- What was written is what the reference run leaves. It names no order in which the steps of two threads fell.
+-- The written files are those of the reference run. No order of the steps of the two threads is
+-- named.
 pub record IsReferenceRun (plugs : List Plug) (ticks keep : ℕ) (out : List ℕ) (given : Values) (old new : World) (files : Files) : Type 0 where
-  -- the bytes that the shelf holds under the names that the words give
+  -- the bytes of the shelf's files with the given names
   pub inputs : plans.Inputs Slot
   pub read : plans.read_all {C = Cause} files (files_of keys given) ≡ Ok inputs
-  -- both machines at power-on with these bytes, of the clock that the words give, with the discs of the kinds that their names give, and the
-  -- devices that the words plug, as they were handed in
+  -- both machines at power-on from these bytes, with the given clock, the kinds of discs by their
+  -- names, and the devices to plug as they were handed in
   pub host : HostState
   pub para : ParaState
   pub machines : machines_of (setup_of given plugs) (inputs_of inputs) ≡ Ok (host, para)
-  -- The report, both memories, the discs, the frames, the trace, what the plugged devices spill and, where they are asked for, the sound file and
-  -- the session file, of their reference run, were put into what the outlet held.
+  -- These files of the reference run were put into the outlet: the report, both memories, the
+  -- discs, the frames, the trace, the bytes of the plugged devices, and the sound file and the
+  -- session file, if given.
   pub written :
       new.outlet.files
       ≡ put_all (kept_verdict (clock_of given) (begun_if (save_of given) (setup_of given plugs) (inputs_of inputs)) ticks keep (names_of out given)

@@ -1,4 +1,5 @@
--- The theorem of the sound file: what stands under the name that `--wav` gives when `solo`, `run`, `resume` or `replay host` has ended as it was asked.
+-- The theorem of the sound file: the file with the name given by `--wav` after `solo`, `run`,
+-- `resume` or `replay host` ended with `Done`.
 use Rattle.std.specs.Prelude.{◌≡◌, ⊤, ℕ, List, Option, Some, None, IfSome, Result, Ok}
 use Rattle.beeb_bits.specs.declared.clock.Clock.{Clock}
 use Rattle.beeb_bits.specs.declared.Side.TheVariants.{Host}
@@ -26,39 +27,39 @@ use Rattle.cmd_outcome.specs.Sound.{sound_bytes}
 use Rattle.cmd_replayed.specs.Made.{host_of}
 use Rattle.cmd_session.specs.Session.{state_of}
 
--- the host of the reference run of both machines from power-on, where it ended, and its clock
+-- the host of the reference run of both machines from power-on, at its end, and its clock
 abbrev pub reference_host : List Plug → ℕ → Values → Inputs → Result (Clock × HostState) (Refusal Cause)
 reference_host plugs ticks given i =
     machines_of (setup_of given plugs) i >>= λ m. Ok (clock_of given, (reference host_moves para_moves m.0 m.1 ticks).host)
 
--- the host that is replayed from power-on, where it ended
+-- the host replayed from power-on, at its end, and its clock
 abbrev pub replayed_host : List Plug → ℕ → Values → Inputs → Result (Clock × HostState) (Refusal Cause)
 replayed_host plugs ticks given i =
     host_of (setup_of given plugs) i >>= λ m. Ok (clock_of given, (replay_of host_moves Host m.0 ticks m.1).machine)
 
--- the host of the reference run of a session's machines from power-on, where it ended
+-- the host of the reference run of a session's machines from power-on, at its end, and its clock
 abbrev pub session_host : List Plug → ℕ → Inputs → Result (Clock × HostState) (Refusal Cause)
 session_host plugs ticks i =
     state_of i.state
     >>= λ s. machines_of (setup_in s plugs) (inputs_in s)
     >>= λ m. Ok (s.clock, (reference host_moves para_moves m.0 m.1 ticks).host)
 
--- these bytes were read: those that the shelf holds under the names that are wanted, where it tells its files
+-- The inputs were read: those of the shelf under the names to read, if it shows its files.
 abbrev pub WereRead : List (Want Slot) → Option Files → plans.Inputs Slot → Type 0
 WereRead ws None inputs = AreWithin ws inputs
 WereRead ws (Some files) inputs = plans.read_all {C = Cause} files ws ≡ Ok inputs
 
--- Under this name stands the sound file of the host that comes of what the command read.
+-- The file with the name is the sound file of the host after the command's run.
 pub record IsHeard (c : Command) (given : Values) (host : Inputs → Result (Clock × HostState) (Refusal Cause)) (old new : World) (name : List ℕ) : Type 0 where
   pub inputs : plans.Inputs Slot
   pub read : WereRead (reads c) old.shelf.files inputs
   pub clock : Clock
   pub last : HostState
   pub ended : host (inputs_of inputs) ≡ Ok (clock, last)
-  -- where the outlet tells its files, and the session file, which is put later, has another name
+  -- if the outlet shows its files, and the session file, which is put later, has another name
   pub file : (save_of given ≡ Some name → ⊥) → IfSome new.outlet.files (λ files. bytes_of files name ≡ Some (sound_bytes clock (ticks_of c) last))
 
--- of each command that has a host, where the words ask for the sound file
+-- for each command that has a host, if the sound file is requested
 unfoldable pub Heard : List Plug → Option Command → World → World → Type 0
 Heard plugs (Some (replay Host trace ticks out given)) old new =
     IfSome (wav_of given) (IsHeard (replay Host trace ticks out given) given (replayed_host plugs ticks given) old new)

@@ -1,4 +1,4 @@
--- What each command reads and comes to. A new command has its line in `after`.
+-- The files that each command reads, and its verdict. A new command gets a line in `after`.
 use Rattle.std.specs.Prelude.{List, None, Result}
 use Rattle.cmd_stages.specs.Plan.{Verdict, Plan}
 use Rattle.cmd_stages.specs.declared.stop.Refusal.{Refusal}
@@ -21,18 +21,18 @@ use Rattle.cmd_session.specs.Session.{session_after}
 use Rattle.cmd_follow.specs.Follow.{follow_after}
 use Rattle.bus_plug.specs.Plug.{Plug}
 
--- which instructions are listed, but for the addresses of a file, and whether they are counted
+-- the choice of the instructions to list, without the addresses of a file, and of counting them
 abbrev pub choice_of : Values → Choice
 choice_of given = record { from = from_of given; at = at_of given; points = None; watch = watch_of given; counts = counts_of given }
 
--- what a command comes to by what it read, where these devices are handed in
+-- the verdict of a command on what it read, with the given devices
 abbrev pub after : List Plug → Command → Inputs → Result (Verdict Ending) (Refusal Cause)
 after plugs (check trace) i = check_after i.trace
 after plugs (asm part source out) i = asm_after part out i.source
 after plugs (dis part image origin out) i = dis_after part origin out i.image
 after plugs (replay side trace ticks out given) i = replay_after (setup_of given plugs) side ticks (names_of out given) i
 after plugs (solo ticks out keep given) i = solo_after (setup_of given plugs) ticks keep (names_of out given) i
--- the two threads of `run` come to what one thread comes to
+-- the two threads of `run` have the verdict of one thread
 after plugs (run ticks out keep given) i = solo_after (setup_of given plugs) ticks keep (names_of out given) i
 after plugs (resume state ticks out keep given) i = session_after plugs ticks keep (names_of out given) i
 after plugs (follow side trace ticks out given) i = follow_after (setup_of given plugs) side ticks (choice_of given) out i

@@ -15,9 +15,9 @@ use std::alloc::Global;
 use std::sync::Wait;
 use std::thread::Threads;
 
-/// Carries out the command that the words spell, on the files of the shelf, and writes what comes of it to the outlet. It has no crew, so it
-/// takes no words of `run`. The first of the devices are plugged where the host is there, as many as the words say. All are dropped at the
-/// return.
+/// Carries out the command that the words spell, on the files of the shelf, and writes its outcome
+/// to the outlet. `run` is refused, since there is no crew. A host gets the first of the devices,
+/// in the number that the words or the session give. All devices are dropped at the return.
 #[tactic(auto, unfolding(crate::specs::Commands::EndsWith))]
 pub fn plain<S: Shelf, O: Outlet>(
     alloc: Global,
@@ -26,24 +26,27 @@ pub fn plain<S: Shelf, O: Outlet>(
     out: &mut O,
     plugs: Vec<Box<dyn BusDevice + Send>>,
 ) -> Status
-    // `Usage` comes exactly where the words are outside the grammar or spell `run`, and then shelf and outlet are as they were.
+    // `Usage` comes if and only if the words are outside the grammar or spell `run`. Shelf and
+    // outlet are then unchanged.
     ensures usage { (result ≡ Status.Usage) ↔ (if_unpaired (command_of_words words.now) ≡ None) }
     ensures refused { let old = world (S.shelf shelf.old) (O.outlet out.old) nobody in
         let new = world (S.shelf shelf.new) (O.outlet out.new) nobody in
         IfNone (if_unpaired (command_of_words words.now)) (new ≡ old) }
-    // The theorem of the sound file: where `solo` or `replay host` with `--wav` ends with `Done`, the file of that name is the sound file of
-    // the sound writes of the reference run's host, or of the replayed one.
+    // The theorem of the sound file, for `--wav` with `solo`, `resume` or `replay host` that ends
+    // with `Done`. The file of that name is made from the sound writes of the host, of the
+    // reference run or the replay, unless `--save` gives the same name.
     ensures sound { let devices = map ⟦<Box<dyn BusDevice + Send> as BusDevice>⟧.plug plugs.items in
         let old = world (S.shelf shelf.old) (O.outlet out.old) nobody in
         let new = world (S.shelf shelf.new) (O.outlet out.new) nobody in
         result ≡ Status.Done → Heard devices (if_unpaired (command_of_words words.now)) old new }
-    // The theorems of sessions and of listings: where `resume` ends with `Done`, what is written is what the reference run of the session's
-    // machines leaves; where `follow` does, it is the listing of the machine's replay, and then how many lines it has is said.
+    // The theorems of sessions and of listings. If `resume` ends with `Done`, the written files are
+    // those of the reference run of the session's machines. If `follow` does, they are the listing
+    // of the machine's replay, and the text with its numbers was said.
     ensures gone { let devices = map ⟦<Box<dyn BusDevice + Send> as BusDevice>⟧.plug plugs.items in
         let old = world (S.shelf shelf.old) (O.outlet out.old) nobody in
         let new = world (S.shelf shelf.new) (O.outlet out.new) nobody in
         result ≡ Status.Done → Gone devices (if_unpaired (command_of_words words.now)) old new }
-    // Else the command is carried out, with the devices as they were handed in.
+    // Otherwise the command is carried out, with the devices as they were handed in.
     ensures ran { let devices = map ⟦<Box<dyn BusDevice + Send> as BusDevice>⟧.plug plugs.items in
         let old = world (S.shelf shelf.old) (O.outlet out.old) nobody in
         let new = world (S.shelf shelf.new) (O.outlet out.new) nobody in
@@ -58,9 +61,10 @@ pub fn plain<S: Shelf, O: Outlet>(
     status_of(single(alloc, command, plugs, shelf, out))
 }
 
-/// Carries out the command that the words spell, on the files of the shelf, and writes what comes of it to the outlet. `run` has the crew work
-/// its two machines; every other command is carried out as by `plain`. The first of the devices are plugged where the host is there, as many
-/// as the words say. All are dropped at the return.
+/// Carries out the command that the words spell, on the files of the shelf, and writes its outcome
+/// to the outlet. The crew works the two machines of `run`. Every other command is carried out as
+/// by `plain`. A host gets the first of the devices, in the number that the words or the session
+/// give. All devices are dropped at the return.
 #[tactic(auto, unfolding(crate::specs::Commands::EndsWith, crate::specs::Headline::Headline))]
 pub fn top<S: Shelf, O: Outlet, C: Crew, R: Threads + Wait + Sync>(
     rt: &R,
@@ -71,29 +75,34 @@ pub fn top<S: Shelf, O: Outlet, C: Crew, R: Threads + Wait + Sync>(
     crew: &mut C,
     plugs: Vec<Box<dyn BusDevice + Send>>,
 ) -> Status
-    // `Usage` comes exactly where the words are outside the grammar, and then shelf, outlet and the crew's counts are as they were.
+    // `Usage` comes if and only if the words are outside the grammar. Shelf, outlet and the crew's
+    // counts are then unchanged.
     ensures usage { (result ≡ Status.Usage) ↔ (command_of_words words.now ≡ None) }
     ensures refused { let old = world (S.shelf shelf.old) (O.outlet out.old) (C.counts crew.old) in
         let new = world (S.shelf shelf.new) (O.outlet out.new) (C.counts crew.new) in
         IfNone (command_of_words words.now) (new ≡ old) }
-    // The headline: where `run` ends with `Done`, what is written is what the reference run of both machines leaves.
+    // The headline: if `run` ends with `Done`, the written files are those of the reference run of
+    // both machines.
     ensures headline { let devices = map ⟦<Box<dyn BusDevice + Send> as BusDevice>⟧.plug plugs.items in
         let old = world (S.shelf shelf.old) (O.outlet out.old) (C.counts crew.old) in
         let new = world (S.shelf shelf.new) (O.outlet out.new) (C.counts crew.new) in
         result ≡ Status.Done → Headline devices (command_of_words words.now) old new }
-    // The theorem of the sound file: where `solo`, `run` or `replay host` with `--wav` ends with `Done`, the file of that name is the sound file
-    // of the sound writes of the reference run's host, or of the replayed one.
+    // The theorem of the sound file, for `--wav` with `solo`, `run`, `resume` or `replay host` that
+    // ends with `Done`. The file of that name is made from the sound writes of the host, of the
+    // reference run or the replay, unless `--save` gives the same name.
     ensures sound { let devices = map ⟦<Box<dyn BusDevice + Send> as BusDevice>⟧.plug plugs.items in
         let old = world (S.shelf shelf.old) (O.outlet out.old) (C.counts crew.old) in
         let new = world (S.shelf shelf.new) (O.outlet out.new) (C.counts crew.new) in
         result ≡ Status.Done → Heard devices (command_of_words words.now) old new }
-    // The theorems of sessions and of listings: where `resume` ends with `Done`, what is written is what the reference run of the session's
-    // machines leaves; where `follow` does, it is the listing of the machine's replay, and then how many lines it has is said.
+    // The theorems of sessions and of listings. If `resume` ends with `Done`, the written files are
+    // those of the reference run of the session's machines. If `follow` does, they are the listing
+    // of the machine's replay, and the text with its numbers was said.
     ensures gone { let devices = map ⟦<Box<dyn BusDevice + Send> as BusDevice>⟧.plug plugs.items in
         let old = world (S.shelf shelf.old) (O.outlet out.old) (C.counts crew.old) in
         let new = world (S.shelf shelf.new) (O.outlet out.new) (C.counts crew.new) in
         result ≡ Status.Done → Gone devices (command_of_words words.now) old new }
-    // Each command is carried out, `run` as `solo` with a crew: no clause names an order in which the steps of the two threads fell.
+    // Each command is carried out, `run` as `solo` with a crew. No clause names an order of the
+    // steps of the two threads.
     ensures ran { let devices = map ⟦<Box<dyn BusDevice + Send> as BusDevice>⟧.plug plugs.items in
         let old = world (S.shelf shelf.old) (O.outlet out.old) (C.counts crew.old) in
         let new = world (S.shelf shelf.new) (O.outlet out.new) (C.counts crew.new) in

@@ -1,4 +1,4 @@
-//! The road of every command: its files are read, something comes of them, and that is written.
+//! The stages of every command: its files are read, its outcome is made, and that is written.
 ghost use Rattle.std.specs.Prelude.{◌≡◌, map, true, false};
 ghost use Rattle.beeb_files.specs.Crew.{Counts};
 ghost use Rattle.cmd_stages.specs.Promise.{CarriesOut, world};
@@ -17,7 +17,7 @@ use std::alloc::Global;
 use std::sync::Wait;
 use std::thread::Threads;
 
-/// A command without a pair of jobs, on this thread. It leaves any crew as it is.
+/// Carries out a command without a pair of jobs on this thread, and leaves any crew unchanged.
 pub(crate) fn single<S: Shelf, O: Outlet, D: BusDevice>(
     alloc: Global,
     command: Command<'_>,
@@ -38,7 +38,7 @@ pub(crate) fn single<S: Shelf, O: Outlet, D: BusDevice>(
     write_outcome(alloc, outcome, out)
 }
 
-/// A command whose pair of jobs the crew works.
+/// Carries out a command whose pair of jobs the crew works.
 pub(crate) fn paired<S: Shelf, O: Outlet, D: BusDevice + Send, C: Crew, R: Threads + Wait + Sync>(
     rt: &R,
     alloc: Global,

@@ -1,4 +1,4 @@
-//! The work of each command, by what it read.
+//! The work of each command on what it read.
 ghost use Rattle.std.specs.Prelude.{◌≡◌, map, true, false};
 ghost use Rattle.cmd_stages.specs.Plan.{AreWithin};
 ghost use Rattle.cmd_stages.specs.Promise.{IsCrewAfter};
@@ -29,7 +29,8 @@ use std::alloc::Global;
 use std::sync::Wait;
 use std::thread::Threads;
 
-// Which instructions are listed, but for the addresses of a file, and whether they are counted.
+// Returns the choice of the instructions to list, without the addresses of a file, and of counting
+// them.
 fn choice_of(given: &Given<'_>) -> Choice
     ensures { result ≡ choice_of (seen_given given.now) }
 {
@@ -42,7 +43,7 @@ fn choice_of(given: &Given<'_>) -> Choice
     }
 }
 
-/// What comes of a command without a pair of jobs, where these devices are handed in.
+/// Makes the outcome of a command without a pair of jobs, with the given devices.
 pub(crate) fn single_outcome<'a, D: BusDevice>(
     alloc: Global,
     command: Command<'a>,
@@ -112,7 +113,7 @@ pub(crate) fn single_outcome<'a, D: BusDevice>(
     }
 }
 
-/// What comes of a command whose pair of jobs the crew works, where these devices are handed in.
+/// Makes the outcome of a command whose pair of jobs the crew works, with the given devices.
 pub(crate) fn paired_outcome<'a, D: BusDevice + Send, C: Crew, R: Threads + Wait + Sync>(
     rt: &R,
     alloc: Global,

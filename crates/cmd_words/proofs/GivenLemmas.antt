@@ -19,7 +19,7 @@ use Rattle.cmd_words.specs.View.{word_at, value_of}
 word_there : (words : List (String Global)) (at : ℕ) → at < length words → value_of words (Some at) ≡ Some (word_at words at)
 word_there words at h = rw (← slice_get-map string_bytes words at) (slice_get-get_or (map string_bytes words) at [] (rw length-map h))
 
--- the values, where one more word has a place
+-- the values, if one more word has a place
 pub places_set : (words : List (String Global)) (places : List (Option ℕ)) (place at : ℕ) → at < length words →
     map (value_of words) (slice_set places place (Some at)) ≡ slice_set (map (value_of words) places) place (Some (word_at words at))
 places_set words places place at h = map-set (value_of words) places place (Some at) ∙ ap (λ v. slice_set (map (value_of words) places) place v) (word_there words at h)
@@ -36,7 +36,7 @@ files_end ws i values h = rw (no_keys i h) (append-nil ws)
 pub word_read : (words : List (String Global)) (at : ℕ) (d : String Global) → at < length words → string_bytes (slice_index_or words at d) ≡ word_at words at
 word_read words at d h = sym (get_or-map string_bytes words at d [] h)
 
--- a value that is not there
+-- a value that is absent
 pub copied_none : (o : Option (Bor (List ℕ))) (v : Option (List ℕ)) → option_copied o ≡ v → is_some o ≡ false → is_none v ≡ true
 copied_none None v is none = rw (← is)
 copied_none (Some word) v is none = cc

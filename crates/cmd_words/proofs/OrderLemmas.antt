@@ -1,4 +1,4 @@
--- Two options next to each other may change places.
+-- Two neighbouring options may change places.
 use Rattle.std.proofs.Common.{◌≡◌, ◌∙◌, sym, refl, ap, ℕ, List, [], ◌∷◌, length, slice_set, Option, Some, None, Bool, ◌&&◌, arith, if◌then◌else◌}
 use Rattle.std.specs.Prelude.{option_and_then}
 use Rattle.std.proofs.lemmas.List.{set_comm, get_or-set_same, get_or-set_other, set_past}
@@ -9,7 +9,7 @@ use Rattle.cmd_words.specs.Keys.{fits, place_of}
 use Rattle.cmd_words.specs.Given.{Values, value_at, put_at, put_option, put_options}
 use Rattle.cmd_words.specs.Order.{AreOrderFree}
 
--- a word that may be such a value is put in a place that is empty
+-- a word of the right kind is put in an empty place
 abbrev put_if : Bool → List ℕ → Values → ℕ → Option Values
 put_if may word values place = if may && is_none (value_at values place) then Some (slice_set values place (Some word)) else None
 

@@ -1,4 +1,4 @@
--- An option may be moved over words among which each key has its value.
+-- An option may move over words in which each key has its value.
 use Rattle.std.proofs.Common.{◌≡◌, ◌∙◌, refl, ℕ, List, [], ◌∷◌, ◌++◌, Option, Some, None, Bool, true, false, codes, append_assoc, arith}
 use Rattle.std.specs.Prelude.{is_some}
 use Rattle.cmd_words.specs.declared.keys.Taker.{Taker}
@@ -28,7 +28,7 @@ options_parts None [] rest closed = refl
 options_parts (Some key) (v ∷ front) rest closed = rw (options_parts None front rest closed)
 options_parts None (w ∷ front) rest closed = grind (arith, options_parts (Some w) front rest, options_parts None front rest)
 
--- ---- an option in front of other words
+-- ---- an option before other words
 
 -- words that are one option
 record IsOption (words : List (List ℕ)) (o : List ℕ × List ℕ) : Type 0 where
@@ -42,7 +42,7 @@ key_option key value valued = record { alone_in = λ rest. rw valued; closed_in 
 flag_option : (flag : List ℕ) → is_flag flag ≡ true → IsOption (flag ∷ []) (flag, flag)
 flag_option flag is = record { alone_in = λ rest. rw is; closed_in = λ rest. rw (is, is_closed); options_in = λ rest. rw is }
 
--- ---- one option is moved over others
+-- ---- one option moves over others
 
 put_moved : (taker : Taker) (o : List ℕ × List ℕ) (front over back : List (List ℕ × List ℕ)) (values : Values) →
     put_options taker (front ++ o ∷ (over ++ back)) values ≡ put_options taker (front ++ (over ++ o ∷ back)) values
@@ -52,12 +52,12 @@ put_moved taker o front (p ∷ over) back values =
 
 -- ---- whole lists of words
 
--- these words are the same to a command that takes options
+-- these words are equal for a command that takes options
 record AreLike (before after : List (List ℕ)) : Type 0 where
   alone_same : alone false before ≡ alone false after
   options_same : (taker : Taker) → options_of taker before ≡ options_of taker after
 
--- an option is moved over words among which each key has its value
+-- an option moves over words in which each key has its value
 are_like : (words : List (List ℕ)) (o : List ℕ × List ℕ) (front over back : List (List ℕ)) → IsOption words o → is_closed false front ≡ true →
     is_closed false over ≡ true → AreLike (front ++ (words ++ (over ++ back))) (front ++ (over ++ (words ++ back)))
 unfolding options_of closed_options
@@ -67,7 +67,7 @@ are_like words o front over back option one closed = record {
       (rw (put_moved taker o (options None front) (options None over) (options None back) no_values));
 }
 
--- a command that finds the same in such words
+-- a command with the same result for such words
 abbrev IsMoving : List ℕ → Type 0
 IsMoving word = (before after : List (List ℕ)) → AreLike before after → command (word ∷ before) ≡ command (word ∷ after)
 

@@ -13,7 +13,7 @@ from_below : (low high : ℕ) (ns : List ℕ) → low ≤ high → IsTrue (rise_
 from_below low high [] le rises = refl
 from_below low high (n ∷ ns) le rises = grind (arith, nat_tests)
 
--- the slot of the paged ROM that a key is of
+-- the slot of a paged ROM, by its key
 abbrev key_slot : Value → Option ℕ
 key_slot (file slot) = rom_slot slot
 key_slot value = None

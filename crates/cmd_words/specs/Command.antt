@@ -1,10 +1,10 @@
--- The commands, as the words tell them.
+-- The commands that words can spell.
 use Rattle.std.specs.Prelude.{ℕ, Bool, true, false, List}
 use Rattle.op_table.specs.declared.Part.{Part}
 use Rattle.beeb_bits.specs.declared.Side.{Side}
 use Rattle.cmd_words.specs.Given.{Values}
 
--- names are lists of bytes
+-- Names are lists of bytes.
 pub data Command : Type 0 where
   -- `check TRACE`
   check : (trace : List ℕ) → Command
@@ -14,18 +14,18 @@ pub data Command : Type 0 where
   dis : (part : Part) (image : List ℕ) (origin : ℕ) (out : List ℕ) → Command
   -- `replay SIDE TRACE TICKS OUT` and options
   replay : (side : Side) (trace : List ℕ) (ticks : ℕ) (out : List ℕ) (given : Values) → Command
-  -- `solo TICKS OUT` and options, with the number of accesses that are kept
+  -- `solo TICKS OUT` and options, with the number of accesses to keep
   solo : (ticks : ℕ) (out : List ℕ) (keep : ℕ) (given : Values) → Command
-  -- `run TICKS OUT` and options, with the number of accesses that are kept
+  -- `run TICKS OUT` and options, with the number of accesses to keep
   run : (ticks : ℕ) (out : List ℕ) (keep : ℕ) (given : Values) → Command
-  -- `resume STATE TICKS OUT` and options, with the number of accesses that are kept
+  -- `resume STATE TICKS OUT` and options, with the number of accesses to keep
   resume : (state : List ℕ) (ticks : ℕ) (out : List ℕ) (keep : ℕ) (given : Values) → Command
   -- `follow SIDE TRACE TICKS OUT` and options
   follow : (side : Side) (trace : List ℕ) (ticks : ℕ) (out : List ℕ) (given : Values) → Command
   -- `gen SEED`
   gen : (seed : ℕ) → Command
 
--- the ticks that it asks for
+-- the ticks of a command's run
 abbrev pub ticks_of : Command → ℕ
 ticks_of (replay side trace ticks out given) = ticks
 ticks_of (solo ticks out keep given) = ticks
@@ -35,14 +35,14 @@ ticks_of (follow side trace ticks out given) = ticks
 ticks_of (gen seed) = 1000000
 ticks_of command = 0
 
--- the most accesses that it keeps
+-- the most accesses that a command keeps
 abbrev pub keep_of : Command → ℕ
 keep_of (solo ticks out keep given) = keep
 keep_of (run ticks out keep given) = keep
 keep_of (resume state ticks out keep given) = keep
 keep_of command = 0
 
--- the command has a crew work a pair of jobs
+-- true if a crew works a pair of jobs for the command
 abbrev pub is_paired : Command → Bool
 is_paired (run ticks out keep given) = true
 is_paired command = false

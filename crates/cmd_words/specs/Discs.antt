@@ -1,4 +1,4 @@
--- What the discs of both drives are, by the names of their images.
+-- The kinds of the discs in both drives, by the names of their images.
 use Rattle.std.specs.Prelude.{ℕ, ◌-◌, Bool, List, drop, length, Option, Some, None, if◌then◌else◌, codes}
 use Rattle.std.specs.Str.{bytes_eq}
 use Rattle.disc_image.specs.declared.Kind.{Kind}
@@ -9,11 +9,11 @@ use Rattle.cmd_words.specs.Given.{Values, value_of}
 abbrev pub is_dsd : List ℕ → Bool
 is_dsd name = bytes_eq (drop (length name - 4) name) (codes ".dsd")
 
--- a name that ends in `.dsd` is that of a DSD, and every other that of an SSD
+-- A name that ends in `.dsd` is that of a DSD. Any other is that of an SSD.
 abbrev pub kind_of : List ℕ → Kind
 kind_of name = if is_dsd name then Dsd else Ssd
 
--- where there is no disc, its kind does not matter
+-- The kind does not matter if there is no disc.
 abbrev pub kind_in : Option (List ℕ) → Kind
 kind_in None = Ssd
 kind_in (Some name) = kind_of name

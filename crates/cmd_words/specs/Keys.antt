@@ -11,20 +11,20 @@ use Rattle.cmd_words.specs.Alone.{is_name}
 use Rattle.digits.specs.Decimal.{decimal_number}
 use Rattle.digits.specs.Hexadecimal.{hex_number, is_hex}
 
--- what the value of an option is
+-- the kind of an option's value
 pub data Value : Type 0 where
   -- the name of a file that is read
   file : (slot : Slot) → Value
   -- the name of an output
   output : Value
-  -- a decimal number within these limits
+  -- a decimal number from least to most
   numeric : (least most : ℕ) → Value
-  -- one of these words
+  -- one of the given words
   one_of : (words : List (List ℕ)) → Value
   -- four upper-case hexadecimal digits
   four_digits : Value
 
--- a key: its word, the commands that take it, and what its value is
+-- a key: its word, the commands that take it, and the kind of its value
 pub record Key : Type 0 where
   pub word : List ℕ
   pub takers : Takers
@@ -33,23 +33,23 @@ pub record Key : Type 0 where
 abbrev pub key : List ℕ → Takers → Value → Key
 key word takers value = record { word = word; takers = takers; value = value }
 
--- the commands that have a host made of what the words give
+-- the commands that make a host from the options
 abbrev pub hosts : Takers
 hosts = record { replay_host = true; replay_para = false; solo = true; run = true; resume = false; follow_host = true; follow_para = false }
 
--- the commands that have such a second processor
+-- the commands that make a second processor from the options
 abbrev pub paras : Takers
 paras = record { replay_host = false; replay_para = true; solo = true; run = true; resume = false; follow_host = false; follow_para = true }
 
--- the commands that have one of both
+-- the commands that make a host or a second processor from the options
 abbrev pub machines : Takers
 machines = record { replay_host = true; replay_para = true; solo = true; run = true; resume = false; follow_host = true; follow_para = true }
 
--- the commands that run both machines, of what the words give or of a session file
+-- the commands that run both machines, from the options or from a session file
 abbrev pub runs : Takers
 runs = record { replay_host = false; replay_para = false; solo = true; run = true; resume = true; follow_host = false; follow_para = false }
 
--- the commands that leave a host
+-- the commands with a host in their final state
 abbrev pub heard : Takers
 heard = record { replay_host = true; replay_para = false; solo = true; run = true; resume = true; follow_host = false; follow_para = false }
 
@@ -57,11 +57,11 @@ heard = record { replay_host = true; replay_para = false; solo = true; run = tru
 abbrev pub lists : Takers
 lists = record { replay_host = false; replay_para = false; solo = false; run = false; resume = false; follow_host = true; follow_para = true }
 
--- the commands that run a host alone
+-- the commands that run only a host
 abbrev pub host_alone : Takers
 host_alone = record { replay_host = true; replay_para = false; solo = false; run = false; resume = false; follow_host = true; follow_para = false }
 
--- The keys. Those of files stand in the order in which the files are read.
+-- The keys. The keys of files are in the order of reading.
 unfoldable pub keys : List Key
 keys =
     key (codes "--os") hosts (file Os)
@@ -99,18 +99,18 @@ keys =
     ∷ key (codes "--counts") lists (one_of (codes "--counts" ∷ []))
     ∷ []
 
--- no command
+-- no commands
 abbrev pub no_takers : Takers
 no_takers = record { replay_host = false; replay_para = false; solo = false; run = false; resume = false; follow_host = false; follow_para = false }
 
--- what stands past the last key
+-- the entry past the last key
 abbrev pub no_key : Key
 no_key = key [] no_takers output
 
 abbrev pub key_at : ℕ → Key
 key_at place = slice_index_or keys place no_key
 
--- the place of a word among some keys
+-- the place of a word in a list of keys
 abbrev pub place_in : List Key → List ℕ → Option ℕ
 place_in [] word = None
 place_in (k ∷ ks) word = if bytes_eq k.word word then Some 0 else option_map (λ place. place + 1) (place_in ks word)
@@ -119,7 +119,7 @@ place_in (k ∷ ks) word = if bytes_eq k.word word then Some 0 else option_map (
 abbrev pub place_of : List ℕ → Option ℕ
 place_of word = place_in keys word
 
--- a command is among those that take an option
+-- true if the command is among those that take an option
 abbrev pub takes : Taker → Takers → Bool
 takes ReplayHost takers = takers.replay_host
 takes ReplayPara takers = takers.replay_para
@@ -129,12 +129,12 @@ takes Resume takers = takers.resume
 takes FollowHost takers = takers.follow_host
 takes FollowPara takers = takers.follow_para
 
--- a number that was read, if it is not too small
+-- true if a number was read and is at least least
 abbrev pub is_from : ℕ → Option ℕ → Bool
 is_from least None = false
 is_from least (Some n) = nat_le least n
 
--- a word is one of some words
+-- true if the word is in the list
 abbrev pub is_among : List (List ℕ) → List ℕ → Bool
 is_among [] word = false
 is_among (w ∷ ws) word = if bytes_eq w word then true else is_among ws word
@@ -146,7 +146,7 @@ is_four_digits word = length word == 4 && list_all is_hex word
 abbrev pub address_of : List ℕ → Option ℕ
 address_of word = if is_four_digits word then Some (hex_number word) else None
 
--- a word may be such a value
+-- true if the word is a value of the given kind
 abbrev pub is_value : Value → List ℕ → Bool
 is_value (file slot) word = is_name word
 is_value output word = is_name word
@@ -154,6 +154,6 @@ is_value (numeric least most) word = is_from least (decimal_number most word)
 is_value (one_of words) word = is_among words word
 is_value four_digits word = is_four_digits word
 
--- an option of the key at a place may have this value where this command takes it
+-- true if the command takes the key at a place, and with this value
 abbrev pub fits : Taker → ℕ → List ℕ → Bool
 fits taker place value = takes taker (key_at place).takers && is_value (key_at place).value value

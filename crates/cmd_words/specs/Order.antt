@@ -3,7 +3,7 @@ use Rattle.std.specs.Prelude.{◌≡◌, List, ℕ, ◌∷◌, ◌++◌}
 use Rattle.cmd_words.specs.declared.keys.Taker.{Taker}
 use Rattle.cmd_words.specs.Given.{Values, put_options}
 
--- two options next to each other may change places, and so all may stand in any order
+-- Two neighbouring options may change places, and so options may come in any order.
 abbrev pub AreOrderFree : Type 0
 AreOrderFree =
     (taker : Taker) (front back : List (List ℕ × List ℕ)) (a b : List ℕ × List ℕ) (values : Values) →

@@ -7,23 +7,23 @@ use Rattle.cmd_words.specs.Keys.{Value, file, Key, keys}
 use Rattle.cmd_words.specs.Given.{Values}
 use Rattle.cmd_words.specs.Command.{Command, check, asm, dis, replay, solo, run, resume, follow, gen, ticks_of, keep_of}
 
--- the most bytes of a file that an option gives
+-- the most bytes of a file that an option names
 abbrev pub cap_of : Slot → ℕ
 cap_of Points = 327680
 cap_of slot = 1048576
 
--- the file that an option gives
+-- the file that an option names
 abbrev pub file_of : Value → Option (List ℕ) → List (Slot × List ℕ × ℕ)
 file_of (file slot) (Some name) = (slot, name, cap_of slot) ∷ []
 file_of value given = []
 
--- the files that the options give, in the order of their keys
+-- the files that the options name, in the order of their keys
 abbrev pub files_of : List Key → Values → List (Slot × List ℕ × ℕ)
 files_of [] values = []
 files_of (k ∷ ks) [] = []
 files_of (k ∷ ks) (v ∷ vs) = file_of k.value v ++ files_of ks vs
 
--- The files that a command reads, in their order: what each is, its name, and the most bytes that it takes.
+-- The files that a command reads, in order: the slot, the name and the largest size of each.
 abbrev pub reads : Command → List (Slot × List ℕ × ℕ)
 reads (check trace) = (Trace, trace, 100663296) ∷ []
 reads (asm part source out) = (Source, source, 4194304) ∷ []
@@ -40,20 +40,20 @@ abbrev pub rom_slot : Slot → Option ℕ
 rom_slot (Rom number) = Some number
 rom_slot slot = None
 
--- the numbers that the words give are within their limits
+-- the numbers of a command are within their limits
 abbrev pub IsLimited : Command → Type 0
 IsLimited c = (ticks_of c ≤ 1073741824) × (keep_of c ≤ 4194304)
 
--- numbers below 16 that rise, from this one on
+-- true if the numbers rise, from low on, and are below 16
 abbrev pub rise_from : ℕ → List ℕ → Bool
 rise_from low [] = true
 rise_from low (n ∷ ns) = nat_le low n && nat_lt n 16 && rise_from (n + 1) ns
 
--- the paged ROMs among some files have different slots below 16
+-- the paged ROMs among the files have different slots below 16
 abbrev pub HaveRomSlots : List Slot → Type 0
 HaveRomSlots slots = IsTrue (rise_from 0 (filter_map rom_slot slots))
 
--- the numbers of a command are within their limits
+-- the numbers of a command and its ROM slots are within their limits
 pub record IsWithin (c : Command) : Type 0 where
   pub ticks : ticks_of c ≤ 1073741824
   pub keep : keep_of c ≤ 4194304

@@ -1,4 +1,4 @@
--- What the code holds, as the definitions see it.
+-- The program's values, as the definitions see them.
 use Rattle.std.specs.Prelude.{ℕ, List, [], Option, map, option_map, option_and_then, slice_get, slice_index_or, string_bytes}
 use Rattle.std.specs.Borrow.{Bor}
 use Rattle.std.specs.declared.string.String.{String}
@@ -21,7 +21,7 @@ use Rattle.cmd_words.specs.Words as words
 abbrev pub word_at : List (String Global) → ℕ → List ℕ
 word_at words i = slice_index_or (map string_bytes words) i []
 
--- the word at a place that may be there
+-- the word at a place, if there is one
 abbrev pub value_of : List (String Global) → Option ℕ → Option (List ℕ)
 value_of words at = option_map string_bytes (option_and_then (slice_get words) at)
 
@@ -54,7 +54,7 @@ seen_value FourDigits = keys.four_digits
 abbrev pub seen_key : Key → keys.Key
 seen_key k = keys.key k.word.now k.takers (seen_value k.value)
 
--- what a file is, its name and its cap
+-- the slot of a file, its name and its largest size
 abbrev pub seen_want : Slot × Bor (List ℕ) × ℕ → Slot × List ℕ × ℕ
 seen_want w = (w.0, w.1.now, w.2)
 

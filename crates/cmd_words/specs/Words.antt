@@ -1,4 +1,4 @@
--- The grammar of the words.
+-- The grammar of the words on the command line.
 use Rattle.std.specs.Prelude.{ℕ, ◌&&◌, false, List, [], ◌∷◌, Option, Some, None, option_map, option_and_then, if◌then◌else◌, codes}
 use Rattle.std.specs.Str.{bytes_eq}
 use Rattle.op_table.specs.declared.Part.{Part}
@@ -35,7 +35,7 @@ abbrev pub dis_with : Option Part → List ℕ → Option ℕ → List ℕ → O
 dis_with (Some part) image (Some origin) out = if is_name image && is_name out then Some (dis part image origin out) else None
 dis_with part image origin out = None
 
--- the words after `dis`: PART IMAGE ORIGIN OUT, where ORIGIN is four upper-case hexadecimal digits
+-- the words after `dis`: PART IMAGE ORIGIN OUT; ORIGIN is four upper-case hexadecimal digits
 abbrev pub dis_words : List (List ℕ) → Option Command
 dis_words (part ∷ image ∷ origin ∷ out ∷ []) = dis_with (part_of part) image (address_of origin) out
 dis_words words = None
@@ -44,12 +44,13 @@ dis_words words = None
 abbrev pub side_of : List ℕ → Option Side
 side_of word = if bytes_eq word (codes "host") then Some Host else if bytes_eq word (codes "para") then Some Para else None
 
--- the one of two that is of a side
+-- host or para, by the side
 abbrev pub by_side : Taker → Taker → Side → Taker
 by_side host para Host = host
 by_side host para Para = para
 
--- what `replay` and `follow` are told: the side, the name of the trace, the ticks, the name of the outputs, and the options
+-- the arguments of `replay` and `follow`: the side, the name of the trace, the ticks, the name of
+-- the outputs, and the options
 pub record Sided : Type 0 where
   pub side : Side
   pub trace : List ℕ
@@ -69,7 +70,8 @@ abbrev pub sided_by : Taker → Taker → List (List ℕ) → List ℕ × List �
 sided_by host para words w =
     option_and_then (λ side. option_and_then (sided_with host para w.1 w.3 words side) (decimal_number 1073741824 w.2)) (side_of w.0)
 
--- SIDE TRACE TICKS OUT, with the options of one of two commands, by the side, in any place among them
+-- SIDE TRACE TICKS OUT, with options in any place among them; the side chooses the command host or
+-- para
 abbrev pub sided_words : Taker → Taker → List (List ℕ) → Option Sided
 sided_words host para words = option_and_then (sided_by host para words) (four (alone false words))
 
@@ -83,7 +85,8 @@ abbrev pub follow_words : List (List ℕ) → Option Command
 follow_words words =
     option_map (λ (s : Sided). follow s.side s.trace s.ticks s.out s.given) (sided_words takers.FollowHost takers.FollowPara words)
 
--- what `solo` and `run` are told: the ticks, the name of the outputs, the number of accesses that are kept, and the options
+-- the arguments of `solo` and `run`: the ticks, the name of the outputs, the number of accesses to
+-- keep, and the options
 pub record Both : Type 0 where
   pub ticks : ℕ
   pub out : List ℕ
@@ -100,7 +103,7 @@ both_with taker out words ticks = if is_name out then option_map (both_given tic
 abbrev pub both_by : Taker → List (List ℕ) → List ℕ × List ℕ → Option Both
 both_by taker words w = option_and_then (both_with taker w.1 words) (decimal_number 1073741824 w.0)
 
--- the words after `solo` and after `run`: TICKS OUT, with the options of the command in any place among them
+-- the words after `solo` and `run`: TICKS OUT, with options in any place among them
 abbrev pub both_words : Taker → List (List ℕ) → Option Both
 both_words taker words = option_and_then (both_by taker words) (two (alone false words))
 
@@ -110,7 +113,7 @@ solo_words words = option_map (λ (b : Both). solo b.ticks b.out b.keep b.given)
 abbrev pub run_words : List (List ℕ) → Option Command
 run_words words = option_map (λ (b : Both). run b.ticks b.out b.keep b.given) (both_words takers.Run words)
 
--- a session goes on, of whose accesses so many are kept
+-- the command that resumes a session
 abbrev pub resume_given : List ℕ → ℕ → List ℕ → Values → Command
 resume_given state ticks out given = resume state ticks out (keep_of given) given
 
@@ -122,7 +125,7 @@ resume_with state out words ticks =
 abbrev pub resume_by : List (List ℕ) → List ℕ × List ℕ × List ℕ → Option Command
 resume_by words w = option_and_then (resume_with w.0 w.2 words) (decimal_number 1073741824 w.1)
 
--- the words after `resume`: STATE TICKS OUT, with the options of the command in any place among them
+-- the words after `resume`: STATE TICKS OUT, with options in any place among them
 abbrev pub resume_words : List (List ℕ) → Option Command
 resume_words words = option_and_then (resume_by words) (three (alone false words))
 

@@ -1,8 +1,8 @@
-//! The words that stand alone among the options.
+//! The positional words: those that are neither options nor their values.
 ghost use Rattle.std.specs.Prelude.{◌≡◌, map, option_map, MatchOption, false, [], ◌∷◌, string_bytes};
 ghost use Rattle.cmd_words.specs.Alone.{is_dashed, is_flag, takes_value, is_name, alone, two, three, four};
 
-// A word that begins with `-`.
+// Returns true if a word begins with `-`.
 fn is_dashed(word: &str) -> bool
     ensures { result ≡ is_dashed word.now }
 {
@@ -12,21 +12,21 @@ fn is_dashed(word: &str) -> bool
     }
 }
 
-/// An option that is one word, with no value behind it.
+/// Returns true for an option that is one word, with no value after it.
 pub(crate) fn is_flag(word: &str) -> bool
     ensures { result ≡ is_flag word.now }
 {
     word == "--no-tube" || word == "--counts"
 }
 
-/// A key, with its value behind it: every other word that begins with `-`.
+/// Returns true for a key, with its value after it: every other word that begins with `-`.
 pub(crate) fn takes_value(word: &str) -> bool
     ensures { result ≡ takes_value word.now }
 {
     !is_flag(word) && is_dashed(word)
 }
 
-/// A word that isn't empty and doesn't begin with `-`.
+/// Returns true if a word isn't empty and doesn't begin with `-`.
 pub(crate) fn is_name(word: &str) -> bool
     ensures { result ≡ is_name word.now }
 {
@@ -36,7 +36,7 @@ pub(crate) fn is_name(word: &str) -> bool
     }
 }
 
-/// The first word that stands alone, and the words after it.
+/// Returns the first positional word, and the words after it.
 fn next_alone(words: &[String]) -> Option<(&str, &[String])>
     ensures { let all = alone false (map string_bytes words.now) in
         MatchOption result (all ≡ []) (λ p. all ≡ p.0.now ∷ alone false (map string_bytes p.1.now)) }
@@ -54,7 +54,7 @@ fn next_alone(words: &[String]) -> Option<(&str, &[String])>
     None
 }
 
-/// The two words that stand alone, if they are two.
+/// Returns the positional words, if there are two.
 pub(crate) fn two_alone(words: &[String]) -> Option<(&str, &str)>
     ensures { option_map (λ p. (p.0.now, p.1.now)) result ≡ two (alone false (map string_bytes words.now)) }
 {
@@ -66,7 +66,7 @@ pub(crate) fn two_alone(words: &[String]) -> Option<(&str, &str)>
     }
 }
 
-/// The three words that stand alone, if they are three.
+/// Returns the positional words, if there are three.
 pub(crate) fn three_alone(words: &[String]) -> Option<(&str, &str, &str)>
     ensures { let all = alone false (map string_bytes words.now) in
         option_map (λ p. (p.0.now, p.1.now, p.2.now)) result ≡ three all }
@@ -80,7 +80,7 @@ pub(crate) fn three_alone(words: &[String]) -> Option<(&str, &str, &str)>
     }
 }
 
-/// The four words that stand alone, if they are four.
+/// Returns the positional words, if there are four.
 pub(crate) fn four_alone(words: &[String]) -> Option<(&str, &str, &str, &str)>
     ensures { let all = alone false (map string_bytes words.now) in
         option_map (λ p. (p.0.now, p.1.now, p.2.now, p.3.now)) result ≡ four all }

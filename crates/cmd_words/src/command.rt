@@ -7,7 +7,7 @@ use crate::given::Given;
 use beeb_bits::Side;
 use op_table::Part;
 
-/// A command, with the words that it came from.
+/// A command, with the words that spell it.
 #[derive(Clone, Copy)]
 pub enum Command<'a> {
     /// `check TRACE`
@@ -35,21 +35,21 @@ pub enum Command<'a> {
         out: &'a str,
         given: Given<'a>,
     },
-    /// `solo TICKS OUT` and options, with the number of accesses that are kept
+    /// `solo TICKS OUT` and options, with the number of accesses to keep
     Solo {
         ticks: u64,
         out: &'a str,
         keep: u32,
         given: Given<'a>,
     },
-    /// `run TICKS OUT` and options, with the number of accesses that are kept
+    /// `run TICKS OUT` and options, with the number of accesses to keep
     Run {
         ticks: u64,
         out: &'a str,
         keep: u32,
         given: Given<'a>,
     },
-    /// `resume STATE TICKS OUT` and options, with the number of accesses that are kept
+    /// `resume STATE TICKS OUT` and options, with the number of accesses to keep
     Resume {
         state: &'a str,
         ticks: u64,
@@ -72,7 +72,7 @@ pub enum Command<'a> {
 }
 
 impl<'a> Command<'a> {
-    /// Whether the command has a crew work a pair of jobs.
+    /// Returns true if a crew works a pair of jobs for the command.
     pub fn is_paired(&self) -> bool
         ensures { result ≡ is_paired (seen_command self.now) }
     {

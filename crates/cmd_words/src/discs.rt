@@ -1,4 +1,4 @@
-//! What the discs are, by the names of their images.
+//! The kinds of the discs, by the names of their images.
 ghost use Rattle.std.specs.Prelude.{◌≡◌, option_copied};
 ghost use Rattle.cmd_words.specs.Discs.{is_dsd, kind_in, kinds_of};
 ghost use Rattle.cmd_words.specs.View.{seen_given};
@@ -6,7 +6,7 @@ ghost use Rattle.cmd_words.specs.View.{seen_given};
 use crate::given::Given;
 use disc_image::Kind;
 
-/// How the name of a DSD ends.
+/// The end of the name of a DSD.
 const DSD: &[u8] = b".dsd";
 
 fn is_dsd(name: &str) -> bool
@@ -17,7 +17,7 @@ fn is_dsd(name: &str) -> bool
     &bytes[start..] == DSD
 }
 
-// The kind of a disc, by the value of its key.
+// Returns the kind of a disc, by the value of its key.
 fn kind_in(value: Option<&str>) -> Kind
     ensures { result ≡ kind_in (option_copied value.entry) }
 {
@@ -28,8 +28,8 @@ fn kind_in(value: Option<&str>) -> Kind
 }
 
 impl<'a> Given<'a> {
-    /// The kinds of the discs in drive 0 and drive 1, by the names of their images: a name that ends in `.dsd` is that of a DSD, and every
-    /// other that of an SSD.
+    /// Returns the kinds of the discs in drive 0 and drive 1, by the names of their images. A name
+    /// that ends in `.dsd` is that of a DSD. Any other is that of an SSD.
     pub fn disc_kinds(&self) -> (Kind, Kind)
         ensures { result ≡ kinds_of (seen_given self.now) }
     {

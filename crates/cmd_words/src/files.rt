@@ -24,10 +24,10 @@ const POINTS_CAP: u64 = 327_680;
 /// The most bytes of every other file.
 const FILE_CAP: u64 = 1_048_576;
 
-/// What a file is, its name, and the most bytes that it may have.
+/// The slot of a file, its name, and the most bytes that it may have.
 type Want<'a> = (Slot, &'a str, u64);
 
-// One file.
+// Makes a list of one file.
 fn one<'a>(alloc: Global, want: Want<'a>) -> Result<Vec<Want<'a>>, AllocError>
     ensures { IfOk result (λ v. map seen_want v.items ≡ seen_want want.entry ∷ []) }
 {
@@ -36,7 +36,7 @@ fn one<'a>(alloc: Global, want: Want<'a>) -> Result<Vec<Want<'a>>, AllocError>
     Ok(wants)
 }
 
-// The most bytes of a file that an option gives.
+// Returns the most bytes of a file that an option names.
 fn cap_of(slot: Slot) -> u64
     ensures { result ≡ cap_of slot }
 {
@@ -46,7 +46,7 @@ fn cap_of(slot: Slot) -> u64
     }
 }
 
-// These files, and that of one option, if it gives one.
+// Appends the file of one option, if it names one.
 fn with_option<'a>(
     wants: Vec<Want<'a>>,
     kind: Value,
@@ -65,7 +65,7 @@ fn with_option<'a>(
     }
 }
 
-// These files, and those that the options give.
+// Appends the files that the options name.
 #[tactic(auto, using(crate::proofs::GivenLemmas::files_more, crate::proofs::GivenLemmas::files_end))]
 fn with_options<'a>(files: Vec<Want<'a>>, given: Given<'a>) -> Result<Vec<Want<'a>>, AllocError>
     ensures { let more = files_of keys (seen_given given.entry) in
@@ -82,7 +82,8 @@ fn with_options<'a>(files: Vec<Want<'a>>, given: Given<'a>) -> Result<Vec<Want<'
 }
 
 impl<'a> Command<'a> {
-    /// The files that the command reads, in their order: what each is, its name, and the most bytes that it takes.
+    /// Returns the files that the command reads, in order: the slot, the name and the largest size
+    /// of each.
     pub fn reads(&self, alloc: Global) -> Result<Vec<(Slot, &'a str, u64)>, AllocError>
         ensures { IfOk result (λ v. map seen_want v.items ≡ reads (seen_command self.now)) }
     {

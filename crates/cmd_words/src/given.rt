@@ -12,10 +12,10 @@ use crate::keys::{COUNT, MOST_KEEP, MOST_TICKS, Taker, address_of, fits, place_o
 use beeb_bits::Clock;
 use digits::decimal_number;
 
-/// The number of accesses that are kept, where no other is given.
+/// The number of accesses to keep if no other is given.
 const DEFAULT_KEEP: u32 = 1_048_576;
 
-// The number of accesses that are kept, by the value of its key.
+// Returns the number of accesses to keep, by the value of its key.
 fn keep_in(value: Option<&str>) -> u32
     ensures number { result ≡ keep_in (option_copied value.entry) }
     ensures bound { result ≤ MOST_KEEP }
@@ -32,7 +32,7 @@ fn keep_in(value: Option<&str>) -> u32
 /// The most devices that can be plugged.
 const MOST_PLUGS: u64 = 8;
 
-// The number of plugged devices, by the value of its key.
+// Returns the number of plugged devices, by the value of its key.
 fn plugs_in(value: Option<&str>) -> usize
     ensures number { result ≡ plugs_in (option_copied value.entry) }
     ensures bound { result ≤ 8 }
@@ -46,7 +46,7 @@ fn plugs_in(value: Option<&str>) -> usize
     }
 }
 
-// The clock of the machines, by the value of its key.
+// Returns the clock of the machines, by the value of its key.
 fn clock_in(value: Option<&str>) -> Clock
     ensures { result ≡ clock_in (option_copied value.entry) }
 {
@@ -56,7 +56,7 @@ fn clock_in(value: Option<&str>) -> Clock
     }
 }
 
-// The address that is the value of a key.
+// Returns the address that is the value of a key.
 fn address_in(value: Option<&str>) -> Option<u16>
     ensures { result ≡ option_and_then address_of (option_copied value.entry) }
 {
@@ -66,7 +66,7 @@ fn address_in(value: Option<&str>) -> Option<u16>
     }
 }
 
-// The first tick whose starts are listed, by the value of its key.
+// Returns the first tick of the listing, by the value of its key.
 fn from_in(value: Option<&str>) -> u64
     ensures number { result ≡ from_in (option_copied value.entry) }
     ensures bound { result ≤ MOST_TICKS }
@@ -80,7 +80,7 @@ fn from_in(value: Option<&str>) -> u64
     }
 }
 
-/// The options among the words, by the places of their keys: where the value of each stands among the words.
+/// The options among the words: for each key the place of its value among the words.
 #[derive(Clone, Copy)]
 pub struct Given<'a> {
     pub(crate) words: &'a [String],
@@ -88,7 +88,7 @@ pub struct Given<'a> {
 }
 
 impl<'a> Given<'a> {
-    /// The value of the key at a place.
+    /// Returns the value of the key at a place.
     pub(crate) fn value(&self, place: usize) -> Option<&'a str>
         requires { place < COUNT }
         ensures value { option_copied result ≡ value_at (seen_given self.now) place }
@@ -99,7 +99,7 @@ impl<'a> Given<'a> {
         Some(word.as_str())
     }
 
-    /// The value of a key, by its word.
+    /// Returns the value of a key, by its word.
     pub(crate) fn value_of(&self, key: &str) -> Option<&'a str>
         ensures { option_copied result ≡ value_of (seen_given self.now) key.now }
     {
@@ -109,7 +109,7 @@ impl<'a> Given<'a> {
         }
     }
 
-    /// The number of accesses that are kept.
+    /// Returns the number of accesses to keep.
     pub(crate) fn keep(&self) -> u32
         ensures number { result ≡ keep_of (seen_given self.now) }
         ensures bound { result ≤ MOST_KEEP }
@@ -117,7 +117,8 @@ impl<'a> Given<'a> {
         keep_in(self.value_of("--keep"))
     }
 
-    /// The number of devices that are to be plugged, 0 where the words do not say it. Where fewer devices are handed in, all are plugged.
+    /// Returns the number of devices to plug, 0 if it is not given. If fewer devices are handed in,
+    /// all of them are plugged.
     pub fn plugs(&self) -> usize
         ensures number { result ≡ plugs_of (seen_given self.now) }
         ensures bound { result ≤ 8 }
@@ -125,42 +126,44 @@ impl<'a> Given<'a> {
         plugs_in(self.value_of("--plugs"))
     }
 
-    /// The clock of the machines: that of a second processor at 3 MHz, where the words do not give its speed.
+    /// Returns the clock of the machines: that of a second processor at 3 MHz if no speed is given.
     pub fn clock(&self) -> Clock
         ensures { result ≡ clock_of (seen_given self.now) }
     {
         clock_in(self.value_of("--speed"))
     }
 
-    /// The name of the sound file, if the words ask for one.
+    /// Returns the name of the sound file, if given.
     pub fn wav(&self) -> Option<&'a str>
         ensures { option_copied result ≡ wav_of (seen_given self.now) }
     {
         self.value_of("--wav")
     }
 
-    /// The name of the session file, if the words ask for one.
+    /// Returns the name of the session file to save, if given.
     pub fn save(&self) -> Option<&'a str>
         ensures { option_copied result ≡ save_of (seen_given self.now) }
     {
         self.value_of("--save")
     }
 
-    /// The address of the instructions that are listed, where the words ask for those of one address alone.
+    /// Returns the address whose instructions are listed, if given.
     pub fn at(&self) -> Option<u16>
         ensures { result ≡ at_of (seen_given self.now) }
     {
         address_in(self.value_of("--at"))
     }
 
-    /// The address that is watched, where the words ask for the instructions in front of which its byte changed alone.
+    /// Returns the address to watch, if given: only instructions before which its byte changed are
+    /// listed.
     pub fn watch(&self) -> Option<u16>
         ensures { result ≡ watch_of (seen_given self.now) }
     {
         address_in(self.value_of("--watch"))
     }
 
-    /// The first tick whose starts are listed, 0 where the words do not say it.
+    /// Returns the first tick of the listing, 0 if it is not given. Instructions that start earlier
+    /// are not listed.
     pub fn from(&self) -> u64
         ensures number { result ≡ from_of (seen_given self.now) }
         ensures bound { result ≤ 1073741824 }
@@ -168,14 +171,14 @@ impl<'a> Given<'a> {
         from_in(self.value_of("--from"))
     }
 
-    /// Whether the host has a Tube: unless `--no-tube` is given.
+    /// Returns true if the host has a Tube: `--no-tube` is not given.
     pub fn tube(&self) -> bool
         ensures { result ≡ tube_of (seen_given self.now) }
     {
         self.value_of("--no-tube").is_none()
     }
 
-    /// Whether the starts of each address are counted: if `--counts` is given.
+    /// Returns true if the starts of each address are counted: `--counts` is given.
     pub fn counts(&self) -> bool
         ensures { result ≡ counts_of (seen_given self.now) }
     {
@@ -194,14 +197,14 @@ impl<'a> Given<'a> {
         self.value_of("--tube").is_some()
     }
 
-    // The words give both one address and a file of addresses.
+    // Returns true if both an address and a file of addresses are given.
     fn has_both(&self) -> bool
         ensures { result ≡ has_both (seen_given self.now) }
     {
         self.value_of("--at").is_some() && self.value_of("--points").is_some()
     }
 
-    // The machines of a command have their image.
+    // Returns true if the machines of a command have their image.
     fn has_images(&self, taker: Taker) -> bool
         ensures { result ≡ has_images taker (seen_given self.now) }
     {
@@ -213,7 +216,8 @@ impl<'a> Given<'a> {
         }
     }
 
-    // These options, and one more, at a place that is to be empty, whose value is the word `at`.
+    // Adds an option at a place, with the word `at` as its value. Returns `None` if the place is
+    // taken or the value does not fit.
     #[tactic(auto, using(crate::proofs::GivenLemmas::places_set, crate::proofs::GivenLemmas::word_read, crate::proofs::GivenLemmas::copied_none))]
     fn put_at(self, taker: Taker, place: usize, at: usize) -> Option<Given<'a>>
         requires place { place < COUNT }
@@ -234,7 +238,7 @@ impl<'a> Given<'a> {
         }
     }
 
-    // These options, and one more, of this key, whose value is the word `at`.
+    // Adds an option of the given key, with the word `at` as its value.
     fn put(self, taker: Taker, key: &str, at: usize) -> Option<Given<'a>>
         requires { at < length self.words.now }
         ensures values { let word = word_at self.entry.words.now at in
@@ -249,7 +253,7 @@ impl<'a> Given<'a> {
 }
 
 #[tactic(auto, unfolding(crate::specs::Given::closed_options, crate::specs::Given::no_values))]
-// The options among the words, each in its place.
+// Returns the options among the words, each in its place.
 fn put_options(words: &[String], taker: Taker) -> Option<Given<'_>>
     ensures { option_map seen_given result ≡ closed_options taker (map string_bytes words.now) }
 {
@@ -283,7 +287,8 @@ fn put_options(words: &[String], taker: Taker) -> Option<Given<'_>>
 }
 
 #[tactic(auto, unfolding(crate::specs::Given::options_of))]
-/// The options among the words, where this command takes them and its machines have their images.
+/// Returns the options among the words, if the command accepts them and its machines have their
+/// images.
 pub(crate) fn options_among(words: &[String], taker: Taker) -> Option<Given<'_>>
     ensures { option_map seen_given result ≡ options_of taker (map string_bytes words.now) }
 {

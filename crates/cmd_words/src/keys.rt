@@ -8,14 +8,14 @@ ghost use Rattle.cmd_words.specs.Keys as keys;
 use crate::alone::is_name;
 use digits::{all_hex, decimal_number, hex_number};
 
-/// What a file is to a command.
+/// The purpose of a file in a command.
 #[derive(Clone, Copy, Debug, PartialEq, Eq)]
 pub enum Slot {
     /// A trace.
     Trace,
     /// A source text.
     Source,
-    /// An image to be disassembled.
+    /// An image to disassemble.
     Image,
     /// A session file.
     State,
@@ -31,7 +31,7 @@ pub enum Slot {
     Disc(u8),
     /// The key script.
     Keys,
-    /// The addresses of the starts that are listed.
+    /// The addresses whose instructions are listed.
     Points,
 }
 
@@ -54,7 +54,7 @@ pub(crate) enum Taker {
     FollowPara,
 }
 
-/// Which commands take an option.
+/// The commands that take an option.
 #[derive(Clone, Copy)]
 pub(crate) struct Takers {
     pub(crate) replay_host: bool,
@@ -66,7 +66,7 @@ pub(crate) struct Takers {
     pub(crate) follow_para: bool,
 }
 
-/// The commands that have a host made of what the words give.
+/// The commands that make a host from the options.
 const HOSTS: Takers = Takers {
     replay_host: true,
     replay_para: false,
@@ -77,7 +77,7 @@ const HOSTS: Takers = Takers {
     follow_para: false,
 };
 
-/// The commands that have such a second processor.
+/// The commands that make a second processor from the options.
 const PARAS: Takers = Takers {
     replay_host: false,
     replay_para: true,
@@ -88,7 +88,7 @@ const PARAS: Takers = Takers {
     follow_para: true,
 };
 
-/// The commands that have one of both.
+/// The commands that make a host or a second processor from the options.
 const MACHINES: Takers = Takers {
     replay_host: true,
     replay_para: true,
@@ -99,7 +99,7 @@ const MACHINES: Takers = Takers {
     follow_para: true,
 };
 
-/// The commands that run both machines, of what the words give or of a session file.
+/// The commands that run both machines, from the options or from a session file.
 const RUNS: Takers = Takers {
     replay_host: false,
     replay_para: false,
@@ -110,7 +110,7 @@ const RUNS: Takers = Takers {
     follow_para: false,
 };
 
-/// The commands that leave a host.
+/// The commands with a host in their final state.
 const HEARD: Takers = Takers {
     replay_host: true,
     replay_para: false,
@@ -132,7 +132,7 @@ const LISTS: Takers = Takers {
     follow_para: true,
 };
 
-/// The commands that run a host alone.
+/// The commands that run only a host.
 const HOST_ALONE: Takers = Takers {
     replay_host: true,
     replay_para: false,
@@ -143,22 +143,22 @@ const HOST_ALONE: Takers = Takers {
     follow_para: false,
 };
 
-/// What the value of an option is.
+/// The kind of an option's value.
 #[derive(Clone, Copy)]
 pub(crate) enum Value {
     /// The name of a file that is read.
     File(Slot),
     /// The name of an output.
     Output,
-    /// A decimal number within these limits.
+    /// A decimal number from `least` to `most`.
     Number { least: u64, most: u64 },
-    /// One of these words.
+    /// One of the given words.
     OneOf(&'static [&'static str]),
     /// Four upper-case hexadecimal digits.
     FourDigits,
 }
 
-/// A key: its word, the commands that take it, and what its value is.
+/// A key: its word, the commands that take it, and the kind of its value.
 #[derive(Clone, Copy)]
 struct Key {
     word: &'static str,
@@ -183,7 +183,7 @@ const NO_TUBE: &[&str] = &["--no-tube"];
 
 const COUNTS: &[&str] = &["--counts"];
 
-// A row of the table.
+// Makes a row of the table.
 fn row(word: &'static str, takers: Takers, value: Value) -> Key
     ensures { seen_key result ≡ keys.key word.now takers (seen_value value) }
 {
@@ -194,7 +194,7 @@ fn row(word: &'static str, takers: Takers, value: Value) -> Key
     }
 }
 
-// The table of the keys. Those of files stand in the order in which the files are read.
+// Returns the table of the keys. The keys of files are in the order of reading.
 #[tactic(auto, unfolding(crate::specs::Keys::keys))]
 fn table() -> [Key; COUNT]
     ensures { map seen_key result ≡ keys.keys }
@@ -250,7 +250,7 @@ fn table() -> [Key; COUNT]
     ]
 }
 
-// The key at a place.
+// Returns the key at a place.
 fn key_at(place: usize) -> Key
     requires { place < COUNT }
     ensures { seen_key result ≡ key_at place }
@@ -258,7 +258,7 @@ fn key_at(place: usize) -> Key
     table()[place]
 }
 
-/// What the value of the key at a place is.
+/// Returns the kind of the value of the key at a place.
 pub(crate) fn kind_of(place: usize) -> Value
     requires { place < COUNT }
     ensures { seen_value result ≡ (key_at place).value }
@@ -266,7 +266,7 @@ pub(crate) fn kind_of(place: usize) -> Value
     key_at(place).value
 }
 
-/// The place of a key among all.
+/// Returns the place of a key among all.
 #[tactic(auto, using(crate::proofs::KeyLemmas::key_split, crate::proofs::KeyLemmas::no_keys, crate::proofs::KeyLemmas::place_begin, crate::proofs::KeyLemmas::shifted))]
 pub(crate) fn place_of(word: &str) -> Option<usize>
     ensures place { result ≡ place_of word.now }
@@ -280,7 +280,7 @@ pub(crate) fn place_of(word: &str) -> Option<usize>
     None
 }
 
-// A command is among those that take an option.
+// Returns true if the command is among those that take an option.
 fn takes(taker: Taker, takers: Takers) -> bool
     ensures { result ≡ takes taker takers }
 {
@@ -295,7 +295,7 @@ fn takes(taker: Taker, takers: Takers) -> bool
     }
 }
 
-// A word is one of some words.
+// Returns true if the word is in the list.
 fn is_among(words: &[&str], word: &str) -> bool
     ensures { result ≡ is_among (map seen_word words.now) word.now }
 {
@@ -307,7 +307,7 @@ fn is_among(words: &[&str], word: &str) -> bool
     false
 }
 
-// A decimal number within these limits.
+// Returns true for a decimal number from `least` to `most`.
 fn is_number(word: &str, least: u64, most: u64) -> bool
     ensures { result ≡ is_from least (decimal_number most word.now) }
 {
@@ -317,7 +317,7 @@ fn is_number(word: &str, least: u64, most: u64) -> bool
     }
 }
 
-// Four upper-case hexadecimal digits.
+// Returns true for four upper-case hexadecimal digits.
 fn is_four_digits(word: &str) -> bool
     ensures { result ≡ is_four_digits word.now }
 {
@@ -325,7 +325,7 @@ fn is_four_digits(word: &str) -> bool
     digits.len() == 4 && all_hex(digits)
 }
 
-/// The number of four upper-case hexadecimal digits.
+/// Returns the number of four upper-case hexadecimal digits. Returns `None` for any other word.
 pub(crate) fn address_of(word: &str) -> Option<u16>
     ensures { result ≡ address_of word.now }
 {
@@ -337,7 +337,7 @@ pub(crate) fn address_of(word: &str) -> Option<u16>
     }
 }
 
-// A word may be such a value.
+// Returns true if the word is a value of the given kind.
 fn is_value(kind: Value, word: &str) -> bool
     ensures { result ≡ is_value (seen_value kind) word.now }
 {
@@ -349,7 +349,7 @@ fn is_value(kind: Value, word: &str) -> bool
     }
 }
 
-/// An option of the key at a place may have this value where this command takes it.
+/// Returns true if the command takes the key at a place, and with this value.
 pub(crate) fn fits(taker: Taker, place: usize, value: &str) -> bool
     requires { place < COUNT }
     ensures { result ≡ fits taker place value.now }

@@ -1,4 +1,4 @@
-//! The words of beebtube: the grammar, and the files that a command reads.
+//! The words of beebtube's command line: the grammar, and the files that a command reads.
 #![tactic(auto)]
 
 mod alone;

@@ -1,4 +1,4 @@
-//! The grammar of the words.
+//! The grammar of the words on the command line.
 ghost use Rattle.std.specs.Prelude.{◌≡◌, ◌≤◌, map, option_map, string_bytes, IsTrue, IfSome};
 ghost use Rattle.cmd_words.specs.Words.{part_of, side_of, by_side, sided_words, command};
 ghost use Rattle.cmd_words.specs.Words.{check_words, asm_words, dis_words, replay_words, both_words};
@@ -94,7 +94,7 @@ fn side_of(word: &str) -> Option<Side>
     }
 }
 
-// The one of two that is of a side.
+// Returns `host` or `para`, by the side.
 fn by_side(host: Taker, para: Taker, side: Side) -> Taker
     ensures { result ≡ by_side host para side }
 {
@@ -104,7 +104,7 @@ fn by_side(host: Taker, para: Taker, side: Side) -> Taker
     }
 }
 
-// What `replay` and `follow` are told.
+// The arguments of `replay` and `follow`.
 #[derive(Clone, Copy)]
 struct Sided<'a> {
     side: Side,
@@ -162,7 +162,7 @@ fn follow_words(words: &[String]) -> Option<Command<'_>>
     })
 }
 
-// What `solo` and `run` are told.
+// The arguments of `solo` and `run`.
 #[derive(Clone, Copy)]
 struct Both<'a> {
     ticks: u64,
@@ -277,7 +277,7 @@ fn command_within(words: &[String]) -> Option<Command<'_>>
     }
 }
 
-/// The command that the words spell. Its numbers are within their limits.
+/// Returns the command that the words spell. The command's numbers are within their limits.
 #[tactic(auto, using(crate::proofs::SlotLemmas::is_within))]
 pub fn command_of(words: &[String]) -> Option<Command<'_>>
     ensures command { option_map seen_command result ≡ command (map string_bytes words.now) }

@@ -1,4 +1,5 @@
--- What the 65C02 does from one look at its lines to the next: the definitions of both parts, for this one.
+-- The sequences of the 65C02 from one look at its lines to the next: the definitions for both
+-- parts, applied to this one.
 use Rattle.std.specs.Prelude.{ℕ, Option}
 use Rattle.op_table.specs.declared.names.Part.TheVariants.{Cmos}
 use Rattle.cpu_alu.specs.declared.Regs.{Regs}
@@ -7,11 +8,11 @@ use Rattle.cpu_core.specs.State.{State}
 use Rattle.cpu_core.specs.Sequences as both
 pub use Rattle.cpu_core.specs.Sequences.{starting, sequence_at_look, fresh, power_on}
 
--- the access of the cycle in progress, or None where the sequence is over
+-- the access of the cycle in progress, or None if the sequence is over
 abbrev pub next_cycle : State → Option Cycle
 next_cycle s = both.next_cycle Cmos s
 
--- one cycle later
+-- the state one cycle later
 abbrev pub after_byte : State → ℕ → State
 after_byte s byte = both.after_byte Cmos s byte
 
@@ -19,10 +20,11 @@ after_byte s byte = both.after_byte Cmos s byte
 abbrev pub after : State → Regs
 after s = both.after Cmos s
 
--- the instruction table's cycles of an opcode are the fewest accesses that it ever makes
+-- TakesAtLeast holds if an opcode always makes at least as many accesses as its cycles in the
+-- instruction table.
 abbrev pub TakesAtLeast : ℕ → Type 0
 TakesAtLeast op = both.TakesAtLeast Cmos op
 
--- and for some registers it makes just as many
+-- MayTakeJust holds if for some registers the opcode makes exactly as many.
 abbrev pub MayTakeJust : ℕ → Type 0
 MayTakeJust op = both.MayTakeJust Cmos op

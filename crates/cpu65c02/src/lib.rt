@@ -10,15 +10,16 @@ use op_table::Part;
 /// A 65C02, with the calls of `Core`.
 pub type Cpu = Core<Cmos>;
 
-/// Which part it is.
+/// Returns the part.
 pub fn part() -> Part
     ensures { result ≡ Part.Cmos }
 {
     Cpu::part()
 }
 
-/// A law and no work: the instruction table's cycles are the fewest that an opcode ever takes. It takes more only where
-/// a branch is taken, where an indexed address or a branch crosses a page, or in decimal mode.
+/// Proves a law and does no work: the instruction table's cycles are the fewest that an opcode ever
+/// takes. More are taken only if a branch is taken, if an indexed address or a branch crosses a
+/// page, or in decimal mode.
 pub fn cycles_of_the_table()
     ensures least { (op : ℕ) → op < 256 → TakesAtLeast op }
     ensures reached { (op : ℕ) → op < 256 → MayTakeJust op }

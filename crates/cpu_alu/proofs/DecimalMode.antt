@@ -8,7 +8,7 @@ use Rattle.op_table.specs.declared.names.Part.TheVariants.{Nmos, Cmos}
 use Rattle.cpu_alu.specs.Arithmetic.{adc, sbc}
 use Rattle.cpu_alu.specs.Decimal.{digits, plus, less}
 
--- whether two tests agree at each pair
+-- true if two tests agree at each pair
 abbrev agree : (ℕ → ℕ → Bool) → (ℕ → ℕ → Bool) → Bool
 agree f g = agree_below (λ x. agree_below (f x) (g x) 100) (λ _. true) 100
 

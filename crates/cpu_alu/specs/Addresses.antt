@@ -1,4 +1,5 @@
--- Addresses, which wrap at 65,536, in the zero page or in the stack's page: MCS6500 Programming Manual, chapters 5 to 8.
+-- Addresses, which wrap at 65,536, in the zero page or in the stack's page: MCS6500 Programming
+-- Manual, chapters 5 to 8.
 use Rattle.std.specs.Prelude.{ℕ, ◌+◌, ◌*◌, ◌%◌, Bool, cond, leb}
 use Rattle.cpu_alu.specs.declared.Regs.{Regs}
 
@@ -9,7 +10,7 @@ word low high = low + high * 256
 abbrev pub wrap : ℕ → ℕ
 wrap at = at % 65536
 
--- the address of byte n of the instruction, its opcode being byte 0
+-- the address of byte n of the instruction; byte 0 is its opcode
 abbrev pub place : Regs → ℕ → ℕ
 place r n = wrap (r.pc + n)
 
@@ -17,18 +18,18 @@ place r n = wrap (r.pc + n)
 abbrev pub stack : Regs → ℕ → ℕ
 stack r k = 0x100 + (r.s + k) % 256
 
--- the stack pointer moved k up, in its page
+-- the registers with S moved up by k in its page
 abbrev pub with_stack_moved : Regs → ℕ → Regs
 with_stack_moved r k = record r { s = (r.s + k) % 256 }
 
--- the registers with PC behind an instruction of so many bytes
+-- the registers with PC moved past an instruction of the given bytes
 abbrev pub with_pc_past : Regs → ℕ → Regs
 with_pc_past r bytes = record r { pc = place r bytes }
 
--- whether the address with an index added is in another page than that without: low is its low byte
+-- true if adding index to an address with the low byte low crosses a page
 abbrev pub crosses_page : ℕ → ℕ → Bool
 crosses_page low index = leb 256 (low % 256 + index)
 
--- where a branch of two bytes goes, by its signed operand
+-- the target of a branch of two bytes with the signed operand by
 abbrev pub target : Regs → ℕ → ℕ
 target r by = wrap (place r 2 + by + cond (leb 128 by) 0xFF00 0)

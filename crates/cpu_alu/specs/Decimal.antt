@@ -1,4 +1,4 @@
--- What decimal mode is for: bytes of two decimal digits as the numbers that they show.
+-- The meaning of decimal mode: a byte of two decimal digits is the number that it shows.
 use Rattle.std.specs.Prelude.{ℕ, ◌+◌, ◌-◌, ◌*◌, ◌/◌, ◌%◌, Bool}
 use Rattle.cpu_alu.specs.Arithmetic.{carry}
 
@@ -10,6 +10,6 @@ digits n = n / 10 * 16 + n % 10
 abbrev pub plus : ℕ → ℕ → Bool → ℕ
 plus x y c = x + y + carry c
 
--- 100 and x, less y, and less one more where the carry is clear
+-- 100 plus x, less y, and less one more if the carry is clear
 abbrev pub less : ℕ → ℕ → Bool → ℕ
 less x y c = 99 + x + carry c - y

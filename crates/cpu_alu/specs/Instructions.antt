@@ -1,5 +1,5 @@
--- What each instruction makes of the registers, and what it writes: MCS6500 Programming Manual, and the 65C02's data
--- sheet.
+-- The registers after each instruction, and the byte that it writes: MCS6500 Programming Manual,
+-- and the 65C02's data sheet.
 use Rattle.std.specs.Prelude.{ℕ, ◌+◌, ◌-◌, ◌%◌, Bool, true, false, not, eqb, bit_and, bit_or, bit_xor}
 use Rattle.op_table.specs.declared.names.Part.{Part}
 use Rattle.op_table.specs.declared.names.Mode.{Mode}
@@ -17,7 +17,7 @@ use Rattle.cpu_alu.specs.declared.flags.TheConstants.{CARRY, ZERO, INTERRUPT, DE
 use Rattle.cpu_alu.specs.Arithmetic.{bit_7, adc, sbc, compare, asl, lsr, rol, ror}
 use Rattle.cpu_alu.specs.Flags.{has_flag, with_flag, with_n_z, with_n_z_c, with_n_v_z_c}
 
--- how an instruction uses the bus
+-- the use of the bus by an instruction
 abbrev pub bus_use : Mnemonic → BusUse
 bus_use Adc = Reads
 bus_use And = Reads
@@ -67,21 +67,21 @@ bus_use Rti = Resumes
 bus_use Brk = Breaks
 bus_use _ = Implied
 
--- what a store writes
+-- the byte that a store writes
 abbrev pub stored_value : Mnemonic → Regs → ℕ
 stored_value Sta r = r.a
 stored_value Stx r = r.x
 stored_value Sty r = r.y
 stored_value _ r = 0
 
--- what a push writes: flags have bits 4 and 5 set
+-- the byte that a push writes: flags have bits 4 and 5 set
 abbrev pub pushed_value : Mnemonic → Regs → ℕ
 pushed_value Pha r = r.a
 pushed_value Phx r = r.x
 pushed_value Phy r = r.y
 pushed_value _ r = bit_or r.p PUSHED_BY_PROGRAM
 
--- whether a branch is taken
+-- true if a branch is taken
 abbrev pub takes_branch : Mnemonic → Regs → Bool
 takes_branch Bpl r = not (has_flag r.p NEGATIVE)
 takes_branch Bmi r = has_flag r.p NEGATIVE
@@ -93,7 +93,7 @@ takes_branch Bne r = not (has_flag r.p ZERO)
 takes_branch Beq r = has_flag r.p ZERO
 takes_branch _ r = true
 
--- whether it is a sum or a difference in decimal mode
+-- true for a sum or a difference in decimal mode
 abbrev pub is_decimal : Mnemonic → Regs → Bool
 is_decimal Adc r = has_flag r.p DECIMAL
 is_decimal Sbc r = has_flag r.p DECIMAL
@@ -109,24 +109,24 @@ with_x r value = record r { x = value; p = with_n_z r.p value }
 abbrev pub with_y : Regs → ℕ → Regs
 with_y r value = record r { y = value; p = with_n_z r.p value }
 
--- A a sum or a difference, with N, V, Z and C
+-- A becomes a sum or a difference, and its N, V, Z and C go into P
 abbrev pub with_sum : Regs → Sum → Regs
 with_sum r sum = record r { a = sum.value; p = with_n_v_z_c r.p sum }
 
--- N, Z and C by a comparison
+-- N, Z and C from a comparison
 abbrev pub after_compare : Regs → ℕ → ℕ → Regs
 after_compare r value m = record r { p = with_n_z_c r.p (compare value m) }
 
--- Z from A AND m
+-- p with Z from A AND m
 abbrev pub with_masked_z : ℕ → ℕ → ℕ → ℕ
 with_masked_z p a m = with_flag p ZERO (eqb (bit_and a m) 0)
 
--- BIT has Z from A AND m, and but for BIT # also N from bit 7 and V from bit 6 of m
+-- BIT sets Z from A AND m; except for BIT #, N is bit 7 and V is bit 6 of m
 abbrev pub bit_flags : Mode → ℕ → ℕ → ℕ → ℕ
 bit_flags Imm p a m = with_masked_z p a m
 bit_flags _ p a m = with_flag (with_flag (with_masked_z p a m) NEGATIVE (bit_7 m)) OVERFLOW (has_flag m 0x40)
 
--- after an instruction that reads m
+-- the registers after an instruction that reads m
 abbrev pub read_result : Part → Mnemonic → Mode → Regs → ℕ → Regs
 read_result part Lda way r m = with_a r m
 read_result part Ldx way r m = with_x r m
@@ -142,7 +142,7 @@ read_result part Cpy way r m = after_compare r r.y m
 read_result part Bit way r m = record r { p = bit_flags way r.p r.a m }
 read_result part _ way r m = r
 
--- what a modify instruction makes of m
+-- the byte that a modify instruction writes for m
 abbrev pub modified_value : Mnemonic → Regs → ℕ → ℕ
 modified_value Asl r m = (asl m).value
 modified_value Lsr r m = (lsr m).value
@@ -154,7 +154,7 @@ modified_value Tsb r m = bit_or m r.a
 modified_value Trb r m = bit_and m (255 - r.a)
 modified_value _ r m = m
 
--- the flags after it: TSB and TRB have Z from A AND m
+-- the flags after a modify instruction: TSB and TRB have Z from A AND m
 abbrev pub modify_flags : Mnemonic → Regs → ℕ → ℕ
 modify_flags Asl r m = with_n_z_c r.p (asl m)
 modify_flags Lsr r m = with_n_z_c r.p (lsr m)
@@ -164,12 +164,12 @@ modify_flags Inc r m = with_n_z r.p ((m + 1) % 256)
 modify_flags Dec r m = with_n_z r.p ((m + 255) % 256)
 modify_flags _ r m = with_masked_z r.p r.a m
 
--- after a modify instruction, on A or on the byte m of the memory
+-- the registers after a modify instruction, on A or on the byte m of memory
 abbrev pub modify_result : Mnemonic → Mode → Regs → ℕ → Regs
 modify_result name Acc r m = record r { a = modified_value name r r.a; p = modify_flags name r r.a }
 modify_result name _ r m = record r { p = modify_flags name r m }
 
--- after an instruction without an operand
+-- the registers after an instruction without an operand
 abbrev pub implied_result : Mnemonic → Regs → Regs
 implied_result Clc r = record r { p = with_flag r.p CARRY false }
 implied_result Cld r = record r { p = with_flag r.p DECIMAL false }
@@ -190,7 +190,7 @@ implied_result Tya r = with_a r r.y
 implied_result Txs r = record r { s = r.x }
 implied_result _ r = r
 
--- after a pull of m, but for the stack pointer: PLP leaves bits 4 and 5 out
+-- the registers, except S, after a pull of m: PLP ignores bits 4 and 5
 abbrev pub pull_result : Mnemonic → Regs → ℕ → Regs
 pull_result Pla r m = with_a r m
 pull_result Plx r m = with_x r m

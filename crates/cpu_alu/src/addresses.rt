@@ -4,7 +4,7 @@ ghost use Rattle.cpu_alu.specs.Addresses.{word, wrap, place, stack, with_stack_m
 
 use crate::Regs;
 
-/// Two bytes as an address.
+/// Returns the address of two bytes.
 #[inline(always)]
 pub fn word(low: u8, high: u8) -> u16
     ensures { result ≡ word low high }
@@ -12,7 +12,7 @@ pub fn word(low: u8, high: u8) -> u16
     low as u16 + high as u16 * 256
 }
 
-/// The address `by` above `base`, which wraps at 65,536.
+/// Returns the address `by` above `base`, wrapping at 65,536.
 #[inline(always)]
 pub fn wrapping_sum(base: u16, by: u16) -> u16
     ensures { result ≡ wrap (base + by) }
@@ -20,7 +20,7 @@ pub fn wrapping_sum(base: u16, by: u16) -> u16
     base.wrapping_add(by)
 }
 
-/// The address `by` above `base` in the zero page, where it wraps.
+/// Returns the address `by` above `base`, wrapping in the zero page.
 #[inline(always)]
 pub fn in_zero_page(base: u8, by: u16) -> u16
     requires { by < 512 }
@@ -29,7 +29,7 @@ pub fn in_zero_page(base: u8, by: u16) -> u16
     (base as u16 + by) % 256
 }
 
-/// Whether an address with this low byte comes into another page when `index` is added.
+/// Returns true if adding `index` to an address with the low byte `low` crosses a page.
 #[inline(always)]
 pub fn crosses_page(low: u8, index: u8) -> bool
     ensures { result ≡ crosses_page low index }
@@ -38,7 +38,7 @@ pub fn crosses_page(low: u8, index: u8) -> bool
 }
 
 impl Regs {
-    /// The address of byte `n` of the instruction at PC, its opcode being byte 0.
+    /// Returns the address of byte `n` of the instruction at PC; byte 0 is its opcode.
     #[inline(always)]
     pub fn place(&self, n: u8) -> u16
         ensures { result ≡ place self.now n }
@@ -46,7 +46,7 @@ impl Regs {
         wrapping_sum(self.pc, n as u16)
     }
 
-    /// The address `k` above S in the stack's page, where it wraps.
+    /// Returns the address `k` above S, wrapping in the stack's page.
     #[inline(always)]
     pub fn stack(&self, k: u8) -> u16
         ensures { result ≡ stack self.now k }
@@ -62,7 +62,7 @@ impl Regs {
         self.s = self.s.wrapping_add(k);
     }
 
-    /// Moves PC behind an instruction of so many bytes.
+    /// Moves PC past an instruction of `bytes` bytes.
     #[inline(always)]
     pub fn move_past(&mut self, bytes: u8)
         ensures { self.new ≡ with_pc_past self.old bytes }
@@ -70,7 +70,7 @@ impl Regs {
         self.pc = self.place(bytes);
     }
 
-    /// Where the branch at PC goes, by its signed operand.
+    /// Returns the target of the branch at PC with the signed operand `by`.
     #[inline(always)]
     pub fn target(&self, by: u8) -> u16
         ensures { result ≡ target self.now by }

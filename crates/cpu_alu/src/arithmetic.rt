@@ -20,7 +20,7 @@ fn carry(c: bool) -> u16
     if c { 1 } else { 0 }
 }
 
-/// A byte with its own N and Z.
+/// Returns a byte with its own N and Z, the carry `c`, and V clear.
 #[inline(always)]
 fn of_value(value: u8, c: bool) -> Sum
     ensures { result ≡ of_value value c }
@@ -163,9 +163,9 @@ fn sbc_decimal(part: Part, a: u8, m: u8, c: bool) -> Sum
     }
 }
 
-/// ADC: A plus `m` plus the carry, in decimal mode where `decimal` is true.
-/// Source: the MCS6500 Programming Manual, chapter 2, and the 65C02's data sheet. What decimal mode makes of digits above
-/// 9, and of V, is this project's choice.
+/// ADC: returns A plus `m` plus the carry, in decimal mode if `decimal` is true.
+/// Source: the MCS6500 Programming Manual, chapter 2, and the 65C02's data sheet. The results of
+/// decimal mode for digits above 9, and its V, are this project's choice.
 #[inline]
 pub fn adc(part: Part, decimal: bool, a: u8, m: u8, c: bool) -> Sum
     ensures { result ≡ adc part decimal a m c }
@@ -177,8 +177,9 @@ pub fn adc(part: Part, decimal: bool, a: u8, m: u8, c: bool) -> Sum
     }
 }
 
-/// SBC: A less `m`, and less one more where the carry is clear; in decimal mode where `decimal` is true.
-/// Source: as that of `adc`.
+/// SBC: returns A less `m`, and less one more if the carry is clear; in decimal mode if `decimal`
+/// is true.
+/// Source: the same as for `adc`.
 #[inline]
 pub fn sbc(part: Part, decimal: bool, a: u8, m: u8, c: bool) -> Sum
     ensures { result ≡ sbc part decimal a m c }
@@ -190,7 +191,7 @@ pub fn sbc(part: Part, decimal: bool, a: u8, m: u8, c: bool) -> Sum
     }
 }
 
-/// CMP, CPX and CPY: the register `r` less `m`. V is clear.
+/// CMP, CPX and CPY: returns the register `r` less `m`. V is clear.
 /// Source: the MCS6500 Programming Manual, chapters 4 and 7.
 #[inline]
 pub fn compare(r: u8, m: u8) -> Sum
@@ -213,7 +214,7 @@ fn shift_right(m: u8, high: bool) -> Sum
     of_value((m as u16 / 2 + carry(high) * 128) as u8, m % 2 == 1)
 }
 
-/// ASL: one bit to the left, with 0 shifted in whatever the carry is. V is clear.
+/// ASL: shifts left by one bit, with 0 shifted in. V is clear. The carry is ignored.
 /// Source: the MCS6500 Programming Manual, chapter 10.
 #[inline]
 pub fn asl(m: u8, _c: bool) -> Sum
@@ -222,7 +223,7 @@ pub fn asl(m: u8, _c: bool) -> Sum
     shift_left(m, false)
 }
 
-/// LSR: one bit to the right, with 0 shifted in whatever the carry is. V is clear.
+/// LSR: shifts right by one bit, with 0 shifted in. V is clear. The carry is ignored.
 /// Source: the MCS6500 Programming Manual, chapter 10.
 #[inline]
 pub fn lsr(m: u8, _c: bool) -> Sum
@@ -231,7 +232,7 @@ pub fn lsr(m: u8, _c: bool) -> Sum
     shift_right(m, false)
 }
 
-/// ROL: one bit to the left, with the carry shifted in. V is clear.
+/// ROL: shifts left by one bit, with the carry shifted in. V is clear.
 /// Source: the MCS6500 Programming Manual, chapter 10.
 #[inline]
 pub fn rol(m: u8, c: bool) -> Sum
@@ -240,7 +241,7 @@ pub fn rol(m: u8, c: bool) -> Sum
     shift_left(m, c)
 }
 
-/// ROR: one bit to the right, with the carry shifted in. V is clear.
+/// ROR: shifts right by one bit, with the carry shifted in. V is clear.
 /// Source: the MCS6500 Programming Manual, chapter 10.
 #[inline]
 pub fn ror(m: u8, c: bool) -> Sum

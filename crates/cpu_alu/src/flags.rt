@@ -9,7 +9,7 @@ use crate::arithmetic::bit_7;
 pub const CARRY: u8 = 0x01;
 /// Z in P.
 pub const ZERO: u8 = 0x02;
-/// I in P, which holds back IRQ.
+/// I in P, which disables IRQ.
 pub const INTERRUPT: u8 = 0x04;
 /// D in P, which makes ADC and SBC decimal.
 pub const DECIMAL: u8 = 0x08;
@@ -17,14 +17,14 @@ pub const DECIMAL: u8 = 0x08;
 pub const OVERFLOW: u8 = 0x40;
 /// N in P.
 pub const NEGATIVE: u8 = 0x80;
-/// What is set beside the flags in a byte that an interrupt pushes: bit 5.
+/// The bit set beside the flags in a byte that an interrupt pushes: bit 5.
 pub const PUSHED_BY_INTERRUPT: u8 = 0x20;
-/// What is set beside the flags in a byte that PHP or BRK pushes: bits 4 and 5.
+/// The bits set beside the flags in a byte that PHP or BRK pushes: bits 4 and 5.
 pub const PUSHED_BY_PROGRAM: u8 = 0x30;
-/// What is taken of a byte that is pulled as flags: all but bits 4 and 5.
+/// The bits kept of a byte that is pulled as flags: all but bits 4 and 5.
 pub const PULLED: u8 = 0xCF;
 
-/// Whether the flag of this weight is set.
+/// Returns true if the flag of value `weight` is set.
 #[inline(always)]
 pub fn has_flag(p: u8, weight: u8) -> bool
     ensures { result ≡ has_flag p weight }
@@ -32,7 +32,7 @@ pub fn has_flag(p: u8, weight: u8) -> bool
     p & weight != 0
 }
 
-/// The flags with that of this weight set or cleared.
+/// Returns `p` with the flag of value `weight` set or cleared.
 #[inline(always)]
 pub fn with_flag(p: u8, weight: u8, set: bool) -> u8
     ensures { result ≡ with_flag p weight set }
@@ -40,7 +40,7 @@ pub fn with_flag(p: u8, weight: u8, set: bool) -> u8
     if set { p | weight } else { p & !weight }
 }
 
-/// N and Z from a byte.
+/// Returns `p` with N and Z from a byte.
 #[inline(always)]
 pub(crate) fn with_n_z(p: u8, value: u8) -> u8
     ensures { result ≡ with_n_z p value }
@@ -52,7 +52,7 @@ pub(crate) fn with_n_z(p: u8, value: u8) -> u8
     )
 }
 
-/// N, Z and C from an operation.
+/// Returns `p` with N, Z and C from an operation.
 #[inline(always)]
 pub(crate) fn with_n_z_c(p: u8, sum: Sum) -> u8
     ensures { result ≡ with_n_z_c p sum }
@@ -64,7 +64,7 @@ pub(crate) fn with_n_z_c(p: u8, sum: Sum) -> u8
     )
 }
 
-/// N, V, Z and C from an operation.
+/// Returns `p` with N, V, Z and C from an operation.
 #[inline(always)]
 pub(crate) fn with_n_v_z_c(p: u8, sum: Sum) -> u8
     ensures { result ≡ with_n_v_z_c p sum }

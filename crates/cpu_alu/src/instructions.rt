@@ -1,4 +1,4 @@
-//! What each instruction makes of the registers, and what it writes.
+//! The registers after each instruction, and the byte that it writes.
 ghost use Rattle.std.specs.Prelude.{◌≡◌};
 ghost use Rattle.cpu_alu.specs.Instructions.{stored_value, pushed_value, takes_branch, is_decimal, with_a, with_x, with_y, with_sum};
 ghost use Rattle.cpu_alu.specs.Instructions.{after_compare, with_masked_z, bit_flags, read_result, modified_value, modify_flags, modify_result, implied_result, pull_result};
@@ -33,7 +33,7 @@ fn bit_flags(mode: Mode, p: u8, a: u8, m: u8) -> u8
 }
 
 impl Regs {
-    /// What a store writes.
+    /// Returns the byte that a store writes.
     #[inline(always)]
     pub fn stored(&self, mnemonic: Mnemonic) -> u8
         ensures { result ≡ stored_value mnemonic self.now }
@@ -46,7 +46,7 @@ impl Regs {
         }
     }
 
-    /// What a push writes: flags have bits 4 and 5 set.
+    /// Returns the byte that a push writes: flags have bits 4 and 5 set.
     #[inline(always)]
     pub fn pushed(&self, mnemonic: Mnemonic) -> u8
         ensures { result ≡ pushed_value mnemonic self.now }
@@ -59,7 +59,7 @@ impl Regs {
         }
     }
 
-    /// Whether a branch is taken.
+    /// Returns true if a branch is taken.
     #[inline(always)]
     pub fn takes(&self, branch: Mnemonic) -> bool
         ensures { result ≡ takes_branch branch self.now }
@@ -77,7 +77,7 @@ impl Regs {
         }
     }
 
-    /// Whether an instruction is a sum or a difference in decimal mode.
+    /// Returns true for a sum or a difference in decimal mode.
     #[inline(always)]
     pub fn is_decimal(&self, mnemonic: Mnemonic) -> bool
         ensures { result ≡ is_decimal mnemonic self.now }
@@ -127,7 +127,7 @@ impl Regs {
         self.p = with_n_z_c(self.p, compare(value, m));
     }
 
-    /// What an instruction that reads the byte `m` makes of the registers, PC apart.
+    /// Applies an instruction that reads the byte `m` to the registers, except PC.
     #[inline]
     pub fn do_read(&mut self, part: Part, mnemonic: Mnemonic, mode: Mode, m: u8)
         ensures { self.new ≡ read_result part mnemonic mode self.old m }
@@ -161,7 +161,7 @@ impl Regs {
         }
     }
 
-    /// What a modify instruction makes of the byte `m`.
+    /// Returns the byte that a modify instruction writes for `m`.
     #[inline(always)]
     pub fn modified(&self, mnemonic: Mnemonic, m: u8) -> u8
         ensures { result ≡ modified_value mnemonic self.now m }
@@ -196,8 +196,8 @@ impl Regs {
         }
     }
 
-    /// What a modify instruction makes of the registers, PC apart: on A in the accumulator's mode, else on the byte
-    /// `m` of the memory.
+    /// Applies a modify instruction to the registers, except PC: on A in accumulator mode, else on
+    /// the byte `m` of memory.
     #[inline(always)]
     pub fn do_modify(&mut self, mnemonic: Mnemonic, mode: Mode, m: u8)
         ensures { self.new ≡ modify_result mnemonic mode self.old m }
@@ -212,7 +212,7 @@ impl Regs {
         }
     }
 
-    /// What an instruction without an operand makes of the registers, PC apart.
+    /// Applies an instruction without an operand to the registers, except PC.
     #[inline]
     pub fn do_implied(&mut self, mnemonic: Mnemonic)
         ensures { self.new ≡ implied_result mnemonic self.old }
@@ -239,7 +239,7 @@ impl Regs {
         }
     }
 
-    /// What a pull of the byte `m` makes of the registers, PC and S apart: PLP leaves bits 4 and 5 out.
+    /// Applies a pull of the byte `m` to the registers, except PC and S: PLP ignores bits 4 and 5.
     pub fn do_pull(&mut self, mnemonic: Mnemonic, m: u8)
         ensures { self.new ≡ pull_result mnemonic self.old m }
     {

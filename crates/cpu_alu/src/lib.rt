@@ -1,4 +1,5 @@
-//! What both processors share: sums and shifts, the registers and their flags, and one access to the bus.
+//! The parts that both processors share: sums and shifts, the registers and their flags, and a bus
+//! access.
 #![tactic(auto)]
 
 ghost use Rattle.std.specs.Prelude.{ℕ, ◌≡◌, ◌<◌, ◌%◌, true, leb, Bool};
@@ -20,7 +21,7 @@ pub use flags::{
 };
 pub use uses::{BusUse, bus_use};
 
-/// What an operation gives: its byte, and the flags of P that it may set.
+/// The result of an operation: its byte, and the flags of P that it may set.
 #[derive(Clone, Copy, Debug, PartialEq, Eq)]
 pub struct Sum {
     /// The byte.
@@ -35,8 +36,9 @@ pub struct Sum {
     pub n: bool,
 }
 
-/// The registers: the MCS6500 Programming Manual, chapters 2, 3, 7 and 8. In `p` C is bit 0, Z bit 1, I bit 2, D bit 3, V bit 6 and N bit
-/// 7. Bits 4 and 5 exist only in pushed flags, and are clear in `p`.
+/// The registers: the MCS6500 Programming Manual, chapters 2, 3, 7 and 8. In `p` C is bit 0, Z bit
+/// 1, I bit 2, D bit 3, V bit 6 and N bit 7. Bits 4 and 5 exist only in pushed flags, and are clear
+/// in `p`.
 #[derive(Clone, Copy, Debug, PartialEq, Eq)]
 pub struct Regs {
     /// The program counter.
@@ -62,8 +64,9 @@ pub enum Cycle {
     Write(u16, u8),
 }
 
-/// A law and no work: in decimal mode, on both parts, a sum or a difference of bytes of two decimal digits is that of the
-/// numbers below 100 that they show. The carry is set where a sum has its hundred, and where a difference needs none.
+/// Proves a law and does no work: in decimal mode, on both parts, bytes of two decimal digits add
+/// and subtract as the numbers below 100 that they show. The carry is set if a sum is at least 100,
+/// or if a difference is not negative.
 /// Source: the MCS6500 Programming Manual, section 2.2.
 pub fn decimal_mode_is_arithmetic()
     ensures sum { (part : Part) (c : Bool) (x y : ℕ) → x < 100 → y < 100 → (adc part true (digits x) (digits y) c).value ≡ digits (plus x y c % 100) }

@@ -1,41 +1,41 @@
-//! How an instruction uses the bus.
+//! The use of the bus by an instruction.
 ghost use Rattle.std.specs.Prelude.{◌≡◌};
 ghost use Rattle.cpu_alu.specs.Instructions.{bus_use};
 
 use op_table::Mnemonic;
 
-/// How an instruction uses the bus.
+/// The use of the bus by an instruction.
 #[derive(Clone, Copy, Debug, PartialEq, Eq)]
 pub enum BusUse {
-    /// It has no operand.
+    /// No operand.
     Implied,
-    /// It reads its operand.
+    /// A read of the operand.
     Reads,
-    /// It writes its operand.
+    /// A write of the operand.
     Stores,
-    /// It shifts its operand, or A.
+    /// A shift of the operand, or of A.
     Shifts,
-    /// It reads its operand and writes another byte back, and is no shift.
+    /// A read of the operand and a write back, without a shift.
     Modifies,
-    /// It pushes a byte.
+    /// A push of a byte.
     Pushes,
-    /// It pulls a byte.
+    /// A pull of a byte.
     Pulls,
-    /// It is a branch.
+    /// A branch.
     Branches,
-    /// It is JMP.
+    /// JMP.
     Jumps,
-    /// It is JSR.
+    /// JSR.
     Calls,
-    /// It is RTS.
+    /// RTS.
     Returns,
-    /// It is RTI.
+    /// RTI.
     Resumes,
-    /// It is BRK.
+    /// BRK.
     Breaks,
 }
 
-/// How an instruction uses the bus.
+/// Returns the use of the bus by an instruction.
 #[inline]
 pub fn bus_use(mnemonic: Mnemonic) -> BusUse
     ensures { result ≡ bus_use mnemonic }

@@ -1,4 +1,4 @@
--- An instruction goes on from its opcode to the first cycle after it.
+-- The step of an instruction from its opcode to the first cycle after it.
 use Rattle.std.proofs.Common.{◌≡◌, ◌<◌, ℕ, suc, ◌+◌, List, [], ◌∷◌, ◌++◌, length, Bool, true, false, cond, Option, Some, None, refl, sym, ap, ◌∙◌, arith}
 use Rattle.std.proofs.lemmas.Bool.{agree_below_at}
 use Rattle.op_table.specs.declared.names.Part.{Part}
@@ -25,7 +25,7 @@ use Rattle.cpu_core.specs.CodePhases.{at_operand, after_operand, cycles_left, ou
 use Rattle.cpu_core.specs.CodeStarts.{in_memory, start_by, start_change, start_implied, start_jump, start_in, start_at, start_leaves}
 use Rattle.cpu_core.specs.CodeTies.{GoesOn, first}
 
--- the operand's byte comes one cycle later where the page is crossed
+-- the operand's byte comes one cycle later if the page is crossed
 operand_at : (c : Bool) (q : Cycle) (o : Option ℕ) (f : List (Option ℕ)) → byte (o ∷ f) (1 + suc (suc (length (cond c (q ∷ []) [])))) ≡ cond c (byte f 3) (byte f 2)
 operand_at true q o f = refl
 operand_at false q o f = refl
@@ -79,7 +79,7 @@ start_leaves-fetch w k always m = grind arith
 start_leaves-stuck : (w : Mode) (k : Access) (always : Bool) (m : Progress) → is_stuck (start_leaves (in_memory k always w) m).phase ≡ false
 start_leaves-stuck w k always m = grind arith
 
--- a modify form, but for that of A
+-- a modify form, except that of A
 modify_form-entered : (part : Part) (w : Mode) → (w ≡ Acc → ⊥) → (row : Row) (always : Bool) (r : Regs) (seen : List (Option ℕ))
     → modify_form part row w always r seen ≡ reach part w always r seen ++ at_operand part Change row (address w r seen) r (operand part w always r seen)
 modify_form-entered part w n row always r seen = grind arith
@@ -148,7 +148,7 @@ module _ {part : Part} {m : Progress} (op : ℕ) (p : m.phase ≡ phase.Opcode) 
   jumps_by : (w : Mode) → bus_use m.row.mnemonic ≡ Jumps → m.row.mode ≡ w → known_by Jumps w ≡ true → GoesOn part m op (start_leaves (start_jump w) m)
   jumps_by w b v k = grind arith
 
-  -- each opcode but those that do nothing
+  -- each opcode except those that do nothing
   goes_by : (u : BusUse) (w : Mode) → bus_use m.row.mnemonic ≡ u → m.row.mode ≡ w → ((start_by part u w).phase ≡ phase.Opcode → ⊥) → known_by u w ≡ true
       → GoesOn part m op (start_leaves (start_by part u w) m)
   goes_by Implied w b v n k = implied_by w b v n

@@ -1,4 +1,4 @@
--- A phase that goes on is no halt.
+-- A phase that continues is no halt.
 use Rattle.std.proofs.Common.{◌<◌, ℕ, arith}
 use denote.Enum.Declared.{tag_of}
 use Rattle.op_table.specs.declared.names.Part.{Part}

@@ -1,4 +1,4 @@
--- A phase that is tied to the cycles seen, and goes on, stays tied.
+-- A phase that is tied to the cycles seen, and continues, stays tied.
 use Rattle.std.proofs.Common.{◌≡◌, ◌↔◌, IsSome, IsNone, ℕ, zero, suc, List, [], ◌∷◌, ◌++◌, length, drop, Bool, true, false, ◌&&◌, Option, Some}
 use Rattle.std.proofs.Common.{is_none, slice_get, inl, inr, refl, sym, ap, ◌∙◌, arith, append_assoc, length-append}
 use Rattle.std.proofs.lemmas.List.{append-nil, drop-drop}
@@ -15,7 +15,7 @@ use Rattle.cpu_core.specs.declared.progress.Phase.TheVariants.{Opcode, Halted, O
 use Rattle.cpu_core.specs.CodePhases.{cycles_left, cycles_left_in, outcome, wants, wants_in, is_fetch, is_stuck}
 use Rattle.cpu_core.specs.CodeTies.{Tied, GoesOn, StepsWhere, Steps, first}
 
--- the n-th element is the first of what is left from n on
+-- the n-th element is the first of those left from n on
 slice_get-first : (l : List Cycle) (n : ℕ) → slice_get l n ≡ first (drop n l)
 slice_get-first [] zero = refl
 slice_get-first [] (suc n) = refl
@@ -31,7 +31,7 @@ not_start : (seen : List (Option ℕ)) (x : Option ℕ) (sequence : Sequence) �
 not_start [] x sequence = refl
 not_start (y ∷ seen) x sequence = refl
 
--- it halts by an opcode alone
+-- only an opcode halts it
 halts-first : (part : Part) (sequence : Sequence) (x : Option ℕ) (b : ℕ) → (is_start [] sequence ≡ true → x ≡ Some b)
     → halts (x ∷ []) part sequence ≡ (is_start [] sequence && is_none (row_at part b))
 halts-first part sequence x b h = grind arith
@@ -88,7 +88,7 @@ module _ {part : Part} {m : Progress} {s : State} (t : Tied part m s) where
   end-tied (inl n) = let k : m.phase ≡ Over = over_iff.1 n in work-over (rw k refl)
   end-tied (inr h) = let k : m.phase ≡ Halted = stuck-is m.phase (stuck-tied ∙ h) in work-over (rw k refl)
 
-  -- a phase that goes on keeps the tie: a write shows nothing, whatever byte it was given
+  -- A phase that continues keeps the tie: a write shows nothing, for any byte that it was given.
   tied-step : {then : Progress} {b : ℕ} → GoesOn part m b then → Tied part then (record s { seen = s.seen ++ shown_byte (next_cycle part s) b ∷ [] })
   tied-step {then} {b} g =
       let x : Option ℕ = shown_byte (first (cycles_left part m [])) b in
@@ -104,6 +104,6 @@ module _ {part : Part} {m : Progress} {s : State} (t : Tied part m s) where
   tied-by b true e stays = rw (stays, ← e) t
   tied-by b false e goes_on = rw (← e) (tied-step goes_on)
 
-  -- a step keeps it too: a halted part stays as it is
+  -- a step keeps it too: a halted part keeps its phase
   pub tied-after_byte : {then : Progress} (b : ℕ) → Steps part m b then → Tied part then (after_byte part s b)
   tied-after_byte b g = tied-by b (is_stuck m.phase) stuck-tied g

@@ -1,4 +1,4 @@
--- What is left of a sequence in each phase.
+-- The accesses left in each phase of a sequence, and the registers at its end.
 use Rattle.std.specs.Prelude.{ℕ, ◌+◌, ◌/◌, ◌%◌, List, [], ◌∷◌, ◌++◌, Bool, true, false, cond, eqb, ◌||◌, Option, Some, None, nat_lt, drop, bit_or, bit_and}
 use denote.Enum.Declared.{tag_of}
 use Rattle.op_table.specs.declared.Part.{Part}
@@ -32,33 +32,34 @@ use Rattle.cpu_core.specs.Accesses.{byte, by_part, idle, with_low, second, cycle
 use Rattle.cpu_core.specs.Results.{to_vector}
 use Rattle.cpu_core.specs.Sequences.{reset, accesses, result_of}
 
--- the cycles from that at the operand on, with a its address and m its byte
+-- the cycles from the one at the operand on; a is the operand's address and m its byte
 abbrev pub at_operand : Part → Access → Row → ℕ → Regs → ℕ → List Cycle
 at_operand part Load row a r m = Read a ∷ cond (lasts_longer part row.mnemonic r) (Read (last_place row.mode r) ∷ []) []
 at_operand part Store row a r m = Write a (stored_value row.mnemonic r) ∷ []
 at_operand part Change row a r m = Read a ∷ cycle_between part a m ∷ Write a (modified_value row.mnemonic r m) ∷ []
 
--- the registers after it
+-- the registers after the cycles from the one at the operand on
 abbrev pub after_operand : Part → Access → Row → Regs → ℕ → Regs
 after_operand part Load row r m = read_result part row.mnemonic row.mode (with_pc_past r row.bytes) m
 after_operand part Store row r m = with_pc_past r row.bytes
 after_operand part Change row r m = modify_result row.mnemonic row.mode (with_pc_past r row.bytes) m
 
--- an indexed form, from the cycle for a carry on
+-- the cycles of an indexed form from the one for a carry on
 abbrev pub indexed_cycles : Part → Access → Row → ℕ → Bool → ℕ → ℕ → ℕ → Regs → ℕ → List Cycle
 indexed_cycles part access row x always low high q r m =
     carry_cycles part always low high x q ++ at_operand part access row (wrap (word low high + x)) r m
 
--- the operand's byte comes later where there is such a cycle
+-- late if the form takes the cycle for a carry, early if not
 abbrev pub pick : Bool → ℕ → ℕ → ℕ → ℕ → ℕ
 pick always low x late early = cond (always || crosses_page low x) late early
 
--- an interrupt or BRK from its pushes on, of the address pc and the flags p, with its vector at v
+-- the pushes and the vector reads of an interrupt or BRK, with the address pc, the flags p and the
+-- vector's address v
 abbrev pub pushes : ℕ → ℕ → ℕ → Regs → List Cycle
 pushes pc p v r =
     Write (stack r 0) (pc / 256) ∷ Write (stack r 255) (pc % 256) ∷ Write (stack r 254) p ∷ Read v ∷ Read (wrap (v + 1)) ∷ []
 
--- the pushes that are latched
+-- the pushes and the vector reads with the latched values
 abbrev pub pushing : Progress → List Cycle
 pushing m = Write (stack m.work 0) m.value ∷ Write (stack m.work 255) m.index ∷ Write (stack m.work 254) m.low ∷ Read m.to ∷ Read (wrap (m.to + 1)) ∷ []
 
@@ -74,11 +75,11 @@ after_return r to = record (with_stack_moved r 2) { pc = wrap (to + 1) }
 abbrev pub after_resume : Regs → ℕ → ℕ → Regs
 after_resume r p to = record (with_stack_moved r 3) { pc = to; p = p }
 
--- the index to be added
+-- the index to add
 abbrev pub index_of : Progress → ℕ
 index_of m = cond m.start.by_y m.work.y m.work.x
 
--- the accesses that are left in a phase, f being what will be seen in it and after it
+-- the accesses left in a phase; f is what the phase and those after it will show
 abbrev pub cycles_left_in : Part → Phase → Progress → List (Option ℕ) → List Cycle
 cycles_left_in part Opcode m f = accesses part Instruction m.work f
 cycles_left_in part Implied m f = Read (place m.work 1) ∷ []
@@ -179,7 +180,7 @@ cycles_left_in part ResumeHigh m f = drop 4 (form part Resumes m.row m.work f)
 cycles_left_in part Halted m f = Read m.at ∷ []
 cycles_left_in part Over m f = []
 
--- the registers at the end, f being what will be seen in the phase and after it
+-- the registers at the end; f is what the phase and those after it will show
 abbrev pub outcome_in : Part → Phase → Progress → List (Option ℕ) → Regs
 outcome_in part Opcode m f = result_of part Instruction m.work f
 outcome_in part Implied m f = implied_result m.row.mnemonic (with_pc_past m.work m.row.bytes)
@@ -280,27 +281,28 @@ abbrev pub value_by : Access → Progress → ℕ
 value_by Store m = stored_value m.row.mnemonic m.work
 value_by _ m = m.value
 
--- a cycle that reads, and one that writes
+-- the progress in a cycle that reads, and in one that writes
 abbrev pub progress_reading : Progress → Phase → ℕ → Progress
 progress_reading m phase at = record m { phase = phase; at = at; writes = false }
 
 abbrev pub progress_writing : Progress → Phase → ℕ → ℕ → Progress
 progress_writing m phase at value = record m { phase = phase; at = at; writes = true; value = value }
 
--- the end, with these registers
+-- the progress at the end, with the registers r
 abbrev pub progress_at_end : Progress → Regs → Progress
 progress_at_end m r = record m { phase = Over; work = r }
 
--- the cycle at the operand, whose address is a
+-- the progress in the cycle at the operand, whose address is a
 abbrev pub progress_at_operand : Progress → ℕ → Progress
 progress_at_operand m a = record m { phase = Operand; at = a; writes = is_store m.start.access; value = value_by m.start.access m }
 
--- the cycle that pushes the high byte of pc, before its low byte and the flags with the bits of set
+-- the progress in the cycle that pushes the high byte of pc, before the low byte and the flags with
+-- the bits of set
 abbrev pub progress_pushing : Progress → ℕ → ℕ → Progress
 progress_pushing m pc set =
     progress_writing (record m { index = pc % 256; low = bit_or m.work.p set }) InterruptPushHigh (stack m.work 0) (pc / 256)
 
--- the first cycle of an instruction
+-- true in the first cycle of an instruction
 abbrev pub is_fetch : Phase → Bool
 is_fetch Opcode = true
 is_fetch _ = false
@@ -309,7 +311,7 @@ abbrev pub is_stuck : Phase → Bool
 is_stuck Halted = true
 is_stuck _ = false
 
--- whether a phase is not one of the most frequent, nor one of the next frequent
+-- true if a phase is in neither of the two most frequent groups
 abbrev pub is_later : Phase → Bool
 is_later k = nat_lt (tag_of the_type IndexAdded) (tag_of the_type k)
 

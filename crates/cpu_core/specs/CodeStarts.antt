@@ -1,4 +1,4 @@
--- How an instruction goes on from its opcode.
+-- The first cycle of each instruction after its opcode.
 use Rattle.std.specs.Prelude.{ℕ, Bool, true, false, Option, Some, None}
 use Rattle.op_table.specs.declared.Part.{Part}
 use Rattle.op_table.specs.declared.Row.{Row}
@@ -16,11 +16,11 @@ use Rattle.cpu_core.specs.declared.progress.Phase.TheVariants as phase
 use Rattle.cpu_core.specs.declared.progress.Start.{Start}
 use Rattle.cpu_core.specs.Accesses.{row_at, waits}
 
--- without an operand in memory
+-- the start of an instruction without an operand in memory
 abbrev pub plain : Phase → Start
 plain k = record { phase = k; access = Load; always = false; by_y = false }
 
--- the first cycle of a mode with an operand in memory, or that at the operand
+-- the first cycle after the opcode, by the mode of the operand
 abbrev pub first_phase : Mode → Phase
 first_phase Zp = phase.ZeroPage
 first_phase ZpX = phase.ZeroPageBase

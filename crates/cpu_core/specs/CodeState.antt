@@ -1,4 +1,4 @@
--- How the logic stores what a processor stands for.
+-- The logic's code for the state of a processor.
 use Rattle.std.specs.Prelude.{◌≡◌, ℕ, List, Option, cond, ◌==◌, refl}
 use Rattle.std.specs.Coded.{Coded, code_by, coded×, coded_ℕ, coded_list, coded_option}
 use mathlib.Core.Path.{ap}

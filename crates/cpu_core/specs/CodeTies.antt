@@ -1,4 +1,4 @@
--- A phase with its latches stands for what was seen so far.
+-- The tie of a phase and its latches to what the cycles have shown.
 use Rattle.std.specs.Prelude.{◌≡◌, ℕ, List, [], ◌∷◌, ◌++◌, length, drop, Bool, true, false, ◌&&◌, Option, Some, None, is_none}
 use Rattle.op_table.specs.declared.names.Part.{Part}
 use Rattle.cpu_alu.specs.declared.Cycle.{Cycle}
@@ -12,8 +12,8 @@ abbrev pub first : List Cycle → Option Cycle
 first [] = None
 first (a ∷ rest) = Some a
 
--- Whatever will be seen, the accesses left and the registers at the end are those of the phase, and it reads an opcode, or
--- is halted, where the processor does.
+-- For all bytes yet to be seen, the phase and the state have the same accesses left and the same
+-- registers at the end. The phase is at an opcode, or halted, if and only if the processor is.
 pub record Tied (part : Part) (m : Progress) (s : State) : Type 0 where
   pub accesses_left : (f : List (Option ℕ)) → drop (length s.seen) (accesses part s.sequence s.regs (s.seen ++ f)) ≡ cycles_left part m f
   pub end : (f : List (Option ℕ)) → result_of part s.sequence s.regs (s.seen ++ f) ≡ outcome part m f
@@ -21,7 +21,7 @@ pub record Tied (part : Part) (m : Progress) (s : State) : Type 0 where
   pub fetch : is_fetch m.phase ≡ is_start s.seen s.sequence
   pub stuck : is_stuck m.phase ≡ halts s.seen part s.sequence
 
--- a phase goes on to the next one by the byte of its cycle
+-- the byte of a cycle takes its phase to the next one
 pub record GoesOn (part : Part) (m : Progress) (byte : ℕ) (then : Progress) : Type 0 where
   pub accesses_left : (f : List (Option ℕ)) → drop 1 (cycles_left part m (shown_byte (first (cycles_left part m [])) byte ∷ f)) ≡ cycles_left part then f
   pub end : (f : List (Option ℕ)) → outcome part m (shown_byte (first (cycles_left part m [])) byte ∷ f) ≡ outcome part then f
@@ -29,7 +29,7 @@ pub record GoesOn (part : Part) (m : Progress) (byte : ℕ) (then : Progress) : 
   pub fetch : is_fetch then.phase ≡ false
   pub stuck : is_stuck then.phase ≡ (is_fetch m.phase && is_none (row_at part byte))
 
--- a step: a halted part stays as it is
+-- a step: a halted part keeps its phase
 abbrev pub StepsWhere : Bool → Part → Progress → ℕ → Progress → Type 0
 StepsWhere true part m byte then = then ≡ m
 StepsWhere false part m byte then = GoesOn part m byte then

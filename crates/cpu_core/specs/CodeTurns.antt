@@ -1,4 +1,4 @@
--- What a turn makes of the state.
+-- The state after a turn.
 use Rattle.cpu_core.specs.State.{State}
 use Rattle.cpu_core.specs.Sequences.{after_byte, fresh}
 use Rattle.cpu_core.specs.declared.trail.Turn.{Turn}

@@ -1,14 +1,14 @@
-//! Which part a processor is, as a type.
+//! The part of a processor, as a type.
 ghost use Rattle.std.specs.Prelude.{◌≡◌};
 ghost use Rattle.op_table.specs.declared.Part.{Part};
 
 use op_table::Part;
 
-/// Which part a processor is.
+/// The part of a processor.
 pub trait Which: Drop {
     ghost part: { Part };
 
-    /// The part.
+    /// Returns the part.
     fn kind() -> Part
         ensures { result ≡ part };
 }

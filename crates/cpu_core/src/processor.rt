@@ -1,4 +1,4 @@
-//! A processor of either part: it says which access it wants, and is given the byte.
+//! A processor of either part: it returns the access of each cycle, and takes the byte.
 ghost use Rattle.std.specs.Prelude.{◌≡◌, ◌≢◌, ◌↔◌, IsTrue, IsSome, IsNone, Some};
 ghost use Rattle.op_table.specs.declared.Part.{Part};
 ghost use Rattle.cpu_core.specs.Sequences.{next_cycle, after_byte, halted, starting, after, sequence_at_look, fresh, power_on, HasEnded};
@@ -13,18 +13,19 @@ use cpu_alu::{Cycle, INTERRUPT, Regs, has_flag};
 use op_table::{Mnemonic, Mode, Part, Row};
 use std::marker::{Model, PhantomData};
 
-/// A processor of the part that `P` says. It does one access to the bus in each cycle: `want` says which, and `give` ends the cycle
-/// with the byte that was read. After the last cycle of an instruction, or of a reset or an interrupt, `take_lines` or
-/// `begin_reset` goes on. An opcode without an instruction halts an NMOS part: then it reads the address of that opcode in each cycle,
-/// until `begin_reset`.
-/// Source: the MCS6500 Hardware Manual, summary of single cycle execution, and the 65C02's data sheet. Which address a
-/// cycle of the 65C02 reads whose byte is not used is this project's choice.
+/// A processor of the part `P`, which makes one bus access in each cycle: `want` returns the
+/// access, and `give` ends the cycle with the byte that was read. After the last cycle of an
+/// instruction, a reset or an interrupt, `take_lines` or `begin_reset` begins the next one. An
+/// opcode without an instruction halts an NMOS part: it then reads the address of that opcode in
+/// each cycle, until `begin_reset`.
+/// Source: the MCS6500 Hardware Manual, summary of single cycle execution, and the 65C02's data
+/// sheet. On the 65C02, the address of a cycle whose byte is not used is this project's choice.
 #[derive(Drop)]
 pub struct Core<P: Which> {
     progress: Progress,
     start: Regs,
     part: PhantomData<P>,
-    // What contracts see, which takes no memory.
+    // The state as contracts see it, which takes no memory.
     trail: Trail,
 }
 
@@ -67,7 +68,7 @@ fn first_progress(regs: Regs) -> Progress
     }
 }
 
-/// A sequence begins with the registers that are worked on.
+/// Begins a sequence with the registers in `m.work`.
 #[inline(always)]
 fn set_off(m: &mut Progress, sequence: Sequence)
     ensures tied { (part : Part) → Tied part m.new (fresh sequence m.old.work) }
@@ -145,7 +146,7 @@ fn in_progress(m: &Progress) -> Cycle
 }
 
 impl<P: Which> Core<P> {
-    /// Which part it is.
+    /// Returns the part.
     #[inline(always)]
     pub fn part() -> Part
         ensures { result ≡ P.part }
@@ -153,7 +154,8 @@ impl<P: Which> Core<P> {
         P::kind()
     }
 
-    /// Power-on, before the first cycle of a reset: all registers and flags are clear.
+    /// Makes a processor at power-on, before the first cycle of a reset: all registers and flags
+    /// are clear.
     pub fn new() -> Self
         ensures { result ≡ power_on }
     {
@@ -173,7 +175,7 @@ impl<P: Which> Core<P> {
         }
     }
 
-    /// The processor once more, as it stands.
+    /// Returns a copy of the processor.
     #[inline]
     pub fn copy(&self) -> Self
         ensures { result ≡ self.now }
@@ -196,7 +198,7 @@ impl<P: Which> Core<P> {
         self.trail = self.trail.after(&Turn::Begins(sequence, self.start));
     }
 
-    /// The access of the cycle in progress.
+    /// Returns the access of the cycle in progress.
     #[inline(always)]
     pub fn want(&self) -> Cycle
         requires { IsSome (next_cycle P.part self.now) }
@@ -205,7 +207,8 @@ impl<P: Which> Core<P> {
         in_progress(&self.progress)
     }
 
-    /// The cycle in progress is done, with the byte that was read. After a write the byte does not matter.
+    /// Ends the cycle in progress with the byte that was read. After a write the byte does not
+    /// matter.
     #[inline(always)]
     pub fn give(&mut self, byte: u8)
         requires { IsSome (next_cycle P.part self.old) }
@@ -216,7 +219,7 @@ impl<P: Which> Core<P> {
         self.progress.step(part, byte);
     }
 
-    /// Whether the cycle just given was the last of its sequence.
+    /// Returns true if the cycle just given was the last of its sequence.
     #[inline(always)]
     pub fn last(&self) -> bool
         ensures { IsTrue result ↔ IsNone (next_cycle P.part self.now) }
@@ -224,7 +227,7 @@ impl<P: Which> Core<P> {
         is_last(self.progress.phase)
     }
 
-    /// Whether an opcode without an instruction has halted it.
+    /// Returns true if an opcode without an instruction has halted the part.
     #[inline(always)]
     pub fn halted(&self) -> bool
         ensures { result ≡ halted P.part self.now }
@@ -235,7 +238,8 @@ impl<P: Which> Core<P> {
         }
     }
 
-    /// Whether the next cycle is the first of an instruction: not of a reset or an interrupt, nor one in which it is halted.
+    /// Returns true if the next cycle is the first of an instruction: not of a reset or an
+    /// interrupt, and not of a halted part.
     #[inline(always)]
     pub fn starting(&self) -> bool
         ensures { result ≡ starting self.now }
@@ -251,7 +255,7 @@ impl<P: Which> Core<P> {
         looked(nmi, irq, &self.progress.work)
     }
 
-    // A look at lines of which one at least asks.
+    // Looks at the lines if at least one of them is active.
     #[inline(never)]
     fn take_asked(&mut self, nmi: bool, irq: bool)
         requires { IsNone (next_cycle P.part self.old) }
@@ -261,8 +265,9 @@ impl<P: Which> Core<P> {
         self.begin(sequence);
     }
 
-    /// The look at the lines: an NMI begins, else an IRQ if the flag I is clear, else the next instruction.
-    // Where nothing is asked for, the next instruction begins with constants.
+    /// Looks at the lines: begins an NMI; without one an IRQ if the flag I is clear; otherwise the
+    /// next instruction.
+    // Without an active line, the next instruction begins with constants.
     #[inline(always)]
     pub fn take_lines(&mut self, nmi: bool, irq: bool)
         requires { IsNone (next_cycle P.part self.old) }
@@ -275,7 +280,7 @@ impl<P: Which> Core<P> {
         }
     }
 
-    /// A reset begins in place of the look, or where it is halted.
+    /// Begins a reset in place of the look, or on a halted part.
     pub fn begin_reset(&mut self)
         requires { HasEnded P.part self.old }
         ensures { self.new ≡ fresh Sequence.Reset (after P.part self.old) }
@@ -283,7 +288,7 @@ impl<P: Which> Core<P> {
         self.begin(Sequence::Reset);
     }
 
-    /// The next cycle is the first of an instruction, with these registers, whatever was in progress.
+    /// Makes the next cycle the first of an instruction with the registers `regs`, from any state.
     #[inline(always)]
     pub fn set_out(&mut self, regs: &Regs)
         ensures { self.new ≡ fresh Sequence.Instruction regs.now }
@@ -296,7 +301,7 @@ impl<P: Which> Core<P> {
             .after(&Turn::Begins(Sequence::Instruction, self.start));
     }
 
-    /// The registers at the start of the sequence.
+    /// Returns the registers at the start of the sequence.
     #[inline(always)]
     pub fn at_start(&self) -> Regs
         ensures { result ≡ self.now.regs }
@@ -304,7 +309,7 @@ impl<P: Which> Core<P> {
         self.start
     }
 
-    /// The registers after the sequence that has ended.
+    /// Returns the registers after the sequence that has ended.
     #[inline]
     pub fn at_end(&self) -> Regs
         requires { HasEnded P.part self.now }

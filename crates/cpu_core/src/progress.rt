@@ -1,4 +1,4 @@
-//! How far a sequence has come: the cycle in progress, and what is latched for the later ones.
+//! The progress of a sequence: the cycle in progress, and the latches for later cycles.
 ghost use Rattle.std.specs.Prelude.{◌≡◌};
 ghost use Rattle.cpu_alu.specs.Addresses.{place, stack};
 ghost use Rattle.cpu_core.specs.CodePhases.{progress_reading, progress_writing, progress_at_end, progress_at_operand, goes_to, progress_pushing, index_of};
@@ -6,18 +6,19 @@ ghost use Rattle.cpu_core.specs.CodePhases.{progress_reading, progress_writing, 
 use cpu_alu::Regs;
 use op_table::Row;
 
-/// What is done with the operand.
+/// The access to the operand.
 #[derive(Clone, Copy, Debug, PartialEq, Eq)]
 pub(crate) enum Access {
-    /// It is read.
+    /// A read.
     Load,
-    /// It is written.
+    /// A write.
     Store,
-    /// It is read and written back.
+    /// A read and a write back.
     Change,
 }
 
-/// The cycle in progress. The most frequent come first, since `step` finds them by their order.
+/// The cycle in progress. The most frequent phases come first, since `step` finds a phase by their
+/// order.
 #[derive(Clone, Copy, Debug, PartialEq, Eq)]
 pub(crate) enum Phase {
     /// The opcode.
@@ -34,7 +35,7 @@ pub(crate) enum Phase {
     Implied,
     /// A branch's operand.
     Branch,
-    /// A branch is taken.
+    /// The first cycle of a taken branch after its operand.
     BranchTaken,
     /// The low byte of the address, before an index is added.
     IndexedLow,
@@ -54,7 +55,7 @@ pub(crate) enum Phase {
     PullByte,
     /// The byte after a shift, INC or DEC of A.
     Accumulator,
-    /// The low byte of where JSR goes.
+    /// The low byte of the target of JSR.
     CallLow,
     /// JSR reads the stack before it pushes.
     CallStack,
@@ -62,7 +63,7 @@ pub(crate) enum Phase {
     CallPushHigh,
     /// JSR pushes the low byte of PC.
     CallPushLow,
-    /// The high byte of where JSR goes.
+    /// The high byte of the target of JSR.
     CallHigh,
     /// The byte after RTS.
     Return,
@@ -74,15 +75,15 @@ pub(crate) enum Phase {
     ReturnHigh,
     /// The byte at the pulled address.
     ReturnTarget,
-    /// The low byte of where JMP goes.
+    /// The low byte of the target of JMP.
     JumpLow,
-    /// The high byte of where JMP goes, of the instruction or at its pointer.
+    /// The high byte of the target of JMP, of the instruction or at its pointer.
     JumpHigh,
     /// The address of a pointer to which Y is added.
     IndexedPointer,
-    /// The low byte of this pointer.
+    /// The low byte of the pointer to which Y is added.
     IndexedPointerLow,
-    /// The high byte of this pointer.
+    /// The high byte of the pointer to which Y is added.
     IndexedPointerHigh,
     /// The operand is read again.
     ModifyAgain,
@@ -136,15 +137,15 @@ pub(crate) enum Phase {
     ResetFirst,
     /// The second cycle of a reset.
     ResetSecond,
-    /// The stack is read where an interrupt would write to it.
+    /// The stack is read in place of an interrupt's first push.
     ResetThird,
-    /// The same, one address lower.
+    /// The stack is read in place of an interrupt's second push.
     ResetFourth,
-    /// The same, two addresses lower.
+    /// The stack is read in place of an interrupt's third push.
     ResetFifth,
     /// The second of three bytes of an opcode that does nothing.
     SpareSecond,
-    /// Its last byte, as often as `low` says and once more.
+    /// The last byte of an opcode that does nothing, `low` + 1 times.
     SpareLast,
     /// The byte after RTI.
     Resume,
@@ -156,44 +157,45 @@ pub(crate) enum Phase {
     ResumeLow,
     /// RTI pulls the high byte of PC.
     ResumeHigh,
-    /// An opcode without an instruction was read, and its address is read again and again.
+    /// The address of an opcode without an instruction, which is read in each cycle.
     Halted,
     /// The sequence is over.
     Over,
 }
 
-/// How an instruction goes on from its opcode.
+/// The start of an instruction after its opcode.
 #[derive(Clone, Copy, Debug, PartialEq, Eq)]
 pub(crate) struct Start {
-    /// The cycle after the opcode, or that of the opcode where the instruction does nothing or there is none.
+    /// The cycle after the opcode, or that of the opcode if it has no instruction or one that does
+    /// nothing.
     pub phase: Phase,
-    /// What is done with the operand.
+    /// The access to the operand.
     pub access: Access,
-    /// Whether the cycle for a crossed page is taken also where none is.
+    /// True if the cycle for a crossed page is always taken.
     pub always: bool,
-    /// Whether Y is the index to be added, and not X.
+    /// True if Y is the index to add, false if it is X.
     pub by_y: bool,
 }
 
-/// The cycle in progress, with its access and the latches. Small plain fields, changed in place, are what makes a cycle
-/// fast.
+/// The cycle in progress, with its access and the latches. Small plain fields, changed in place,
+/// make a cycle fast.
 #[derive(Clone, Copy, Drop)]
 pub(crate) struct Progress {
     /// The cycle in progress.
     pub phase: Phase,
-    /// Whether it writes.
+    /// True if the cycle writes.
     pub writes: bool,
-    /// What it writes.
+    /// The byte to write.
     pub value: u8,
-    /// The address that it reads or writes.
+    /// The address of the access.
     pub at: u16,
-    /// An address for a later cycle: an operand's, a pointer, a vector, or where a branch goes.
+    /// An address for a later cycle: of an operand, a pointer, a vector, or a branch's target.
     pub to: u16,
-    /// A byte for a later cycle: of an address, of an operand, the flags to push, or the cycles left.
+    /// A byte for a later cycle: of an address or operand, the flags to push, or the cycles left.
     pub low: u8,
     /// The low byte of PC to push, or the flags that RTI pulled.
     pub index: u8,
-    /// How the instruction began.
+    /// The start of the instruction.
     pub start: Start,
     /// The instruction.
     pub row: Row,
@@ -202,7 +204,7 @@ pub(crate) struct Progress {
 }
 
 impl Progress {
-    /// Goes on to a cycle that reads.
+    /// Begins a cycle that reads.
     #[inline(always)]
     pub(crate) fn read(&mut self, phase: Phase, at: u16)
         ensures { self.new ≡ progress_reading self.old phase at }
@@ -212,7 +214,7 @@ impl Progress {
         self.writes = false;
     }
 
-    /// Goes on to a cycle that reads byte `n` of the instruction.
+    /// Begins a cycle that reads byte `n` of the instruction.
     #[inline(always)]
     pub(crate) fn read_place(&mut self, phase: Phase, n: u8)
         ensures { self.new ≡ progress_reading self.old phase (place self.old.work n) }
@@ -221,7 +223,7 @@ impl Progress {
         self.read(phase, at);
     }
 
-    /// Goes on to a cycle that reads the stack at `k` above S.
+    /// Begins a cycle that reads the stack at `k` above S.
     #[inline(always)]
     pub(crate) fn read_stack(&mut self, phase: Phase, k: u8)
         ensures { self.new ≡ progress_reading self.old phase (stack self.old.work k) }
@@ -230,7 +232,7 @@ impl Progress {
         self.read(phase, at);
     }
 
-    /// Goes on to a cycle that writes to the stack at `k` above S.
+    /// Begins a cycle that writes to the stack at `k` above S.
     #[inline(always)]
     pub(crate) fn write_stack(&mut self, phase: Phase, k: u8, value: u8)
         ensures { self.new ≡ progress_writing self.old phase (stack self.old.work k) value }
@@ -241,7 +243,7 @@ impl Progress {
         self.writes = true;
     }
 
-    /// The index to be added.
+    /// Returns the index to add.
     #[inline(always)]
     pub(crate) fn index_of(&self) -> u8
         ensures { result ≡ index_of self.now }
@@ -253,7 +255,7 @@ impl Progress {
         }
     }
 
-    /// Goes on to the cycle at the operand, whose address is `at`.
+    /// Begins the cycle at the operand, whose address is `at`.
     #[inline(always)]
     pub(crate) fn reach(&mut self, at: u16)
         ensures { self.new ≡ progress_at_operand self.old at }
@@ -278,8 +280,8 @@ impl Progress {
         self.phase = Phase::Over;
     }
 
-    /// Goes on to the cycle that pushes the high byte of `pc`, after which its low byte and the flags with `set` are
-    /// pushed.
+    /// Begins the cycle that pushes the high byte of `pc`. Later cycles push its low byte and the
+    /// flags with `set`.
     #[inline(always)]
     pub(crate) fn push_state(&mut self, pc: u16, set: u8)
         ensures { self.new ≡ progress_pushing self.old pc set }

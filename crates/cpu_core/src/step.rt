@@ -1,4 +1,4 @@
-//! From one cycle to the next.
+//! The step from one cycle to the next.
 ghost use Rattle.std.specs.Prelude.{◌≡◌, ◌≢◌, ◌≤◌, true};
 ghost use Rattle.cpu_core.specs.Accesses.{idle, with_low, second, lasts_longer, last_place};
 ghost use Rattle.cpu_core.specs.Results.{masked_flags, to_vector};
@@ -12,7 +12,7 @@ use cpu_alu::{
 };
 use op_table::{Mnemonic, Mode, Part};
 
-/// The address of the last byte of an instruction that reads its operand.
+/// Returns the address of the last byte of an instruction that reads its operand.
 #[inline(always)]
 fn last_place(mode: Mode, r: &Regs) -> u16
     ensures { result ≡ last_place mode r.now }
@@ -23,7 +23,7 @@ fn last_place(mode: Mode, r: &Regs) -> u16
     }
 }
 
-/// The address of a cycle whose byte is not used.
+/// Returns the address of a cycle whose byte is not used.
 #[inline(always)]
 fn idle(part: Part, so_far: u16, last: u16) -> u16
     ensures { result ≡ idle part so_far last }
@@ -34,7 +34,7 @@ fn idle(part: Part, so_far: u16, last: u16) -> u16
     }
 }
 
-/// An address with the low byte of another.
+/// Returns an address with the low byte of another.
 #[inline(always)]
 fn with_low(at: u16, low: u16) -> u16
     ensures { result ≡ with_low at low }
@@ -42,7 +42,7 @@ fn with_low(at: u16, low: u16) -> u16
     at / 256 * 256 + low % 256
 }
 
-/// Where the second byte of a jump's pointer is.
+/// Returns the address of the second byte of a jump's pointer.
 #[inline(always)]
 fn second(part: Part, p: u16) -> u16
     ensures { result ≡ second part p }
@@ -53,7 +53,7 @@ fn second(part: Part, p: u16) -> u16
     }
 }
 
-/// Whether a sum or a difference takes one more cycle.
+/// Returns true if a sum or a difference takes one more cycle.
 #[inline(always)]
 fn lasts_longer(part: Part, mnemonic: Mnemonic, r: &Regs) -> bool
     ensures { result ≡ lasts_longer part mnemonic r.now }
@@ -64,7 +64,7 @@ fn lasts_longer(part: Part, mnemonic: Mnemonic, r: &Regs) -> bool
     }
 }
 
-/// The flags after an interrupt, a reset or BRK.
+/// Returns the flags after an interrupt, a reset or BRK.
 #[inline(always)]
 fn masked(part: Part, p: u8) -> u8
     ensures { result ≡ masked_flags part p }
@@ -76,7 +76,7 @@ fn masked(part: Part, p: u8) -> u8
     }
 }
 
-/// What an interrupt, a reset or BRK makes of the registers.
+/// Sets the registers to those after an interrupt, a reset or BRK.
 #[inline(always)]
 fn go_to_vector(part: Part, r: &mut Regs, low: u8, high: u8)
     ensures { r.new ≡ to_vector part r.old low high }
@@ -108,7 +108,7 @@ impl Progress {
         self.phase = Phase::Over;
     }
 
-    /// The operand that is to be modified was read.
+    /// Takes the operand to modify, which was read.
     #[inline(always)]
     fn after_old_operand(&mut self, part: Part, byte: u8)
         requires phase { self.old.phase ≡ Phase.Operand }
@@ -297,7 +297,7 @@ impl Progress {
         self.phase = Phase::Over;
     }
 
-    /// From one of the phases that are seldom come to.
+    /// Steps from one of the rare phases.
     #[inline(never)]
     fn step_rare(&mut self, part: Part, byte: u8)
         requires going { self.old.phase ≢ Phase.Over }
@@ -396,7 +396,7 @@ impl Progress {
         }
     }
 
-    /// From one of the phases that are not the most frequent.
+    /// Steps from one of the phases that are not the most frequent.
     #[inline(always)]
     fn step_later(&mut self, part: Part, byte: u8)
         requires going { self.old.phase ≢ Phase.Over }
@@ -508,9 +508,9 @@ impl Progress {
         }
     }
 
-    /// The cycle in progress is done, and gave a byte. The phase is found by comparisons with the order of the phases: they take
-    /// less time than a jump through a table where the processor does not foresee such a jump. Four tests for equality in a row
-    /// would be made such a table.
+    /// Ends the cycle in progress with `byte`. The phase is found by comparisons with the order of
+    /// the phases, which take less time than a mispredicted jump through a table. The compiler
+    /// would make such a table of four equality tests in a row.
     #[inline(always)]
     pub(crate) fn step(&mut self, part: Part, byte: u8)
         requires going { self.old.phase ≢ Phase.Over }

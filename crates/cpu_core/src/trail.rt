@@ -1,5 +1,5 @@
-//! What the cycles of a sequence showed. Only contracts see it: it takes no memory, and its methods do nothing at run time. What ties it to
-//! the progress is the invariant of `Core`.
+//! The bytes that the cycles of a sequence showed. Only contracts see a trail: it takes no memory,
+//! and its methods do nothing at run time. The invariant of `Core` ties it to the progress.
 ghost use Rattle.std.specs.Prelude.{◌≡◌};
 ghost use Rattle.std.specs.Borrow.{ftrue};
 ghost use Rattle.cpu_core.specs.State.{State};
@@ -20,17 +20,17 @@ impl Model for Trail {
     ghost also_owns = { λ _. ftrue };
 }
 
-// It owns nothing.
+// A trail owns nothing.
 unsafe impl Send for Trail {}
 
-/// What happens to the processor.
+/// An event of the processor.
 #[derive(Clone, Copy, Drop)]
 pub(crate) enum Turn {
-    /// A sequence begins with these registers.
+    /// A sequence begins with the given registers.
     Begins(Sequence, Regs),
     /// A cycle is done, with the byte that was read.
     Given(Part, u8),
-    /// Nothing.
+    /// Nothing happens.
     Rests,
 }
 
@@ -38,14 +38,14 @@ impl Trail {
     ghost use Rattle.cpu_core.specs.Sequences.{power_on};
     ghost use Rattle.cpu_core.specs.CodeTurns.{after_turn};
 
-    /// Power-on.
+    /// Makes the trail at power-on.
     pub(crate) fn new() -> Trail
         ensures { result.state ≡ power_on }
     {
         Trail {}
     }
 
-    /// The trail after one more turn.
+    /// Returns the trail after one more turn.
     #[inline(always)]
     pub(crate) fn after(&self, _turn: &Turn) -> Trail
         ensures { result.state ≡ after_turn self.now.state _turn.now }

@@ -1,4 +1,4 @@
--- What is done at the operand, behind any way there.
+-- The accesses at the operand, for all modes.
 use Rattle.std.proofs.Common.{◌≡◌, ◌≢◌, ℕ, suc, ◌+◌, List, [], ◌∷◌, ◌++◌, length, Bool, true, false, Option, Some, None, slice_get}
 use Rattle.std.proofs.Common.{refl, sym, ap, ◌∙◌, arith, append_assoc, length-append}
 use Rattle.std.proofs.lemmas.List.{append-nil}
@@ -37,7 +37,7 @@ no-sum _ r h = refl
 
 -- at the operand
 module _ {part : Part} {M : Type 0} {g : Reach M} {t : ℕ} {way : Mode} {always : Bool} {r : Regs} {m : M} {at n : ℕ} (reached : IsReached part g t way always r m at n) where
-  -- what is next there, and behind there
+  -- the next access there, and after it
   next-there : (tail : List (Option ℕ) → List Cycle) (rest : List (Option ℕ)) (j : ℕ) → length rest ≡ j
       → on_the_way part way always r (g.byte m r.pc) tail (reached.seen ++ rest) ≡ slice_get (tail (reached.seen ++ rest)) j
   next-there tail rest j h =
@@ -54,7 +54,7 @@ module _ {part : Part} {M : Type 0} {g : Reach M} {t : ℕ} {way : Mode} {always
   operand-there : (x : ℕ) (rest : List (Option ℕ)) → operand part way always r (Some (g.byte m r.pc) ∷ reached.seen ++ Some x ∷ rest) ≡ x
   operand-there x rest = byte-seam reached.seen rest (g.byte m r.pc) x (length (reach part way always r (Some (g.byte m r.pc) ∷ reached.seen ++ Some x ∷ rest))) (reached.steps (Some x ∷ rest))
 
--- an instruction whose accesses behind the opcode are those of the way, and then a list
+-- an instruction whose accesses after the opcode are those of its mode, and then a list
 module _ {part : Part} {M : Type 0} {g : Reach M} {t : ℕ} {row : Row} {always : Bool} {r : Regs} {m : M} {at n : ℕ} (p : g.reads r.pc ≡ true) (decoded : row_at part (g.byte m r.pc) ≡ Some row)
     (reached : IsReached part g t row.mode always r m at n) {uses : BusUse} (is_use : bus_use row.mnemonic ≡ uses) (tail : List (Option ℕ) → List Cycle)
     (forms : (f : List (Option ℕ)) → slice_get (form part uses row r (Some (g.byte m r.pc) ∷ f)) (length f) ≡ on_the_way part row.mode always r (g.byte m r.pc) tail f) where
@@ -70,7 +70,7 @@ module _ {part : Part} {M : Type 0} {g : Reach M} {t : ℕ} {row : Row} {always 
   next-is : (f : List (Option ℕ)) → next_cycle part (behind r code f) ≡ next f
   next-is f = rw decoded (same f)
 
-  -- so many of that list
+  -- the first j accesses of that list
   so-far : (j : ℕ) (last : List (Option ℕ)) (there : M) → Follows g t next j reached.seen m last there → {k : ℕ} → k ≡ n + j → Carried g t part k (fresh Instruction r) m (behind r code last) there
   so-far j last there follows count =
       from_fetch g t part row r m p decoded next same (more_by reached.seen j) last there (reached.goes tail j last there follows) (omega (arith, more_by-suc reached.seen j, reached.count, count))
@@ -112,7 +112,7 @@ read_of way r op f = Read (address way r (Some op ∷ f)) ∷ []
 abbrev written_of : Mode → Regs → ℕ → ℕ → List (Option ℕ) → List Cycle
 written_of way r op v f = Write (address way r (Some op ∷ f)) v ∷ []
 
--- where the access is not a cycle longer
+-- if the access is not a cycle longer
 read_form : (part : Part) (row : Row) (r : Regs) (op : ℕ) → is_decimal row.mnemonic r ≡ false → (f : List (Option ℕ))
     → slice_get (form part Reads row r (Some op ∷ f)) (length f) ≡ on_the_way part row.mode (waits part Reads) r op (read_of row.mode r op) f
 read_form part row r op binary f =
@@ -122,7 +122,7 @@ read_form part row r op binary f =
     by Nmos = refl
     by Cmos = binary
 
--- the forms that read and write back, but for A
+-- the forms that read and write back, except that of A
 abbrev changes : Part → Row → Mode → Bool → Regs → List (Option ℕ) → List Cycle
 changes part row way always r f =
     Read (address way r f) ∷ cycle_between part (address way r f) (operand part way always r f) ∷ Write (address way r f) (modified_value row.mnemonic r (operand part way always r f)) ∷ []
@@ -155,7 +155,7 @@ module _ {part : Part} {M : Type 0} {g : Reach M} {t : ℕ} {row : Row} {r : Reg
       whole p decoded reached uses tail (λ f. refl) (None ∷ [])
       (rw here (plain, (refl, rw (← reached.count) (sym put)))) refl count is (ap (λ (q : Regs). has_flag q.p INTERRUPT) is)
 
-  -- it is read, wherever it is
+  -- it is read, in each mode
   pub read-last : bus_use row.mnemonic ≡ Reads → adds row.mnemonic ≡ false → IsReached part g t row.mode (waits part Reads) r m at n
       → IsOutside part g t r m (record { cycles = n; at = at; value = None; mnemonic = row.mnemonic; mode = row.mode; bytes = row.bytes })
   read-last uses single reached =
@@ -164,7 +164,7 @@ module _ {part : Part} {M : Type 0} {g : Reach M} {t : ℕ} {row : Row} {r : Reg
       (λ x. ap (read_result part row.mnemonic row.mode (with_pc_past r row.bytes)) (operand-there reached x [])) (λ x. read_kept part row.mnemonic row.mode (with_pc_past r row.bytes) x)
       (λ _. (uses, single))
 
-  -- it is written, wherever it is
+  -- it is written, in each mode
   pub written-last : bus_use row.mnemonic ≡ Stores → IsReached part g t row.mode (waits part Stores) r m at n → {v : ℕ} → v ≡ stored_value row.mnemonic r
       → IsOutside part g t r m (record { cycles = n; at = at; value = Some v; mnemonic = row.mnemonic; mode = row.mode; bytes = row.bytes })
   written-last uses reached {v} is =
@@ -222,7 +222,7 @@ module _ {part : Part} {M : Type 0} {g : Reach M} {t : ℕ} {row : Row} {r : Reg
           ap (λ (j : ℕ). g.put (g.put m t (n + 1) at (g.byte m at)) t j at v) (sym two) ∙ lawful.again m t (n + 1) at v written ∙ ap (λ (j : ℕ). g.put m t j at v) two
       over_old Cmos = refl
 
--- which forms take their cycle for a carry always
+-- the forms that always take their cycle for a carry
 module _ {part : Part} {M : Type 0} {g : Reach M} {t : ℕ} {way : Mode} {r : Regs} {m : M} {at n : ℕ} where
   pub for_loads : IsReached part g t way false r m at n → IsReached part g t way (waits part Reads) r m at n
   for_loads reached = rw (by part) reached
@@ -238,7 +238,7 @@ module _ {part : Part} {M : Type 0} {g : Reach M} {t : ℕ} {way : Mode} {r : Re
       by Nmos = refl
       by Cmos = refl
 
--- what is made of a byte does not go by PC, nor whether a sum is decimal
+-- The byte of a modify instruction does not depend on PC, and neither does a decimal sum.
 pub value_past : (name : Mnemonic) (r : Regs) (bytes m : ℕ) → modified_value name (with_pc_past r bytes) m ≡ modified_value name r m
 value_past Asl r bytes m = refl
 value_past _ r bytes m = refl

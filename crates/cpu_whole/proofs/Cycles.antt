@@ -1,4 +1,5 @@
--- Cycles behind that of the opcode, from what is next after what was seen to the definition's states.
+-- The cycles after that of the opcode: from the next access after what was seen to the definition's
+-- states.
 use Rattle.std.proofs.Common.{◌≡◌, ℕ, zero, suc, ◌+◌, List, [], ◌∷◌, ◌++◌, length, true, false, Option, Some, None, is_none, slice_get, MatchOption, refl, ap, ◌∙◌, arith}
 use Rattle.op_table.specs.declared.names.Part.{Part}
 use Rattle.op_table.specs.declared.names.Part.TheVariants.{Nmos, Cmos}
@@ -13,7 +14,7 @@ use Rattle.cpu_core.specs.Sequences.{next_cycle, after_byte, shown_byte, halted,
 use Rattle.cpu_whole.specs.Whole.{Reach, Carried, is_plain, shows, leaves}
 use Rattle.cpu_whole.specs.CodeWays.{Follows, more_by}
 
--- an instruction behind its opcode
+-- an instruction after its opcode
 abbrev pub behind : Regs → ℕ → List (Option ℕ) → State
 behind r op f = record { sequence = Instruction; regs = r; seen = Some op ∷ f }
 

@@ -1,4 +1,4 @@
--- The instructions without an operand in memory, each straight from the definition's list of accesses.
+-- The instructions without an operand in memory, by the definition's list of accesses.
 use Rattle.std.proofs.Common.{◌≡◌, ◌≢◌, ℕ, suc, ◌+◌, ◌/◌, ◌%◌, List, [], ◌∷◌, length, Bool, true, false, cond, eqb, Option, Some, None}
 use Rattle.std.proofs.Common.{slice_get, refl, sym, ap, ◌∙◌, arith}
 use Rattle.op_table.specs.declared.names.Part.{Part}
@@ -27,7 +27,7 @@ on_stack : {M : Type 0} {g : Reach M} → IsPlain g → (r : Regs) (k : ℕ) →
 on_stack lawful r k = lawful.low_read (stack r k) (omega arith)
 
 module _ {M : Type 0} {g : Reach M} {t : ℕ} {part : Part} {row : Row} {r : Regs} {m : M} (runs : AreRead g r.pc) (decoded : row_at part (g.byte m r.pc) ≡ Some row) where
-  -- by the list of its accesses behind that of the opcode
+  -- by the list of its accesses after that of the opcode
   by_list : {uses : BusUse} → bus_use row.mnemonic ≡ uses → (list : List (Option ℕ) → List Cycle) → ((f : List (Option ℕ)) → form part uses row r (Some (g.byte m r.pc) ∷ f) ≡ list f)
       → (k : ℕ) (last : List (Option ℕ)) {there : M} → Follows g t (λ f. slice_get (list f) (length f)) k [] m last there → slice_get (list last) (length last) ≡ None
       → {n : ℕ} {new : Regs} → n ≡ suc k → new ≡ after_row part uses row r (Some (g.byte m r.pc) ∷ last)

@@ -1,4 +1,4 @@
--- Operations that leave the flag I as it is.
+-- Operations that leave the flag I unchanged.
 use Rattle.std.proofs.Common.{◌≡◌, ℕ, ◌+◌, ◌-◌, ◌%◌, Bool, true, false, not, eqb, refl, ap, ◌∙◌, rules, bit_and}
 use Rattle.std.proofs.lemmas.Nat.{and_or_apart, and_assoc}
 use Rattle.op_table.specs.declared.names.Part.{Part}

@@ -1,4 +1,4 @@
--- The ways to the operand, each straight from the definition's list of accesses.
+-- The addressing modes, each directly from the definition's list of accesses.
 use Rattle.std.proofs.Common.{◌≡◌, ℕ, ◌+◌, ◌%◌, ◌||◌, [], ◌∷◌, Bool, true, false, cond, Some, refl}
 use Rattle.op_table.specs.declared.names.Part.{Part}
 use Rattle.op_table.specs.declared.names.Part.TheVariants.{Nmos, Cmos}
@@ -10,7 +10,7 @@ use Rattle.cpu_whole.specs.Whole.{Reach, AreRead}
 use Rattle.cpu_whole.specs.CodeWays.{IsReached}
 
 module _ {M : Type 0} (g : Reach M) (r : Regs) (m : M) where
-  -- the bytes behind the opcode
+  -- the bytes after the opcode
   abbrev one : ℕ
   one = g.byte m (place r 1)
 
@@ -59,7 +59,7 @@ module _ {M : Type 0} (g : Reach M) (r : Regs) (m : M) where
       goes = λ tail k last there rest. (runs.second, (i, (q, (s, rest))));
     }
 
-    -- with a cycle for a carry, where there is one
+    -- with a cycle for a carry, if there is one
     pub absolute_x : (c : Bool) → (always || crosses_page one r.x) ≡ c → (c ≡ true → g.reads (idle part (in_page one two r.x) (place r 2)) ≡ true)
         → IsReached part g t AbsX always r m (wrap (word one two + r.x)) (cond c 4 3)
     absolute_x true h i = record {
@@ -94,7 +94,7 @@ module _ {M : Type 0} (g : Reach M) (r : Regs) (m : M) where
       goes = λ tail k last there rest. (runs.second, (q, (s, rest)));
     }
 
--- with Y it is as with an X that is Y
+-- indexing by Y is indexing by an X with the value of Y
 module _ {M : Type 0} {g : Reach M} {t : ℕ} {part : Part} {always : Bool} {r : Regs} {m : M} {at n : ℕ} where
   pub zero_page_y : IsReached part g t ZpX always (record r { x = r.y }) m at n → IsReached part g t ZpY always r m at n
   zero_page_y h = record { seen = h.seen; count = h.count; found = h.found; steps = h.steps; goes = h.goes }
@@ -102,7 +102,7 @@ module _ {M : Type 0} {g : Reach M} {t : ℕ} {part : Part} {always : Bool} {r :
   pub absolute_y : IsReached part g t AbsX always (record r { x = r.y }) m at n → IsReached part g t AbsY always r m at n
   absolute_y h = record { seen = h.seen; count = h.count; found = h.found; steps = h.steps; goes = h.goes }
 
--- the NMOS part reads the address that it has so far, the 65C02 the last byte of the instruction
+-- The NMOS part reads the partial address so_far, the 65C02 the last byte of the instruction.
 pub idle_read : {M : Type 0} (g : Reach M) (part : Part) (so_far last : ℕ) → g.reads so_far ≡ true → g.reads last ≡ true → g.reads (idle part so_far last) ≡ true
 idle_read g Nmos so_far last a b = a
 idle_read g Cmos so_far last a b = b

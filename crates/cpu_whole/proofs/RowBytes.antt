@@ -24,7 +24,7 @@ is_alone _ = false
 abbrev is_short : Form → Bool
 is_short f = not (is_alone (bus_use f.mnemonic)) || eqb (bytes_of f.mode) 1
 
--- so has each form of both parts
+-- each form of both parts has them too
 all_short : (part : Part) → list_all is_short (forms part) ≡ true
 all_short Nmos = refl
 all_short Cmos = refl
@@ -34,7 +34,7 @@ both true true e = (refl, refl)
 both true false e = cc
 both false b e = cc
 
--- and so has one that is found
+-- and a form that is found has them
 found_short : (p : Form → Bool) (fs : List Form) → list_all is_short fs ≡ true → IfSome (find p fs) (λ f. is_short f ≡ true)
 found_short p [] h = tt
 found_short p (f ∷ fs) h = let parts = both (is_short f) (list_all is_short fs) h in first p f fs parts.0 (found_short p fs parts.1) (p f) refl
@@ -44,7 +44,7 @@ found_short p (f ∷ fs) h = let parts = both (is_short f) (list_all is_short fs
     first p f fs short rest true e = rw e short
     first p f fs short rest false e = rw e rest
 
--- A row is that of a form, but for an opcode of the 65C02 without one, which has no operand.
+-- A row is that of a form, except for an opcode of the 65C02 without one, which has no operand.
 formed : (part : Part) (op : ℕ) (row : Row) → row_at part op ≡ Some row → (row.mode ≡ Spare → bus_use row.mnemonic ≡ Implied → ⊥)
     → (f : Form) × ((is_short f ≡ true) × (row_of part f ≡ row))
 unfolding nmos_row cmos_row

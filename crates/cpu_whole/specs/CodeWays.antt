@@ -1,4 +1,4 @@
--- The cycles of an instruction behind that of its opcode, and those before its operand.
+-- The cycles of an instruction after that of its opcode, and those before its operand.
 use Rattle.std.specs.Prelude.{◌≡◌, ℕ, zero, suc, Bool, true, false, List, [], ◌∷◌, ◌++◌, length, Option, Some, None, MatchOption, slice_get}
 use Rattle.op_table.specs.declared.names.Part.{Part}
 use Rattle.op_table.specs.declared.names.Mode.{Mode}
@@ -19,22 +19,23 @@ use Rattle.cpu_core.specs.Results.{after_row, indirect_target, jump_target}
 use Rattle.cpu_core.specs.Sequences.{shown_byte}
 use Rattle.cpu_whole.specs.Whole.{Reach, is_plain, shows, leaves}
 
--- so many cycles behind the opcode's, each the access that is next after what those before it showed
+-- k cycles after the opcode's; each is the next access after what those before it showed
 abbrev pub Follows : {M : Type 0} → Reach M → ℕ → (List (Option ℕ) → Option Cycle) → ℕ → List (Option ℕ) → M → List (Option ℕ) → M → Type 0
 Follows g t next zero seen m last there = (seen ≡ last) × (m ≡ there)
 Follows g t next (suc k) seen m last there =
     MatchOption (next seen) ⊥ (λ c. (is_plain g c ≡ true) × Follows g t next k (seen ++ shown_byte (Some c) (shows g m c) ∷ []) (leaves g t m (suc (length seen)) c) last there)
 
--- as many more as a list has elements
+-- k plus the number of elements of a list
 abbrev pub more_by : List (Option ℕ) → ℕ → ℕ
 more_by [] k = k
 more_by (x ∷ xs) k = suc (more_by xs k)
 
--- what is next up to the operand, and then by a list
+-- the next access, first those up to the operand, then those of the list tail
 abbrev pub on_the_way : Part → Mode → Bool → Regs → ℕ → (List (Option ℕ) → List Cycle) → List (Option ℕ) → Option Cycle
 on_the_way part way always r op tail f = slice_get (reach part way always r (Some op ∷ f) ++ tail f) (length f)
 
--- The cycles before the operand's are plain: n, the opcode's among them. at is the operand's address. Whatever follows goes on from there.
+-- The first n cycles are plain, that of the opcode among them, and the operand's is next. The
+-- operand's address is at. Any further accesses continue from there.
 pub record IsReached (part : Part) {M : Type 0} (g : Reach M) (t : ℕ) (way : Mode) (always : Bool) (r : Regs) (m : M) (at n : ℕ) : Type 0 where
   pub seen : List (Option ℕ)
   pub count : n ≡ suc (length seen)
@@ -44,7 +45,7 @@ pub record IsReached (part : Part) {M : Type 0} (g : Reach M) (t : ℕ) (way : M
       → Follows g t (on_the_way part way always r (g.byte m r.pc) tail) k seen m last there
       → Follows g t (on_the_way part way always r (g.byte m r.pc) tail) (more_by seen k) [] m last there
 
--- whether a mode has no address of its operand
+-- true if a mode has no address of its operand
 abbrev pub is_beside : Mode → Bool
 is_beside Zp = false
 is_beside ZpX = false
@@ -57,40 +58,42 @@ is_beside IndY = false
 is_beside IndZp = false
 is_beside _ = true
 
--- whether an instruction without an operand sets or clears I
+-- true if an instruction without an operand sets or clears I
 abbrev pub moves_i : Mnemonic → Bool
 moves_i Cli = true
 moves_i Sei = true
 moves_i _ = false
 
--- whether a pull is one of the flags
+-- true if a pull is one of the flags
 abbrev pub pulls_flags : Mnemonic → Bool
 pulls_flags Pla = false
 pulls_flags Plx = false
 pulls_flags Ply = false
 pulls_flags _ = true
 
--- whether an instruction reads and writes back, or works on A
+-- true if an instruction reads and writes back, or works on A
 abbrev pub is_modifying : BusUse → Bool
 is_modifying Shifts = true
 is_modifying Modifies = true
 is_modifying _ = false
 
--- A row of an instruction that reads and writes back, or works on A: always says whether it takes its cycle for a carry also where there is none.
+-- The row is that of an instruction that reads and writes back, or works on A. The instruction
+-- takes its cycle for a carry even without a carry if always is true.
 pub record IsModifying (part : Part) (row : Row) (always : Bool) : Type 0 where
   pub kind : is_modifying (bus_use row.mnemonic) ≡ true
   pub forms : (r : Regs) (f : List (Option ℕ)) → form part (bus_use row.mnemonic) row r f ≡ modify_form part row row.mode always r f
   pub results : (r : Regs) (f : List (Option ℕ)) → after_row part (bus_use row.mnemonic) row r f
       ≡ modify_result row.mnemonic row.mode (with_pc_past r row.bytes) (operand part row.mode always r f)
 
--- The pointer of a jump is at this address: what follows the two bytes behind the opcode goes through it.
+-- The pointer of a jump is at the address at: the cycles after the two bytes of its operand go
+-- through it.
 pub record IsPointer (part : Part) (way : Mode) {M : Type 0} (g : Reach M) (r : Regs) (m : M) (at : ℕ) : Type 0 where
   pub pointer : List (Option ℕ) → ℕ
   pub forms : (f : List (Option ℕ)) → jump_form part way r f ≡ Read (place r 1) ∷ Read (place r 2) ∷ through part (pointer f) (place r 2)
   pub targets : (f : List (Option ℕ)) → jump_target part way f ≡ indirect_target part f
   pub found : (f : List (Option ℕ)) → pointer (Some (g.byte m r.pc) ∷ Some (g.byte m (place r 1)) ∷ Some (g.byte m (place r 2)) ∷ f) ≡ at
 
--- what is known of an opcode, by its row; one without an instruction counts as BRK
+-- the facts known of an opcode, by its row; one without an instruction counts as BRK
 abbrev pub known_in : Option Row → Known
 known_in None = record { uses = Breaks; mnemonic = Nop; mode = Spare; bytes = 1 }
 known_in (Some row) = record { uses = bus_use row.mnemonic; mnemonic = row.mnemonic; mode = row.mode; bytes = row.bytes }

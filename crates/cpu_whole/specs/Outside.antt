@@ -1,4 +1,5 @@
--- An instruction whose last access is not of plain memory, and all others are reads of it.
+-- An instruction whose last access may be outside plain memory. All its other accesses are reads of
+-- plain memory.
 use Rattle.std.specs.Prelude.{◌≡◌, ℕ, Bool, true, false, Option, Some, None}
 use Rattle.op_table.specs.declared.names.Part.{Part}
 use Rattle.op_table.specs.declared.names.Mnemonic.{Mnemonic}
@@ -25,7 +26,7 @@ access_by at (Some byte) = Write at byte
 abbrev pub access_of : LastAccess → Cycle
 access_of o = access_by o.at o.value
 
--- the registers behind it, where it reads a byte
+-- the registers after the last access; byte is the byte that it reads
 abbrev pub outcome_by : Part → LastAccess → Regs → ℕ → Option ℕ → Regs
 outcome_by part o r byte None = read_result part o.mnemonic o.mode (with_pc_past r o.bytes) byte
 outcome_by part o r byte (Some value) = with_pc_past r o.bytes
@@ -33,18 +34,19 @@ outcome_by part o r byte (Some value) = with_pc_past r o.bytes
 abbrev pub outcome : Part → LastAccess → Regs → ℕ → Regs
 outcome part o r byte = outcome_by part o r byte o.value
 
--- whether a sum may be decimal
+-- true if a sum may be decimal
 abbrev pub adds : Mnemonic → Bool
 adds Adc = true
 adds Sbc = true
 adds _ = false
 
--- where it reads, it is no sum
+-- If the last access reads, the instruction is no sum and no difference.
 abbrev pub CanTakeIn : LastAccess → Type 0
 CanTakeIn o = o.value ≡ None → (bus_use o.mnemonic ≡ Reads) × (adds o.mnemonic ≡ false)
 
--- An instruction that begins at tick t, from registers r and memory m on, comes after so many cycles, all of them plain, to its last access, with the
--- memory as it was. That ends it, and the byte that is read there settles the registers. The flag I is as before.
+-- An instruction begins at tick t with the registers r and the memory m. o.cycles cycles lead to
+-- its last access; all of them are plain and leave the memory unchanged. The last access ends the
+-- instruction, and the byte read there determines the registers. The flag I is unchanged.
 pub record IsOutside (part : Part) {M : Type 0} (g : Reach M) (t : ℕ) (r : Regs) (m : M) (o : LastAccess) : Type 0 where
   pub last : State
   pub carried : Carried g t part o.cycles (fresh Instruction r) m last m

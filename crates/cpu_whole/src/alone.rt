@@ -12,7 +12,7 @@ use crate::ways::{idles, low_byte};
 use cpu_alu::{BusUse, Regs, word, wrapping_sum};
 use op_table::{Mnemonic, Mode, Part, Row};
 
-/// Whether it sets or clears I, which a whole instruction leaves as it is.
+/// Returns true if an instruction sets or clears I, which a whole instruction leaves unchanged.
 #[inline(always)]
 fn moves_i(mnemonic: Mnemonic) -> bool
     ensures { result ≡ moves_i mnemonic }
@@ -24,7 +24,7 @@ fn moves_i(mnemonic: Mnemonic) -> bool
     }
 }
 
-/// Whether it pulls the flags, I among them.
+/// Returns true if an instruction pulls the flags, I among them.
 #[inline(always)]
 fn pulls_flags(mnemonic: Mnemonic) -> bool
     ensures { result ≡ pulls_flags mnemonic }
@@ -37,7 +37,7 @@ fn pulls_flags(mnemonic: Mnemonic) -> bool
     }
 }
 
-/// An instruction without an operand.
+/// Carries out an instruction without an operand.
 #[inline(always)]
 pub(crate) fn implied<N, M: Plain<N>, L>(part: Part, row: Row, r: &mut Regs, memory: &M) -> u64
     requires runs { AreRead M.reach r.old.pc }
@@ -60,10 +60,10 @@ pub(crate) fn implied<N, M: Plain<N>, L>(part: Part, row: Row, r: &mut Regs, mem
     }
 }
 
-/// The place of an operand that is A.
+/// The mark of an operand that is A.
 struct OnA;
 
-/// A shift, INC or DEC of A.
+/// Carries out a shift, INC or DEC of A.
 #[inline(always)]
 pub(crate) fn accumulator<N, M: Plain<N>, L>(
     part: Part,
@@ -86,7 +86,7 @@ pub(crate) fn accumulator<N, M: Plain<N>, L>(
     2
 }
 
-/// A branch that is taken.
+/// Carries out a branch that is taken.
 #[inline(always)]
 fn branch_on<N, M: Plain<N>, L>(part: Part, row: Row, r: &mut Regs, memory: &M, first: u8) -> u64
     requires runs { AreRead M.reach r.old.pc }
@@ -111,7 +111,7 @@ fn branch_on<N, M: Plain<N>, L>(part: Part, row: Row, r: &mut Regs, memory: &M, 
     4
 }
 
-/// A branch.
+/// Carries out a branch.
 #[inline(always)]
 pub(crate) fn branch<N, M: Plain<N>, L>(
     part: Part,
@@ -135,7 +135,7 @@ pub(crate) fn branch<N, M: Plain<N>, L>(
     2
 }
 
-/// JSR, which reads the high byte of where it goes behind its pushes.
+/// Carries out JSR, which reads the high byte of its target after its pushes.
 #[inline(always)]
 pub(crate) fn call<N, M: Plain<N>, L>(
     part: Part,
@@ -172,7 +172,7 @@ pub(crate) fn call<N, M: Plain<N>, L>(
     6
 }
 
-/// RTS.
+/// Carries out RTS.
 #[inline(always)]
 pub(crate) fn go_back<N, M: Plain<N>, L>(part: Part, row: Row, r: &mut Regs, memory: &M) -> u64
     requires runs { AreRead M.reach r.old.pc }
@@ -193,7 +193,7 @@ pub(crate) fn go_back<N, M: Plain<N>, L>(part: Part, row: Row, r: &mut Regs, mem
     6
 }
 
-/// A push.
+/// Carries out a push.
 #[inline(always)]
 pub(crate) fn push<N, M: Plain<N>, L>(
     part: Part,
@@ -225,7 +225,7 @@ pub(crate) fn push<N, M: Plain<N>, L>(
     3
 }
 
-/// A pull, but for that of the flags.
+/// Carries out a pull, except PLP.
 #[inline(always)]
 pub(crate) fn pull<N, M: Plain<N>, L>(part: Part, row: Row, r: &mut Regs, memory: &M) -> u64
     requires runs { AreRead M.reach r.old.pc }
@@ -245,7 +245,7 @@ pub(crate) fn pull<N, M: Plain<N>, L>(part: Part, row: Row, r: &mut Regs, memory
     4
 }
 
-/// Where the second byte of a jump's pointer is.
+/// Returns the address of the second byte of a jump's pointer.
 #[inline(always)]
 fn second(part: Part, p: u16) -> u16
     ensures { result ≡ second part p }
@@ -256,7 +256,7 @@ fn second(part: Part, p: u16) -> u16
     }
 }
 
-/// JMP to an absolute address.
+/// Carries out JMP to an absolute address.
 #[inline(always)]
 fn jump_to<N, M: Plain<N>, L>(
     part: Part,
@@ -280,7 +280,7 @@ fn jump_to<N, M: Plain<N>, L>(
     3
 }
 
-/// JMP through the pointer at `at`.
+/// Carries out JMP through the pointer at `at`.
 #[inline(always)]
 fn jump_through<N, M: Plain<N>, L>(part: Part, row: Row, r: &mut Regs, memory: &M, at: u16) -> u64
     requires runs { AreRead M.reach r.old.pc }
@@ -305,7 +305,7 @@ fn jump_through<N, M: Plain<N>, L>(part: Part, row: Row, r: &mut Regs, memory: &
     }
 }
 
-/// JMP.
+/// Carries out JMP.
 #[inline(always)]
 pub(crate) fn jump<N, M: Plain<N>, L>(
     part: Part,

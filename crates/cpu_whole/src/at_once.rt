@@ -1,4 +1,4 @@
-//! From the opcode to what is done.
+//! The choice of what to do for an opcode.
 ghost use Rattle.std.specs.Prelude.{ℕ, ◌≡◌, ◌≢◌, ◌<◌, ◌≤◌, ◌+◌, ◌^◌, Some, true};
 ghost use Rattle.cpu_alu.specs.Addresses.{place};
 ghost use Rattle.cpu_alu.specs.Instructions.{bus_use};
@@ -13,7 +13,7 @@ use crate::plain::Plain;
 use cpu_alu::{BusUse, Regs};
 use op_table::{Mode, Part, Row, cmos, nmos};
 
-/// The instruction of an opcode.
+/// Returns the instruction of an opcode.
 #[inline(always)]
 fn row_at(part: Part, op: u8) -> Option<Row>
     ensures { result ≡ row_at part op }
@@ -24,7 +24,8 @@ fn row_at(part: Part, op: u8) -> Option<Row>
     }
 }
 
-/// Whether an instruction that reads and writes back takes its cycle for a carry also where there is none: on the 65C02 a shift does not.
+/// Returns true if an instruction that reads and writes back takes its cycle for a carry even
+/// without a carry: all but the shifts of the 65C02 do.
 #[inline(always)]
 fn waits(part: Part, row: Row, uses: BusUse) -> bool
     requires uses { bus_use row.mnemonic ≡ uses }
@@ -40,7 +41,7 @@ fn waits(part: Part, row: Row, uses: BusUse) -> bool
     }
 }
 
-/// An instruction that reads and writes back, or works on A.
+/// Carries out an instruction that reads and writes back, or works on A.
 #[inline(always)]
 fn modify<N, M: Plain<N>, L>(
     part: Part,
@@ -71,7 +72,8 @@ fn modify<N, M: Plain<N>, L>(
     }
 }
 
-/// The instruction of an opcode that has one. The number of its cycles is the only thing that is asked of its row, and its row is there.
+/// Returns the row of an opcode that has an instruction. Only the number of its cycles is read from
+/// the table of rows.
 #[inline(always)]
 pub(crate) fn row_of(part: Part, op: u8, known: &Known) -> Row
     requires known { known.now ≡ known_at part op }
@@ -91,7 +93,8 @@ pub(crate) fn row_of(part: Part, op: u8, known: &Known) -> Row
     }
 }
 
-/// An instruction by how it uses the bus, which is found by comparisons, as the mode is.
+/// Carries out an instruction by its use of the bus. The use is found by comparisons, as the mode
+/// is.
 #[inline(always)]
 fn carry_out<N, M: Plain<N>, L>(
     part: Part,
@@ -155,10 +158,13 @@ fn carry_out<N, M: Plain<N>, L>(
     }
 }
 
-/// Carries out the instruction at PC at once, if all its accesses are of plain memory: the number of its cycles, at most 8. Else nothing is done, and
-/// that number is 0. It is 0 too for sums and differences in decimal mode, for opcodes that do nothing or halt, and for BRK, RTI, PLP, CLI and SEI,
-/// so that the flag I stays as it was. `L` stands for the calling loop and is used for nothing else: each loop so gets its own inlined copy. Source:
-/// the MCS6500 Hardware Manual, summary of single cycle execution, and the 65C02's data sheet.
+/// Carries out the instruction at PC at once if all its accesses are of plain memory. Returns the
+/// number of its cycles, at most 8. Otherwise returns 0 and changes nothing. Some instructions
+/// always return 0: sums and differences in decimal mode, BRK, RTI, PLP, CLI and SEI, and opcodes
+/// of mode `Spare` or without an instruction. So the flag I is unchanged. `L` names the calling
+/// loop and has no other use: each loop gets its own inlined copy.
+/// Source: the MCS6500 Hardware Manual, summary of single cycle execution, and the 65C02's data
+/// sheet.
 #[inline(always)]
 pub fn whole<N, M: Plain<N>, L>(
     part: Part,

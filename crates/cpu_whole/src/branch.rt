@@ -16,7 +16,8 @@ fn are_same(a: &Regs, b: &Regs) -> bool
     a.pc == b.pc && a.a == b.a && a.x == b.x && a.y == b.y && a.s == b.s && a.p == b.p
 }
 
-/// How many cycles the instruction at PC takes, where that is a branch which leads from these registers to those, over plain memory. Else 0.
+/// Returns the number of cycles of the instruction at PC if it is a branch over plain memory that
+/// leads from the registers `from` to `to`. Otherwise returns 0.
 #[inline(always)]
 pub fn branch_to<N, M: Plain<N>, L>(part: Part, from: &Regs, to: &Regs, memory: &M) -> u64
     ensures done { (t : ℕ) → 0 < result → IsDone part M.reach t from.now (M.state memory.now) result to.now (M.state memory.now) }

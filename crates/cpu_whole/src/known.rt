@@ -1,4 +1,4 @@
-//! What is known of each opcode, as a table of each part.
+//! The facts known of each opcode, as a table of each part.
 ghost use Rattle.std.specs.Prelude.{◌≡◌};
 ghost use Rattle.op_table.specs.declared.names.Part.TheVariants.{Nmos, Cmos};
 ghost use Rattle.cpu_whole.specs.CodeWays.{known_at};
@@ -6,8 +6,8 @@ ghost use Rattle.cpu_whole.specs.CodeWays.{known_at};
 use cpu_alu::BusUse;
 use op_table::{Mnemonic, Mode, Part};
 
-/// What is known of an opcode: how its instruction uses the bus, and its row without the cycles, which are counted on the way to the operand. Four
-/// bytes, so that a place is found by a shift.
+/// The facts known of an opcode: its use of the bus, and its row without the cycles, which are
+/// counted up to the operand. The struct has four bytes, so that a shift finds it in the table.
 #[derive(Clone, Copy, Debug, PartialEq, Eq)]
 pub(crate) struct Known {
     pub(crate) uses: BusUse,
@@ -43,8 +43,9 @@ static NMOS: [Known; 256] = op_table::nmos_listing!(table);
 
 static CMOS: [Known; 256] = op_table::cmos_listing!(table);
 
-/// What is known of an opcode. One without an instruction counts as BRK, which is not done whole. It is lent and not copied, so that each part of
-/// it is read where it is needed.
+/// Returns the facts known of an opcode. One without an instruction counts as BRK, which is not
+/// carried out whole. The facts are borrowed and not copied, so that each field is read only if
+/// needed.
 #[inline(always)]
 pub(crate) fn known_at(part: Part, op: u8) -> &'static Known
     ensures { result.now ≡ known_at part op }

@@ -1,4 +1,5 @@
-//! A whole instruction of either part at once, on the registers alone, where each of its accesses is of plain memory.
+//! A whole instruction of either part at once, on the registers alone, if all its accesses are of
+//! plain memory.
 #![tactic(auto)]
 
 mod alone;

@@ -1,4 +1,4 @@
-//! What is done at an operand in memory.
+//! The access to an operand in memory.
 ghost use Rattle.std.specs.Prelude.{ℕ, ◌≡◌, ◌≢◌, ◌<◌, ◌≤◌, ◌+◌, ◌^◌, Some};
 ghost use Rattle.cpu_alu.specs.Addresses.{place};
 ghost use Rattle.cpu_alu.specs.Instructions.{bus_use};
@@ -12,7 +12,7 @@ use crate::ways::find;
 use cpu_alu::{BusUse, Regs};
 use op_table::{Mode, Part, Row};
 
-/// The operand is read.
+/// Reads the operand.
 #[inline(always)]
 pub(crate) fn load<N, M: Plain<N>, L>(
     part: Part,
@@ -46,7 +46,7 @@ pub(crate) fn load<N, M: Plain<N>, L>(
     to.cycles + 1
 }
 
-/// The operand is written.
+/// Writes the operand.
 #[inline(always)]
 pub(crate) fn store<N, M: Plain<N>, L>(
     part: Part,
@@ -88,10 +88,11 @@ pub(crate) fn store<N, M: Plain<N>, L>(
     to.cycles + 1
 }
 
-/// The place of an operand in memory.
+/// The mark of an operand in memory.
 struct InMemory;
 
-/// The operand is read and written back. Of the two bytes that the NMOS part writes there the first is the one that stands there.
+/// Reads the operand and writes it back. The first of the NMOS part's two writes is left out, since
+/// it leaves the byte as it was read.
 #[inline(always)]
 pub(crate) fn change<N, M: Plain<N>, L>(
     part: Part,

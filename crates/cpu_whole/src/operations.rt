@@ -1,5 +1,6 @@
-//! Operations found by comparisons with the order of the mnemonics: they take less time than a jump through a table that the processor does not
-//! foresee. Each is then called by its own name: of what is called with a constant the compiler keeps that operation alone.
+//! Operations found by comparisons with the order of the mnemonics, which take less time than a
+//! mispredicted jump through a table. Each operation is called with its own mnemonic, a constant,
+//! so that the compiler keeps that operation alone.
 ghost use Rattle.std.specs.Prelude.{◌≡◌, true, false, not};
 ghost use Rattle.cpu_alu.specs.Arithmetic.{adc, sbc};
 ghost use Rattle.cpu_alu.specs.Flags.{has_flag};
@@ -13,7 +14,7 @@ use cpu_alu::{
 };
 use op_table::{Mnemonic, Mode, Part};
 
-/// A sum, with its flags.
+/// Stores a sum with its flags.
 #[inline(always)]
 fn take_sum(r: &mut Regs, sum: Sum)
     ensures { r.new ≡ with_sum r.old sum }
@@ -23,7 +24,7 @@ fn take_sum(r: &mut Regs, sum: Sum)
     r.p = with_flag(with_flag(n_z, CARRY, sum.c), OVERFLOW, sum.v);
 }
 
-/// ADC of the byte `m` in binary. False, and nothing is done, in decimal mode.
+/// Carries out ADC of the byte `m` in binary. Returns `false`, with nothing done, in decimal mode.
 #[inline(always)]
 fn add(part: Part, r: &mut Regs, m: u8) -> bool
     ensures binary { result ≡ not (has_flag r.old.p DECIMAL) }
@@ -37,7 +38,7 @@ fn add(part: Part, r: &mut Regs, m: u8) -> bool
     true
 }
 
-/// SBC of the byte `m` in binary. False, and nothing is done, in decimal mode.
+/// Carries out SBC of the byte `m` in binary. Returns `false`, with nothing done, in decimal mode.
 #[inline(always)]
 fn subtract(part: Part, r: &mut Regs, m: u8) -> bool
     ensures binary { result ≡ not (has_flag r.old.p DECIMAL) }
@@ -51,8 +52,8 @@ fn subtract(part: Part, r: &mut Regs, m: u8) -> bool
     true
 }
 
-/// What an instruction that reads the byte `m` makes of the registers, PC apart. False, and nothing is done, for a sum or a difference in decimal
-/// mode.
+/// Applies an instruction that reads the byte `m` to the registers, except PC. Returns `false`,
+/// with nothing done, for a sum or a difference in decimal mode.
 #[inline(always)]
 pub(crate) fn read(part: Part, mnemonic: Mnemonic, mode: Mode, r: &mut Regs, m: u8) -> bool
     requires uses { bus_use mnemonic ≡ BusUse.Reads }
@@ -95,7 +96,7 @@ pub(crate) fn read(part: Part, mnemonic: Mnemonic, mode: Mode, r: &mut Regs, m: 
     true
 }
 
-/// What a store writes.
+/// Returns the byte that a store writes.
 #[inline(always)]
 pub(crate) fn stored(mnemonic: Mnemonic, r: &Regs) -> u8
     requires { bus_use mnemonic ≡ BusUse.Stores }
@@ -113,7 +114,7 @@ pub(crate) fn stored(mnemonic: Mnemonic, r: &Regs) -> u8
     }
 }
 
-/// What a push writes.
+/// Returns the byte that a push writes.
 #[inline(always)]
 pub(crate) fn pushed(mnemonic: Mnemonic, r: &Regs) -> u8
     requires { bus_use mnemonic ≡ BusUse.Pushes }
@@ -131,7 +132,7 @@ pub(crate) fn pushed(mnemonic: Mnemonic, r: &Regs) -> u8
     }
 }
 
-/// Whether a branch is taken.
+/// Returns true if a branch is taken.
 #[inline(always)]
 pub(crate) fn takes(branch: Mnemonic, r: &Regs) -> bool
     requires { bus_use branch ≡ BusUse.Branches }
@@ -161,7 +162,8 @@ pub(crate) fn takes(branch: Mnemonic, r: &Regs) -> bool
     }
 }
 
-/// What a modify instruction makes of the byte `m` of the memory and, PC apart, of the registers, by its name.
+/// Applies a modify instruction to the registers, except PC, and returns the byte that replaces `m`
+/// in memory.
 #[inline(always)]
 fn change_by(mnemonic: Mnemonic, mode: Mode, r: &mut Regs, m: u8) -> u8
     ensures value { result ≡ modified_value mnemonic r.old m }
@@ -172,8 +174,9 @@ fn change_by(mnemonic: Mnemonic, mode: Mode, r: &mut Regs, m: u8) -> u8
     value
 }
 
-/// What a modify instruction makes of the byte `m` of the memory and, PC apart, of the registers. Its type parameters stand for the calling place, which so
-/// gets a copy of its own: where several places share one it stays a call, for which the registers lie in memory.
+/// Applies a modify instruction to the registers, except PC, and returns the byte that replaces `m`
+/// in memory. The type parameters name the calling place, which gets a copy of its own: a copy
+/// shared by several callers stays a call that needs the registers in memory.
 #[inline(always)]
 pub(crate) fn change<W, N, M: Plain<N>, L>(
     mnemonic: Mnemonic,
@@ -208,7 +211,7 @@ pub(crate) fn change<W, N, M: Plain<N>, L>(
     }
 }
 
-/// What an instruction without an operand makes of the registers, PC apart.
+/// Applies an instruction without an operand to the registers, except PC.
 #[inline(always)]
 pub(crate) fn implied(mnemonic: Mnemonic, r: &mut Regs)
     requires { bus_use mnemonic ≡ BusUse.Implied }
@@ -263,7 +266,7 @@ pub(crate) fn implied(mnemonic: Mnemonic, r: &mut Regs)
     }
 }
 
-/// What a pull of the byte `m` makes of the registers, PC and S apart.
+/// Applies a pull of the byte `m` to the registers, except PC and S.
 #[inline(always)]
 pub(crate) fn pull(mnemonic: Mnemonic, r: &mut Regs, m: u8)
     requires { bus_use mnemonic ≡ BusUse.Pulls }

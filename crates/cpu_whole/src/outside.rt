@@ -1,4 +1,4 @@
-//! The last access of an instruction all of whose other accesses are of plain memory.
+//! The last access of an instruction whose other accesses are all of plain memory.
 ghost use Rattle.std.specs.Prelude.{ℕ, ◌≡◌, ◌≤◌, ◌<◌, Some};
 ghost use Rattle.cpu_alu.specs.Addresses.{place};
 ghost use Rattle.cpu_alu.specs.Instructions.{bus_use};
@@ -14,14 +14,14 @@ use crate::ways::find;
 use cpu_alu::{BusUse, Cycle, Regs};
 use op_table::{Mnemonic, Mode, Part, Row};
 
-/// The last access of an instruction, and what makes of it the registers behind it.
+/// The last access of an instruction, and the facts that determine the registers after it.
 #[derive(Clone, Copy, Debug, PartialEq, Eq)]
 pub struct LastAccess {
-    /// The cycles before it, or 0 where nothing is said.
+    /// The cycles before the access, or 0 if nothing is known.
     pub cycles: u64,
-    /// Its address.
+    /// The address of the access.
     pub at: u16,
-    /// What it writes, if it writes.
+    /// The byte to write, if the access writes.
     pub value: Option<u8>,
     /// The instruction.
     pub mnemonic: Mnemonic,
@@ -30,7 +30,7 @@ pub struct LastAccess {
 }
 
 impl LastAccess {
-    /// The access.
+    /// Returns the access.
     #[inline(always)]
     pub fn access(&self) -> Cycle
         ensures { result ≡ access_of self.now }
@@ -51,7 +51,7 @@ const NONE: LastAccess = LastAccess {
     bytes: 3,
 };
 
-/// Whether an instruction adds or subtracts, so that it may take a cycle more.
+/// Returns true if an instruction adds or subtracts, so that it may take a cycle more.
 #[inline(always)]
 fn adds(mnemonic: Mnemonic) -> bool
     ensures { result ≡ adds mnemonic }
@@ -62,7 +62,7 @@ fn adds(mnemonic: Mnemonic) -> bool
     }
 }
 
-/// The operand is read.
+/// Finds the last access of an instruction that reads its operand.
 #[inline(always)]
 fn read_last<N, M: Plain<N>, L>(part: Part, row: Row, r: &Regs, memory: &M, first: u8) -> LastAccess
     requires runs { AreRead M.reach r.now.pc }
@@ -86,7 +86,7 @@ fn read_last<N, M: Plain<N>, L>(part: Part, row: Row, r: &Regs, memory: &M, firs
     }
 }
 
-/// The operand is written.
+/// Finds the last access of an instruction that writes its operand.
 #[inline(always)]
 fn written_last<N, M: Plain<N>, L>(
     part: Part,
@@ -113,8 +113,9 @@ fn written_last<N, M: Plain<N>, L>(
     }
 }
 
-/// The last access of the instruction at PC, where that reads or writes an operand by an address of two bytes, and the other accesses are reads of
-/// plain memory.
+/// Returns the last access of the instruction at PC. The instruction must read or write an operand
+/// at a 16-bit address, and all its other accesses must be reads of plain memory. Returns 0 cycles
+/// otherwise, and for a sum or a difference.
 #[inline(always)]
 pub fn last_access<N, M: Plain<N>, L>(part: Part, r: &Regs, memory: &M) -> LastAccess
     ensures outside { (t : ℕ) → 0 < result.cycles → IsOutside part M.reach t r.now (M.state memory.now) result }
@@ -137,7 +138,7 @@ pub fn last_access<N, M: Plain<N>, L>(part: Part, r: &Regs, memory: &M) -> LastA
     }
 }
 
-/// The instruction ends with this byte.
+/// Ends the instruction with the byte `byte`.
 #[inline(always)]
 pub fn take_in(part: Part, last: &LastAccess, r: &mut Regs, byte: u8)
     requires { CanTakeIn last.now }

@@ -1,4 +1,4 @@
-//! The ways to the operand of an instruction in memory.
+//! The addressing modes of an instruction with an operand in memory.
 ghost use Rattle.std.specs.Prelude.{ℕ, ◌≡◌, ◌<◌, ◌≤◌, ◌+◌, ◌%◌, ◌||◌, true, cond};
 ghost use Rattle.cpu_alu.specs.Addresses.{word, wrap, place, crosses_page};
 ghost use Rattle.cpu_core.specs.Accesses.{idle, in_page};
@@ -9,16 +9,16 @@ use crate::plain::Plain;
 use cpu_alu::{Regs, crosses_page, in_zero_page, word, wrapping_sum};
 use op_table::{Mode, Part};
 
-/// Where the operand is.
+/// The operand's address and the cycles before it.
 #[derive(Clone, Copy, Debug, PartialEq, Eq)]
 pub(crate) struct Reached {
-    /// Its address.
+    /// The operand's address.
     pub(crate) at: u16,
-    /// The cycles before its own, or 0 where one of them is not of plain memory.
+    /// The cycles before the operand's, or 0 if one of them is not of plain memory.
     pub(crate) cycles: u64,
 }
 
-/// A byte of the zero page or the stack.
+/// Returns a byte of the zero page or the stack.
 #[inline(always)]
 pub(crate) fn low_byte<N, M: Plain<N>, L>(memory: &M, at: u16) -> u8
     requires { at < 512 }
@@ -28,7 +28,8 @@ pub(crate) fn low_byte<N, M: Plain<N>, L>(memory: &M, at: u16) -> u8
     memory.byte(at)
 }
 
-/// Whether a cycle is one of plain memory whose byte is not used: the NMOS part reads the address that it has so far.
+/// Returns `true` only if a cycle whose byte is not used is one of plain memory. The NMOS part
+/// reads the partial address `so_far`.
 #[inline(always)]
 pub(crate) fn idles<N, M: Plain<N>, L>(part: Part, memory: &M, so_far: u16) -> bool
     ensures { result ≡ true → (last : ℕ) → (M.reach).reads last ≡ true → (M.reach).reads (idle part so_far last) ≡ true }
@@ -39,7 +40,7 @@ pub(crate) fn idles<N, M: Plain<N>, L>(part: Part, memory: &M, so_far: u16) -> b
     }
 }
 
-/// An index is added to an address that took so many cycles.
+/// Adds `index` to an address; `before` cycles come before.
 #[inline(always)]
 fn indexed<N, M: Plain<N>, L>(
     part: Part,
@@ -72,7 +73,7 @@ fn indexed<N, M: Plain<N>, L>(
     }
 }
 
-/// An absolute address with X.
+/// Finds an absolute address with X.
 #[inline(always)]
 fn absolute_x<N, M: Plain<N>, L>(
     part: Part,
@@ -90,7 +91,7 @@ fn absolute_x<N, M: Plain<N>, L>(
     indexed::<N, M, L>(part, always, memory, first, high, r.x, 3)
 }
 
-/// An absolute address with Y.
+/// Finds an absolute address with Y.
 #[inline(always)]
 fn absolute_y<N, M: Plain<N>, L>(
     part: Part,
@@ -108,7 +109,7 @@ fn absolute_y<N, M: Plain<N>, L>(
     indexed::<N, M, L>(part, always, memory, first, high, r.y, 3)
 }
 
-/// A pointer in the zero page, and Y added.
+/// Finds the address at a pointer in the zero page, with Y added.
 #[inline(always)]
 fn pointer_y<N, M: Plain<N>, L>(
     part: Part,
@@ -127,7 +128,7 @@ fn pointer_y<N, M: Plain<N>, L>(
     indexed::<N, M, L>(part, always, memory, low, high, r.y, 4)
 }
 
-/// A pointer in the zero page.
+/// Finds the address at a pointer in the zero page.
 #[inline(always)]
 fn pointer<N, M: Plain<N>, L>(part: Part, always: bool, r: &Regs, memory: &M, first: u8) -> Reached
     requires runs { AreRead M.reach r.now.pc }
@@ -143,7 +144,7 @@ fn pointer<N, M: Plain<N>, L>(part: Part, always: bool, r: &Regs, memory: &M, fi
     }
 }
 
-/// A pointer in the zero page that is found with X.
+/// Finds the address at a pointer in the zero page that is indexed by X.
 #[inline(always)]
 fn pointer_x<N, M: Plain<N>, L>(
     part: Part,
@@ -165,7 +166,7 @@ fn pointer_x<N, M: Plain<N>, L>(
     }
 }
 
-/// An address in the zero page with X.
+/// Finds an address in the zero page with X.
 #[inline(always)]
 fn zero_page_x<N, M: Plain<N>, L>(
     part: Part,
@@ -185,7 +186,7 @@ fn zero_page_x<N, M: Plain<N>, L>(
     }
 }
 
-/// An address in the zero page with Y.
+/// Finds an address in the zero page with Y.
 #[inline(always)]
 fn zero_page_y<N, M: Plain<N>, L>(
     part: Part,
@@ -205,7 +206,7 @@ fn zero_page_y<N, M: Plain<N>, L>(
     }
 }
 
-/// An address in the zero page.
+/// Finds an address in the zero page.
 #[inline(always)]
 fn zero_page<N, M: Plain<N>, L>(
     part: Part,
@@ -225,7 +226,7 @@ fn zero_page<N, M: Plain<N>, L>(
     }
 }
 
-/// An absolute address.
+/// Finds an absolute address.
 #[inline(always)]
 fn absolute<N, M: Plain<N>, L>(part: Part, always: bool, r: &Regs, memory: &M, first: u8) -> Reached
     requires runs { AreRead M.reach r.now.pc }
@@ -239,7 +240,7 @@ fn absolute<N, M: Plain<N>, L>(part: Part, always: bool, r: &Regs, memory: &M, f
     }
 }
 
-/// The operand is the byte behind the opcode.
+/// Finds the operand in the byte after the opcode.
 #[inline(always)]
 fn immediate<N, M: Plain<N>, L>(
     part: Part,
@@ -258,8 +259,8 @@ fn immediate<N, M: Plain<N>, L>(
     }
 }
 
-/// The operand's address, by the mode. It is found by comparisons with the order of the modes: they take less
-/// time than a jump through a table where the processor does not foresee such a jump.
+/// Finds the operand's address by the mode. The mode is found by comparisons with the order of the
+/// modes, which take less time than a mispredicted jump through a table.
 #[inline(always)]
 pub(crate) fn find<N, M: Plain<N>, L>(
     part: Part,

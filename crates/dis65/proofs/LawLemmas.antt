@@ -1,4 +1,4 @@
--- The bytes that the assembler makes of a disassembly are those that it was made of.
+-- The bytes that the assembler makes of a disassembly are those that were disassembled.
 use Rattle.std.proofs.Common.{◌≡◌, ℕ, zero, suc, ◌+◌, ◌≤◌, ◌<◌, List, [], ◌∷◌, ◌++◌, length, take, drop, map, refl, ap, ◌∙◌, Option, None, Ok, zero-le, arith}
 use Rattle.std.specs.List.{concat}
 use Rattle.std.proofs.lemmas.List.{take-append-drop, length-take-le}
@@ -13,7 +13,7 @@ use Rattle.dis65.proofs.LineLemmas.{passed_fits}
 use Rattle.dis65.proofs.ReadLemmas.{AreBytes, are_bytes, unlabelled, listed, parsed_decode}
 use Rattle.dis65.proofs.PlacedLemmas.{IsSound, org_is_sound, line_is_sound}
 
--- neither pass has anything against placed lines, which make these bytes
+-- neither pass finds a fault in placed lines, which make these bytes
 record AreSound (part : Part) (placed : List Placed) (made : List ℕ) : Type 0 where
   first : (row : ℕ) (names : List (List ℕ)) → first_pass part row names placed ≡ None
   second : (row : ℕ) (labels : Labels) → second_pass part row labels placed ≡ None
@@ -23,7 +23,7 @@ record AreSound (part : Part) (placed : List Placed) (made : List ℕ) : Type 0 
 none_sound : (part : Part) → AreSound part [] []
 none_sound part = record { first = λ row names. refl; second = λ row labels. refl; makes = λ labels. refl }
 
--- a line in front
+-- a line at the front
 more_sound : (part : Part) (at : ℕ) (s : Statement) (made rest : List ℕ) (lines : List (Option Line))
     → IsSound part at s made → AreSound part (placed_from part (at + length made) lines) rest
     → AreSound part (placed_from part at (unlabelled s ∷ lines)) (made ++ rest)
@@ -57,7 +57,7 @@ listed_sound part at zero (op ∷ xs) all h fits =
     let begin : at ≡ at + 0 = omega arith in
     rw (← begin, ← made) lines
 
--- what such lines mean
+-- the meaning of such lines
 program_sound : (part : Part) (origin : ℕ) (placed : List Placed) (made : List ℕ) → AreSound part placed made
     → program_of part origin placed ≡ Ok (origin, made)
 program_sound part origin placed made s =

@@ -1,4 +1,4 @@
--- The lines of bytes: what a row tells of its line, and how the lines go on behind it.
+-- The lines of bytes: the line of a row, and the lines after it.
 use Rattle.std.proofs.Common.{◌≡◌, ℕ, zero, suc, ◌+◌, ◌-◌, ◌≤◌, List, [], ◌∷◌, ◌++◌, length, take}
 use Rattle.std.proofs.Common.{drop, refl, Option, Some, None, nat_le, if◌then◌else◌, codes, option_map, inl, inr, arith, lit≤, append_assoc}
 use Rattle.std.specs.Prelude.{option_and_then, slice_index}
@@ -39,14 +39,15 @@ pub none_line : (part : Part) (at op : ℕ) (behind : List ℕ) (o : Option Form
 none_line part at op behind None e = (refl, refl)
 none_line part at op behind (Some f) e = cc
 
--- with a row it is that of the instruction, and the bytes that the row counts are the opcode and those that the line passes
+-- With a row the line is that of its instruction. The row counts the opcode and the bytes that the
+-- line skips.
 pub row_line : (part : Part) (at op : ℕ) (behind : List ℕ) (r : Row) (o : Option Form) → Some r ≡ option_map (row_of part) o
     → (name_of r.mnemonic ++ operand_text at r.mode (slice_index behind 0) (slice_index behind 1) ++ codes "\n" ≡ line_text at op behind o)
     × (1 ≤ r.bytes) × (r.bytes - 1 ≡ bytes_behind o)
 row_line part at op behind r None e = cc
 row_line part at op behind r (Some f) e = let same : r ≡ row_of part f = cc in rw same (refl, some_bytes f.mode, refl)
 
--- the lines behind bytes that belong to the line before
+-- the lines after bytes that belong to the line before them
 lines_skip : (part : Part) (at skip : ℕ) (bytes : List ℕ) → skip ≤ length bytes
     → lines_from part at skip bytes ≡ lines_from part (at + skip) 0 (drop skip bytes)
 lines_skip part at zero bytes h = let e : at + 0 ≡ at = omega arith in rw e
@@ -55,7 +56,7 @@ lines_skip part at (suc skip) (b ∷ bytes) h =
     let e : at + suc skip ≡ (at + 1) + skip = omega arith in
     rw e (lines_skip part (at + 1) skip bytes (omega arith))
 
--- what is written and what is left to write, one line further
+-- the text written and the lines left, after one more line
 pub one_line : (part : Part) (at op n : ℕ) (text behind : List ℕ) → n ≡ bytes_behind (form_here part op behind) → n ≤ length behind
     → (text ++ line_text at op behind (form_here part op behind))
     ++ lines_from part (at + (1 + n)) 0 (take (length behind - n) (drop n behind))

@@ -1,4 +1,4 @@
--- What the assembler makes of each line of a disassembly.
+-- The bytes that the assembler makes of each line of a disassembly.
 use Rattle.std.proofs.Common.{◌≡◌, ℕ, ◌+◌, ◌-◌, ◌*◌, ◌/◌, ◌%◌, ◌≤◌, ◌<◌, ◌==◌, List, [], ◌∷◌, length, take, map, refl}
 use Rattle.std.proofs.Common.{ap, Option, Some, None, Bool, true, false, not, ◌&&◌, nat_le, nat_lt, eqb, eqb-true, find, inl, inr, arith}
 use Rattle.std.specs.Prelude.{slice_index}
@@ -41,7 +41,7 @@ branch_back at far h d = elim (cases_lt far 128) [ inl low ↦ ahead low | inr h
 
 -- ---- the form of an opcode
 
--- what is found by one test among those that all pass another passes both
+-- A form found by one test passes it, and passes another that all pass.
 found_passes : (p q : Form → Bool) (fs : List Form) (f : Form) → list_all q fs ≡ true → find p fs ≡ Some f → (p f ≡ true) × (q f ≡ true)
 found_passes p q [] f h e = cc
 found_passes p q (g ∷ fs) f h e =
@@ -51,7 +51,7 @@ found_passes p q (g ∷ fs) f h e =
       | inr other ↦ found_passes p q fs f parts.1 (rw other at e)
     ]
 
--- what was found is this
+-- the form that was found
 abbrev is_mode : Option Mode → Mode → Bool
 is_mode None way = false
 is_mode (Some w) way = same_mode w way
@@ -66,19 +66,19 @@ comes_back part f =
     is_mode (mode_of part f.mnemonic (operand_by f.mode (plain 0 (is_small f.mode)))) f.mode
     && (is_op (find_form part f.mnemonic f.mode) f.opcode && not (same_mode f.mode Spare))
 
--- so it is with each form of a part
+-- each form of a part does so
 all_come_back : (part : Part) → list_all (comes_back part) (forms part) ≡ true
 unfolding find_form
 all_come_back Nmos = refl
 all_come_back Cmos = refl
 
--- the mode hangs on the operand's form and size, not on its number
+-- the mode depends on the operand's form and size, not on its number
 same_at : (part : Part) (name : Mnemonic) (way : Mode) (small : Bool) (n : ℕ)
     → mode_of part name (operand_by way (plain 0 small)) ≡ mode_of part name (operand_by way (plain n small))
 same_at part name Imp small n = refl
 same_at part name _ small n = refl
 
--- what those tests tell
+-- the results of those tests
 is_mode-true : (o : Option Mode) (way : Mode) → is_mode o way ≡ true → o ≡ Some way
 is_mode-true None way e = cc
 is_mode-true (Some w) way e = ap Some (same_true modes tt w way e)
@@ -87,13 +87,13 @@ is_op-true : (o : Option ℕ) (op : ℕ) → is_op o op ≡ true → o ≡ Some 
 is_op-true None op e = cc
 is_op-true (Some k) op e = ap Some (eqb-true k op e)
 
--- what the assembler takes for the form of an opcode
+-- the assembler's mode and opcode for the form of an opcode
 record TakenBack (part : Part) (op : ℕ) (f : Form) : Type 0 where
   mode : (n : ℕ) → mode_of part f.mnemonic (operand_by f.mode (plain n (is_small f.mode))) ≡ Some f.mode
   opcode : find_form part f.mnemonic f.mode ≡ Some op
   used : same_mode f.mode Spare ≡ false
 
--- so it is with the form of each opcode
+-- the form of each opcode does so
 taken_back : (part : Part) (op : ℕ) (f : Form) → form_at (forms part) op ≡ Some f → TakenBack part op f
 taken_back part op f e =
     let passes = found_passes (λ x. x.opcode == op) (comes_back part) (forms part) f (all_come_back part) e in
@@ -106,7 +106,7 @@ taken_back part op f e =
       used = not-true _ b.1;
     }
 
--- neither pass has anything against the line of a statement at an address, which makes these bytes
+-- neither pass finds a fault in the line of a statement at an address, which makes these bytes
 pub record IsSound (part : Part) (at : ℕ) (s : Statement) (made : List ℕ) : Type 0 where
   pub first : (row : ℕ) (names : List (List ℕ)) → first_fault part row names at (unlabelled s) ≡ None
   pub second : (row : ℕ) (labels : Labels) → second_fault part row labels at (unlabelled s) ≡ None
@@ -148,7 +148,7 @@ number_below : (at : ℕ) (way : Mode) (l h : ℕ) → l < 256 → h < 256 → n
 number_below at Rel l h a b = omega arith
 number_below at _ l h a b = omega arith
 
--- and the first pass finds it so
+-- and the first pass finds it in range
 numbers_fit : (way : Mode) (n : ℕ) (small : Bool) → nat_lt 65535 n ≡ false
     → list_any (λ k. nat_lt 65535 k) (values_numbers (operand_values (operand_by way (plain n small)))) ≡ false
 numbers_fit Imp n small e = refl
@@ -188,7 +188,7 @@ take_two (b ∷ c ∷ xs) all h =
     let high : (b + 256 * c) / 256 ≡ c = omega arith in
     rw (low, high)
 
--- it makes the bytes behind the opcode
+-- it makes the bytes after the opcode
 operand_makes : (labels : Labels) (at : ℕ) (way : Mode) (xs : List ℕ) → same_mode way Spare ≡ false → at < 65536 → AreBytes xs
     → bytes_of way ≤ length xs + 1
     → operand_bytes at way (map (value_in labels) (operand_values (operand_by way (plain (number_at at way (slice_index xs 0) (slice_index xs 1)) (is_small way)))))

@@ -35,7 +35,7 @@ digits_pass p all (suc k) n = rw (digit_passes p all (n / 16 ^ k)) (digits_pass 
 digit_value : (n : ℕ) → hex_value (hex_digit (n % 16)) ≡ n % 16
 digit_value n = eqb-true _ _ (agree_below_at (λ d. eqb (hex_value (hex_digit d)) d) (λ _. true) 16 (n % 16) refl (omega arith))
 
--- two digits are read back as the number that they were made of, and so are four
+-- two digits, and four, are read back as the number from which they were made
 number_back : (small : Bool) (n : ℕ) → n < (if small then 256 else 65536)
     → hex_number (hex_digits (if small then 2 else 4) n) ≡ Some (record { value = n; byte_sized = small })
 unfolding hex_digits
@@ -48,7 +48,7 @@ number_back false n h =
     let is_hex = digit_passes is_hex_any_case refl in
     rw (is_hex (n / 4096), is_hex (n / 256), is_hex (n / 16), is_hex (n / 1), digit_value (n / 4096), digit_value (n / 256), digit_value (n / 16), digit_value (n / 1), zero-add, e)
 
--- a run of word bytes, in front of others
+-- a run of word bytes, before others
 cut_word : (run rest : List ℕ) → list_all is_word_byte run ≡ true → cut_of (run ++ rest) ≡ record { run = run ++ (cut_of rest).run; tokens = (cut_of rest).tokens }
 cut_word [] rest h = refl
 cut_word (b ∷ run) rest h =
@@ -75,7 +75,7 @@ spells small n h =
 
 -- ---- operands
 
--- a number that stands alone
+-- a number alone
 abbrev pub plain : ℕ → Bool → Value
 plain n small = record { portion = whole; base = number (record { value = n; byte_sized = small }) }
 
@@ -113,7 +113,7 @@ pub number_fits : (at : ℕ) (way : Mode) (l h : ℕ) → l < 256 → h < 256 �
 number_fits at Rel l h a b = omega arith
 number_fits at _ l h a b = omega arith
 
--- what an operand's text tells the assembler
+-- the assembler's reading of an operand's text
 record IsOperand (text : List ℕ) (operand : Operand) : Type 0 where
   ended : (cut_of text).run ≡ []
   begins : (run : List ℕ) → line_of (word run ∷ (cut_of text).tokens) ≡ option_map (λ s. record { label = None; statement = s }) (rest_of (word run ∷ (cut_of text).tokens))
@@ -137,7 +137,8 @@ operand_is at way l h a b =
 
 -- ---- lines
 
--- what a mnemonic's name tells the assembler: it is a word and no directive, and leads back to its mnemonic
+-- the assembler's reading of a mnemonic's name: it is a word and no directive, and leads back to
+-- its mnemonic
 record IsName (run : List ℕ) (name : Mnemonic) : Type 0 where
   words : list_all is_word_byte run ≡ true
   inner : list_all is_code run ≡ true
@@ -156,7 +157,7 @@ name_is _ = record { words = refl; inner = refl; some = λ t. refl; no_org = ref
 abbrev pub unlabelled : Statement → Option Line
 unlabelled s = Some (record { label = None; statement = Some s })
 
--- a line without its line feed, and what it means
+-- a line without its line feed, and its meaning
 record Means (line : List ℕ) (statement : Statement) : Type 0 where
   inner : list_all is_code line ≡ true
   reads : line_of (tokens_of line) ≡ unlabelled statement
@@ -181,7 +182,7 @@ org_line n h = let s = spells false n h in record { inner = s.inner; reads = rw 
 byte_line : (n : ℕ) → n < 256 → Means (codes "byte &" ++ hex_digits 2 n) (bytes (plain n true ∷ []))
 byte_line n h = let s = spells true n h in record { inner = s.inner; reads = rw (s.alone, s.number) refl }
 
--- ---- a line, and the lines behind it
+-- ---- a line, and the lines after it
 
 -- a line without a line feed inside is the first
 lines_first : (line rest : List ℕ) → list_all is_code line ≡ true → text_lines (line ++ 10 ∷ rest) ≡ (line ++ 10 ∷ []) ∷ text_lines rest
@@ -198,7 +199,7 @@ no_comment (b ∷ line) h =
     let parts = and_parts (is_code b) (list_all is_code line) h in
     take_while-cons is_code b (line ++ 10 ∷ []) ∙ rw parts.0 (ap (λ l. b ∷ l) (no_comment line parts.1))
 
--- a line in front is read first
+-- a line at the front is read first
 parsed_line : (line rest : List ℕ) (s : Statement) → Means line s → parsed_text (line ++ 10 ∷ rest) ≡ unlabelled s ∷ parsed_text rest
 parsed_line line rest s m =
     ap (λ ls. map (λ l. line_of (tokens_of (code_of l))) ls) (lines_first line rest m.inner)
@@ -207,7 +208,7 @@ parsed_line line rest s m =
 
 -- ---- the statements of a disassembly
 
--- what stands at each place is a byte, 0 past the end
+-- the byte at each place, 0 past the end
 abbrev pub AreBytes : List ℕ → Type 0
 AreBytes xs = (k : ℕ) → slice_index xs k < 256
 

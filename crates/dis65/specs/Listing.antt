@@ -8,11 +8,11 @@ use Rattle.op_table.specs.Names.{name_of}
 use Rattle.op_table.specs.Forms.{Form, forms, form_at}
 use Rattle.op_table.specs.Rows.{bytes_of}
 
--- where a branch at this address goes that goes this far
+-- the target of a branch at the address at with the operand far
 abbrev pub target : ℕ → ℕ → ℕ
 target at far = (at + 2 + (if nat_lt far 128 then far else 65280 + far)) % 65536
 
--- The operand of an instruction at an address, by its mode and the bytes behind its opcode.
+-- The operand of an instruction at an address, by its mode and the bytes after its opcode.
 abbrev pub operand_text : ℕ → Mode → ℕ → ℕ → List ℕ
 operand_text at Imp low high = []
 operand_text at Acc low high = codes " A"
@@ -31,7 +31,7 @@ operand_text at Ind low high = codes " (&" ++ hex_digits 4 (low + 256 * high) ++
 operand_text at IndAbsX low high = codes " (&" ++ hex_digits 4 (low + 256 * high) ++ codes ",X)"
 operand_text at Spare low high = []
 
--- the form, where all its bytes are there
+-- the form, if all its bytes are available
 abbrev pub if_whole : ℕ → Option Form → Option Form
 if_whole available None = None
 if_whole available (Some f) = if nat_le (bytes_of f.mode) available then Some f else None
@@ -40,17 +40,17 @@ if_whole available (Some f) = if nat_le (bytes_of f.mode) available then Some f 
 abbrev pub form_here : Part → ℕ → List ℕ → Option Form
 form_here part op behind = if_whole (length behind + 1) (form_at (forms part) op)
 
--- the line of an instruction, or of a byte that is none
+-- the line of an instruction, or of a byte without one
 abbrev pub line_text : ℕ → ℕ → List ℕ → Option Form → List ℕ
 line_text at op behind None = codes "byte &" ++ hex_digits 2 op ++ codes "\n"
 line_text at op behind (Some f) = name_of f.mnemonic ++ operand_text at f.mode (slice_index behind 0) (slice_index behind 1) ++ codes "\n"
 
--- how many bytes behind its first a line takes
+-- the number of bytes that a line takes after its first
 abbrev pub bytes_behind : Option Form → ℕ
 bytes_behind None = 0
 bytes_behind (Some f) = bytes_of f.mode - 1
 
--- The lines of bytes from an address on, of which some belong to the line before them.
+-- The lines of bytes from an address on; the first skip bytes belong to the line before.
 abbrev pub lines_from : Part → ℕ → ℕ → List ℕ → List ℕ
 lines_from part at skip [] = []
 lines_from part at (suc skip) (b ∷ bytes) = lines_from part (at + 1) skip bytes

@@ -1,4 +1,4 @@
-//! The disassembler: bytes of the NMOS 6502 and the 65C02 to a source text.
+//! The disassembler: makes a source text of bytes of the NMOS 6502 or the 65C02.
 #![tactic(auto)]
 
 ghost use Rattle.std.specs.Prelude.{◌≡◌, ◌+◌, ◌≤◌, IfOk, length};
@@ -32,11 +32,12 @@ fn listing(alloc: Global, part: Part, bytes: &[u8], origin: u16) -> Result<Vec<u
     Ok(text)
 }
 
-/// The source text of bytes that stand from an origin on: `org` with the origin, and then a line for each instruction, or
-/// `byte` with a byte whose opcode isn't documented for the part, or whose instruction passes the end.
+/// Returns the source text of bytes from an origin on: `org` with the origin, and then a line for
+/// each instruction. A byte gets the line `byte` if its opcode isn't documented for the part or if
+/// its instruction passes the end.
 ///
 /// # Errors
-/// Memory for the text can be wanting.
+/// Returns an error if there is no memory for the text.
 pub fn disassemble(
     alloc: Global,
     part: Part,
@@ -45,14 +46,14 @@ pub fn disassemble(
 ) -> Result<Vec<u8>, NoMemory>
     requires { origin + length bytes.now ≤ 65536 }
     ensures text { IfOk result (λ v. v.items ≡ decode part bytes.now origin) }
-    // In words: assembled for the same part, the text is that origin and those bytes.
+    // In words: the text, assembled for the same part, yields the origin and the bytes.
     ensures meaning { IfOk result (λ v. source part v.items ≡ Ok (origin, bytes.now)) }
 {
     Ok(listing(alloc, part, bytes, origin)?)
 }
 
-/// A law of disassemblies, for every list of bytes and for both parts: assembled for the same part, the text of a
-/// disassembly is its origin and its bytes.
+/// Proves a law of disassemblies, for every list of bytes and for both parts: the text, assembled
+/// for the same part, yields its origin and its bytes.
 pub fn decode_means_its_bytes()
     ensures { DecodeMeansItsBytes }
 {}

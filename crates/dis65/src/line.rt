@@ -9,7 +9,8 @@ use crate::number::{push_byte, push_word};
 use op_table::{Mode, Part, Row, documented};
 use std::alloc::AllocError;
 
-// Where a branch at an address goes: from the next instruction on, as far as its signed operand says.
+// Returns the target of a branch at `at` with the signed operand `far`, which counts from the next
+// instruction.
 fn target(at: u16, far: u8) -> u16
     ensures { result ≡ target at far }
 {
@@ -47,7 +48,7 @@ fn push_operand(
     }
 }
 
-// The row of an opcode, if it is documented for the part and as many bytes are available, its own included, as the instruction takes.
+// Returns the row of an opcode if it is documented for the part and at most `available` bytes long.
 #[tactic(auto, using(crate::proofs::LineLemmas::row_whole))]
 fn whole(part: Part, op: u8, available: usize) -> Option<Row>
     ensures { result ≡ option_map (row_of part) (if_whole available (form_at (forms part) op)) }
@@ -60,14 +61,15 @@ fn whole(part: Part, op: u8, available: usize) -> Option<Row>
     }
 }
 
-// Where the byte is missing, the instruction doesn't have it, and what is taken for it isn't printed.
+// Returns the byte at `place`, or 0 past the end. An instruction that has no such byte does not
+// print it.
 fn byte_or_0(bytes: &[u8], place: usize) -> u8
     ensures { result ≡ slice_index bytes.now place }
 {
     bytes.get(place).copied().unwrap_or(0)
 }
 
-// Appends the line of an instruction with the bytes behind its opcode.
+// Appends the line of an instruction with the bytes after its opcode.
 fn push_instruction(text: &mut Vec<u8>, at: u16, row: Row, behind: &[u8]) -> Result<(), AllocError>
     ensures { let operand = operand_text at row.mode (slice_index behind.now 0) (slice_index behind.now 1) in
         IfOk result (λ _. text.new.items ≡ text.old.items ++ (name_of row.mnemonic ++ operand ++ codes "\n")) }
@@ -83,7 +85,8 @@ fn push_instruction(text: &mut Vec<u8>, at: u16, row: Row, behind: &[u8]) -> Res
     text.extend_from_slice(b"\n")
 }
 
-/// Appends the line of an opcode with the bytes behind it, and answers how many of these belong to it.
+/// Appends the line of an opcode with the bytes after it. Returns the number of them that belong to
+/// the line.
 pub(crate) fn push_line(
     text: &mut Vec<u8>,
     part: Part,

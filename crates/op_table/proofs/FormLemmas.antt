@@ -1,4 +1,4 @@
--- The forms of a part and the rows of its opcodes lead to one another.
+-- The forms of a part and the rows of its opcodes agree.
 use Rattle.std.proofs.Common.{◌≡◌, ℕ, ◌<◌, ◌↔◌, List, [], ◌∷◌, refl, ap, sym, ◌∙◌, Option, Some, None, Bool, true, false}
 use Rattle.std.proofs.Common.{eqb, ltb, ◌&&◌, MatchOption, IsSome, Any, eqb-true, is_some, eq-eqb, ◌==◌, not, option_map, find, filter, IfSome, inl, inr}
 use Rattle.std.specs.List.{list_all, list_any}
@@ -36,7 +36,7 @@ unfolding cmos_row nmos_row
 all_have_rows Nmos = refl
 all_have_rows Cmos = refl
 
--- what the test of a row has told
+-- the result of the test of a row
 row_fits : (name : Mnemonic) (way : Mode) (o : Option Row)
     → same_row name way o ≡ true → MatchOption o ⊥ (Fits name way)
 row_fits name way None e = cc
@@ -44,7 +44,7 @@ row_fits name way (Some r) e =
     let parts = and_parts (same_mnemonic r.mnemonic name) (same_mode r.mode way) e in
     (same_true mnemonics tt r.mnemonic name parts.0, same_true modes tt r.mode way parts.1)
 
--- a form with such a row is named by it
+-- a form with such a row names it
 Names-form : (part : Part) (f : Form) → has_row part f ≡ true → Names part f.mnemonic f.mode f.opcode
 Names-form part f e =
     let parts = and_parts (ltb f.opcode 256) (same_row f.mnemonic f.mode (documented_row part f.opcode)) e in
@@ -67,7 +67,7 @@ Names-found part name way op [] h e = cc
 Names-found part name way op (f ∷ fs) h e =
     let parts = and_parts (has_row part f) (list_all (has_row part) fs) h in
     let rest = Names-found part name way op fs parts.1 in
-    -- the first form is the one, is in another mode, or is another's
+    -- the first form is the one, is in another mode, or has another mnemonic
     elim (cases_Bool (same_mnemonic f.mnemonic name)) [
       | inl p ↦ elim (cases_Bool (same_mode f.mode way)) [
         | inl q ↦ let here : Some f.opcode ≡ Some op = rw (p, q) at e in let same : f.opcode ≡ op = cc in named_by part name way f op parts.0 p q same
@@ -116,7 +116,7 @@ pub find_form-iff : (part : Part) (name : Mnemonic) (way : Mode) (op : ℕ)
     → (find_form part name way ≡ Some op) ↔ Names part name way op
 find_form-iff part name way op = (Names-find_form part name way op, find_form-Names part name way op)
 
--- what a call that gave this form's opcode has named
+-- the naming by a call that gave this form's opcode
 pub find_form-named : (part p : Part) (name : Mnemonic) (way : Mode) (r : Option ℕ)
     → part ≡ p → r ≡ find_form p name way → (op : ℕ) → (r ≡ Some op) ↔ Names part name way op
 find_form-named part p name way r same e op =
@@ -130,7 +130,7 @@ abbrev is_same : Option Row → Option Row → Bool
 is_same None o = true
 is_same (Some r) o = same_row r.mnemonic r.mode o
 
--- an opcode of the NMOS part stands for the same on the 65C02
+-- an opcode of the NMOS part has the same row on the 65C02
 all_same : (op : ℕ) → op < 256 → is_same (documented_row Nmos op) (documented_row Cmos op) ≡ true
 unfolding cmos_row nmos_row
 all_same op h = agree_below_at (λ k. is_same (documented_row Nmos k) (documented_row Cmos k)) (λ _. true) 256 op refl h
@@ -166,14 +166,14 @@ none_if : (o : Option ℕ) → ((k : ℕ) → o ≡ Some k → ⊥) → None ≡
 none_if None h = refl
 none_if (Some k) h = absurd (h k refl)
 
--- what is found for the NMOS part is found for the 65C02, and the NMOS part has a row there
+-- A form found for the NMOS part is found for the 65C02, and the NMOS part has a row there.
 Nmos-found : (name : Mnemonic) (way : Mode) (k : ℕ) → find_form Nmos name way ≡ Some k
     → (Some k ≡ find_form Cmos name way) × (true ≡ is_some (nmos_row k))
 Nmos-found name way k e =
     let n = Names-find_form Nmos name way k e in
     (sym (find_form-Names Cmos name way k (Names-Cmos name way k n)), row_is_some name way (nmos_row k) n.1)
 
--- and the other way round
+-- and the converse
 
 pub find_form-Nmos : (name : Mnemonic) (way : Mode) (op : ℕ) (r : Option Row)
     → Some op ≡ find_form Cmos name way → r ≡ nmos_row op → true ≡ is_some r → Some op ≡ find_form Nmos name way
@@ -194,7 +194,7 @@ pub find_form-Nmos_none : (name : Mnemonic) (way : Mode)
 find_form-Nmos_none name way e =
     none_if (find_form Nmos name way) (λ k at_k. let found_k = (Nmos-found name way k at_k).0 in cc)
 
--- ---- an opcode has a row where a form has it
+-- ---- an opcode has a row if a form has it
 
 is_some-find : (p : Form → Bool) (fs : List Form) → is_some (find p fs) ≡ list_any p fs
 is_some-find p [] = refl
@@ -227,12 +227,12 @@ nmos_row-IsDocumented op = form_row-IsDocumented Nmos op
 is_used : Form → Bool
 is_used f = not (same_mode f.mode Spare)
 
--- no form is spare
+-- no form has the mode Spare
 all_used : list_all is_used (forms Cmos) ≡ true
 unfolding is_used
 all_used = refl
 
--- nor is one that is found
+-- no form that is found has the mode Spare
 found_used : (p : Form → Bool) (fs : List Form) → list_all is_used fs ≡ true → IfSome (find p fs) (λ f. is_used f ≡ true)
 found_used p [] h = tt
 found_used p (f ∷ fs) h =
@@ -254,7 +254,7 @@ unfolding nmos_row cmos_row
 documented_row-form Nmos op = refl
 documented_row-form Cmos op = unless_spare-form op (form_at (forms Cmos) op) (found_used (λ f. f.opcode == op) (forms Cmos) all_used)
 
--- what a row of the 65C02 that is spare, or another, is as that of the opcode's form
+-- the row of the opcode's form, for a spare row of the 65C02 and for any other
 pub spare_row-form : (part : Part) (op : ℕ) (r : Row) → part ≡ Cmos → r ≡ cmos_row op → same_mode r.mode Spare ≡ true
     → None ≡ option_map (row_of part) (form_at (forms part) op)
 spare_row-form part op r at e s = rw at (by_mode r r.mode (same_true modes tt r.mode Spare s) ∙ ap (λ (x : Row). unless_spare x x.mode) e ∙ documented_row-form Cmos op)
@@ -271,7 +271,7 @@ pub form_row-documented : (part : Part) (op : ℕ) (o : Option Row) → o ≡ op
     → IsSome o ↔ IsDocumented part op
 form_row-documented part op o e = rw e (form_row-IsDocumented part op)
 
--- an opcode has a spare row where no form has it
+-- an opcode has a spare row if no form has it
 spare-iff : (r : Row) (way : Mode) → (way ≡ Spare) ↔ (¬ IsSome (unless_spare r way))
 spare-iff r Spare = (λ e s. cc, λ none. refl)
 spare-iff r way = (λ e. cc, λ none. absurd (none refl))

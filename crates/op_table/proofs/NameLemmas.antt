@@ -60,7 +60,7 @@ pub named-mnemonic_of : (text : List ℕ) (r : Option Mnemonic)
 named-mnemonic_of text r h =
     one_answer r (mnemonic_of text) (λ n. (λ e. (mnemonic_of-iff text n).1 ((h n).0 e), λ e. (h n).1 ((mnemonic_of-iff text n).0 e)))
 
--- ---- what holds of each name
+-- ---- properties of each name
 
 pub mnemonic_of-name_of : (name : Mnemonic) → mnemonic_of (name_of name) ≡ Some name
 unfolding mnemonic_of

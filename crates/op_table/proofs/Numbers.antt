@@ -1,4 +1,4 @@
--- Each mnemonic and each mode stands in the list of all at its own number.
+-- Each mnemonic and each mode is in the list of all at its own number.
 use Rattle.std.proofs.Common.{◌≡◌, ℕ, ◌<◌, List, [], ◌∷◌, refl, subst, slice_index_or, Bool, true, eqb, eqb-true}
 use Rattle.std.proofs.lemmas.Bool.{agree_below, agree_below_at}
 use denote.Enum.Bare.{tag_one}
@@ -22,7 +22,7 @@ below_64 name = tag_below (variants mnemonics) (mnemonics.to name)
 pub all_mnemonics-at : (name : Mnemonic) → slice_index_or all_mnemonics (tag_of mnemonics name) Adc ≡ name
 all_mnemonics-at name = tag_one mnemonics tt _ name (mnemonic_number (tag_of mnemonics name) (below_64 name))
 
--- a test that each of the list passes is passed by all
+-- a test that each of the list passes holds for all
 pub test_all : (p : Mnemonic → Bool) → agree_below (λ k. p (slice_index_or all_mnemonics k Adc)) (λ _. true) 64 ≡ true
     → (name : Mnemonic) → p name ≡ true
 test_all p h name =

@@ -1,5 +1,5 @@
--- The documented instructions of both parts, line by line as the MCS6500 Programming Manual and the 65C02's data sheet
--- list them.
+-- The documented instructions of both parts, line by line as the MCS6500 Programming Manual and the
+-- 65C02's data sheet list them.
 use Rattle.std.specs.Prelude.{◌≡◌, ℕ, nat_lt, List, [], ◌∷◌, ◌++◌, if◌then◌else◌, ◌==◌, Option, option_map, find, filter, Any}
 use Rattle.op_table.specs.declared.names.Part.{Part}
 use Rattle.op_table.specs.declared.names.Part.TheVariants.{Nmos, Cmos}
@@ -18,7 +18,7 @@ pub record Form : Type 0 where
   pub mode : Mode
   pub opcode : ℕ
 
--- in place of an opcode: there is no such form
+-- the entry in place of an opcode if a form doesn't exist
 abbrev pub none : ℕ
 none = 256
 
@@ -42,7 +42,7 @@ abbrev pub shift : Mnemonic → ℕ → ℕ → ℕ → ℕ → ℕ → List For
 shift name acc zp zpx abs absx =
     form name Acc acc ++ form name Zp zp ++ form name ZpX zpx ++ form name Abs abs ++ form name AbsX absx
 
--- the 151 of the NMOS 6502
+-- the 151 forms of the NMOS 6502
 abbrev pub nmos_forms : List Form
 nmos_forms =
     []
@@ -79,7 +79,7 @@ nmos_forms =
     ++ form Bcc Rel 0x90 ++ form Bcs Rel 0xB0 ++ form Bne Rel 0xD0 ++ form Beq Rel 0xF0
     ++ form Jmp Abs 0x4C ++ form Jmp Ind 0x6C ++ form Jsr Abs 0x20
 
--- the 27 that the 65C02 adds
+-- the 27 forms that the 65C02 adds
 abbrev pub added_forms : List Form
 added_forms =
     []
@@ -97,7 +97,7 @@ abbrev pub forms : Part → List Form
 forms Nmos = nmos_forms
 forms Cmos = nmos_forms ++ added_forms
 
--- some documented instruction has this opcode
+-- IsDocumented part op holds if a documented instruction has the opcode op.
 unfoldable pub IsDocumented : Part → ℕ → Type 0
 IsDocumented part op = Any (λ f. f.opcode ≡ op) (forms part)
 
@@ -109,6 +109,6 @@ form_at fs op = find (λ f. f.opcode == op) fs
 abbrev pub forms_of : Part → Mnemonic → List Form
 forms_of part name = filter (λ f. same_mnemonic f.mnemonic name) (forms part)
 
--- the opcode of a mnemonic in a mode
+-- the opcode of a mnemonic in a mode, if the part has that form
 unfoldable pub find_form : Part → Mnemonic → Mode → Option ℕ
 find_form part name way = option_map (λ f. f.opcode) (find (λ f. same_mode f.mode way) (forms_of part name))

@@ -1,4 +1,4 @@
--- The names of the mnemonics, and which mnemonics and modes are the same.
+-- The names of the mnemonics, and the equality of mnemonics and of modes.
 use Rattle.std.specs.Prelude.{ℕ, List, [], ◌∷◌, map, Bool, Option, find, codes, nat_eq}
 use Rattle.std.specs.Char.{to_ascii_uppercase}
 use Rattle.std.specs.Cmp.Lexicographic.{pointwise}
@@ -86,13 +86,13 @@ all_mnemonics =
     Nop ∷ Ora ∷ Pha ∷ Php ∷ Phx ∷ Phy ∷ Pla ∷ Plp ∷ Plx ∷ Ply ∷ Rol ∷ Ror ∷ Rti ∷ Rts ∷ Sbc ∷ Sec ∷ Sed ∷
     Sei ∷ Sta ∷ Stx ∷ Sty ∷ Stz ∷ Tax ∷ Tay ∷ Trb ∷ Tsb ∷ Tsx ∷ Txa ∷ Txs ∷ Tya ∷ []
 
--- the tests that `==` makes
+-- the tests of `==`
 abbrev pub same_mnemonic : Mnemonic → Mnemonic → Bool
 same_mnemonic = sameb mnemonics
 
 abbrev pub same_mode : Mode → Mode → Bool
 same_mode = sameb modes
 
--- the mnemonic that has this name, in either case
+-- the mnemonic with a name, in upper or lower case
 unfoldable pub mnemonic_of : List ℕ → Option Mnemonic
 mnemonic_of text = find (λ name. pointwise nat_eq (map to_ascii_uppercase text) (name_of name)) all_mnemonics

@@ -1,5 +1,6 @@
--- The bytes and the cycles of each instruction, and the rows of both tables. The cycles are those that each execution
--- takes: MCS6500 Hardware Manual, summary of single cycle execution, and the 65C02's data sheet.
+-- The bytes and the cycles of each instruction, and the rows of both tables. The cycles are those
+-- that every execution takes: MCS6500 Hardware Manual, summary of single cycle execution, and the
+-- 65C02's data sheet.
 use Rattle.std.specs.Prelude.{◌≡◌, ℕ, ◌<◌, ◌%◌, ◌==◌, ◌||◌, if◌then◌else◌, Option, Some, None, option_map, MatchOption}
 use Rattle.op_table.specs.declared.names.Part.{Part}
 use Rattle.op_table.specs.declared.names.Part.TheVariants.{Nmos, Cmos}
@@ -11,7 +12,7 @@ use Rattle.op_table.specs.declared.names.Mode.TheVariants.{Imp, Acc, Imm, Zp, Zp
 use Rattle.op_table.specs.declared.rows.Row.{Row}
 use Rattle.op_table.specs.Forms.{Form, forms, form_at}
 
--- the opcode and its operand
+-- the number of bytes of the opcode and its operand
 abbrev pub bytes_of : Mode → ℕ
 bytes_of Imp = 1
 bytes_of Acc = 1
@@ -30,7 +31,7 @@ bytes_of Ind = 3
 bytes_of IndAbsX = 3
 bytes_of Spare = 2
 
--- what an instruction does with its operand
+-- the use of an operand by an instruction
 pub data Use : Type 0 where
   Reads : Use
   Stores : Use
@@ -40,7 +41,7 @@ pub data Use : Type 0 where
   Pulls : Use
   Branches : Use
 
--- an instruction without an operand counts as one that reads
+-- An instruction without an operand counts as one that reads.
 abbrev pub use_of : Mnemonic → Use
 use_of Sta = Stores
 use_of Stx = Stores
@@ -72,7 +73,7 @@ use_of Bvc = Branches
 use_of Bvs = Branches
 use_of _ = Reads
 
--- the last case is that of implied, accumulator and immediate
+-- The last case is implied, accumulator and immediate mode.
 abbrev pub read_cycles : Mode → ℕ
 read_cycles Zp = 3
 read_cycles ZpX = 4
@@ -85,14 +86,15 @@ read_cycles IndY = 5
 read_cycles IndZp = 5
 read_cycles _ = 2
 
--- a store has no cycle to save where no page is crossed
+-- An indexed store takes the same number of cycles with and without a page crossing.
 abbrev pub store_cycles : Mode → ℕ
 store_cycles AbsX = 5
 store_cycles AbsY = 5
 store_cycles IndY = 6
 store_cycles way = read_cycles way
 
--- a modified operand is read, and then taken twice more
+-- A modify instruction takes two cycles more than a read, and AbsX always has that of a page
+-- crossing.
 abbrev pub modify_cycles : Mode → ℕ
 modify_cycles Zp = 5
 modify_cycles ZpX = 6
@@ -100,12 +102,12 @@ modify_cycles Abs = 6
 modify_cycles AbsX = 7
 modify_cycles _ = 2
 
--- the 65C02 shifts at an indexed address in one cycle less, if no page is crossed
+-- On the 65C02 an indexed shift takes one cycle less if no page is crossed.
 abbrev pub shift_cycles : Part → Mode → ℕ
 shift_cycles Cmos AbsX = 6
 shift_cycles _ way = modify_cycles way
 
--- an indirect jump takes the 65C02 one cycle more
+-- On the 65C02 an indirect jump takes one cycle more.
 abbrev pub jump_cycles : Part → Mode → ℕ
 jump_cycles _ Abs = 3
 jump_cycles Nmos _ = 5
@@ -120,7 +122,7 @@ cycles_by _ Pushes _ = 3
 cycles_by _ Pulls _ = 4
 cycles_by _ Branches _ = 2
 
--- one for the opcode and one for each further access that is always made
+-- one cycle for the opcode and one for each further access that is always made
 abbrev pub cycles_of : Part → Mnemonic → Mode → ℕ
 cycles_of _ Brk _ = 7
 cycles_of _ Jsr _ = 6
@@ -130,7 +132,8 @@ cycles_of _ Bra _ = 3
 cycles_of part Jmp way = jump_cycles part way
 cycles_of part name way = cycles_by part (use_of name) way
 
--- the bytes and the cycles of an opcode of the 65C02 that does nothing: first those whose low digit is 3, 7, B or F
+-- the bytes and the cycles of an opcode of the 65C02 that does nothing; the first test is for a low
+-- digit of 3, 7, B or F
 abbrev pub spare : ℕ → ℕ × ℕ
 spare op =
     if op % 4 == 3 then (1, 1) else
@@ -148,7 +151,7 @@ row_of part f = record {
   cycles = cycles_of part f.mnemonic f.mode;
 }
 
--- an opcode without a form does nothing
+-- An opcode without a form does nothing.
 abbrev pub row_or_spare : ℕ → Option Form → Row
 row_or_spare op (Some f) = row_of Cmos f
 row_or_spare op None = record { mnemonic = Nop; mode = Spare; bytes = (spare op).0; cycles = (spare op).1 }
@@ -163,12 +166,12 @@ abbrev pub unless_spare : Row → Mode → Option Row
 unless_spare r Spare = None
 unless_spare r _ = Some r
 
--- the row of an opcode that has a documented form
+-- the row of an opcode if it has a documented form
 abbrev pub documented_row : Part → ℕ → Option Row
 documented_row Nmos op = nmos_row op
 documented_row Cmos op = unless_spare (cmos_row op) (cmos_row op).mode
 
--- op is the documented opcode of this mnemonic in this mode
+-- op is the documented opcode of a mnemonic in a mode.
 abbrev pub Names : Part → Mnemonic → Mode → ℕ → Type 0
 Names part name way op =
     (op < 256) × MatchOption (documented_row part op) ⊥ (λ r. (r.mnemonic ≡ name) × (r.mode ≡ way))

@@ -1,7 +1,8 @@
-//! The opcodes of each part, from which every table of them is made: a macro gives each part's listing to the macro that it is handed. An
-//! entry is a mnemonic, its mode, the bytes and the cycles that the instruction always takes, and how it uses the bus.
+//! The opcodes of each part, from which all tables of opcodes are made. A macro passes the part's
+//! listing to the macro `table`. An entry is a mnemonic, its mode, its bytes, its cycles without
+//! optional ones, and its use of the bus.
 
-/// The opcodes of the NMOS 6502, in order. Where no documented instruction has one, its entry is empty.
+/// The opcodes of the NMOS 6502, in order. The entry of an undocumented opcode is empty.
 /// Source: the MCS6500 Programming Manual.
 #[macro_export]
 macro_rules! nmos_listing {

@@ -14,7 +14,7 @@ pub enum Part {
     Cmos,
 }
 
-/// How an instruction finds its operand.
+/// The place of an instruction's operand.
 #[derive(Clone, Copy, Debug, PartialEq, Eq)]
 pub enum Mode {
     /// Implied: the instruction has no operand.
@@ -60,27 +60,27 @@ pub enum Mnemonic {
     And,
     /// Shift left by one bit.
     Asl,
-    /// Branch where carry is clear.
+    /// Branch if carry is clear.
     Bcc,
-    /// Branch where carry is set.
+    /// Branch if carry is set.
     Bcs,
-    /// Branch where the last result was zero.
+    /// Branch if the last result was zero.
     Beq,
     /// Test the bits of memory with the accumulator.
     Bit,
-    /// Branch where the last result was negative.
+    /// Branch if the last result was negative.
     Bmi,
-    /// Branch where the last result wasn't zero.
+    /// Branch if the last result wasn't zero.
     Bne,
-    /// Branch where the last result wasn't negative.
+    /// Branch if the last result wasn't negative.
     Bpl,
     /// Branch always, on the 65C02.
     Bra,
     /// Break: an interrupt by software.
     Brk,
-    /// Branch where overflow is clear.
+    /// Branch if overflow is clear.
     Bvc,
-    /// Branch where overflow is set.
+    /// Branch if overflow is set.
     Bvs,
     /// Clear carry.
     Clc,
@@ -96,11 +96,11 @@ pub enum Mnemonic {
     Cpx,
     /// Compare memory with Y.
     Cpy,
-    /// Take one from memory, or on the 65C02 from the accumulator.
+    /// Subtract one from memory, or on the 65C02 from the accumulator.
     Dec,
-    /// Take one from X.
+    /// Subtract one from X.
     Dex,
-    /// Take one from Y.
+    /// Subtract one from Y.
     Dey,
     /// Exclusive OR of memory with the accumulator.
     Eor,
@@ -184,7 +184,7 @@ pub enum Mnemonic {
     Tya,
 }
 
-// The names in the order of the declaration, so that a mnemonic finds its own.
+// The names in the order of the declaration of the mnemonics.
 static NAMES: [(Mnemonic, [u8; 3]); 64] = [
     (Mnemonic::Adc, *b"ADC"),
     (Mnemonic::And, *b"AND"),
@@ -253,8 +253,8 @@ static NAMES: [(Mnemonic, [u8; 3]); 64] = [
 ];
 
 impl Mode {
-    /// How many bytes an instruction of this mode takes, its opcode included: 1 to 3. The opcodes of mode `Spare` differ,
-    /// and `cmos` tells how many each takes; here they count as two.
+    /// Returns the number of bytes of an instruction in this mode, its opcode included: 1 to 3. The
+    /// opcodes of mode `Spare` differ, and count as two here; `cmos` has the number of each.
     pub fn length(self) -> u8
         ensures value { result ≡ bytes_of self }
         ensures within { (0 < result) × (result ≤ 3) }
@@ -276,14 +276,15 @@ impl Mode {
 }
 
 impl Mnemonic {
-    /// The three letters of the name, in upper case.
+    /// Returns the three letters of the name, in upper case.
     pub fn name(self) -> [u8; 3]
         ensures { result ≡ name_of self }
     {
         NAMES[self as usize].1
     }
 
-    /// The mnemonic with this name, in either case; None for any other text.
+    /// Returns the mnemonic with the name `text`, in upper or lower case. Returns `None` for any
+    /// other text.
     pub fn of_name(text: &[u8]) -> Option<Mnemonic>
         ensures named { (m : Mnemonic) → (result ≡ Some m) ↔ (map to_ascii_uppercase text.now ≡ name_of m) }
         ensures value { result ≡ mnemonic_of text.now }
@@ -299,7 +300,7 @@ impl Mnemonic {
     }
 }
 
-// The mnemonic with this name in upper case.
+// Returns the mnemonic with the name `upper`, in upper case.
 fn named(upper: [u8; 3]) -> Option<Mnemonic>
     ensures { (m : Mnemonic) → (result ≡ Some m) ↔ (upper ≡ name_of m) }
 {
@@ -311,8 +312,8 @@ fn named(upper: [u8; 3]) -> Option<Mnemonic>
     None
 }
 
-/// A law of the names: a text names a mnemonic by its letters in either case, a name leads back to its mnemonic, and
-/// consists of capital letters.
+/// Proves a law of the names: the letters of a mnemonic, in either case, name it. The name leads
+/// back to the mnemonic and consists of capital letters.
 pub fn names_lead_back()
     ensures read { (text : List ℕ) (m : Mnemonic) → (mnemonic_of text ≡ Some m) ↔ (map to_ascii_uppercase text ≡ name_of m) }
     ensures back { (m : Mnemonic) → mnemonic_of (name_of m) ≡ Some m }

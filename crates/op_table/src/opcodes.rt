@@ -1,4 +1,4 @@
-//! From a mnemonic and a mode to the opcode.
+//! The opcode of a mnemonic in a mode.
 ghost use Rattle.std.specs.Prelude.{◌≡◌, ◌↔◌, ℕ};
 ghost use Rattle.op_table.specs.Forms.{find_form};
 ghost use Rattle.op_table.specs.Rows.{Names};
@@ -19,8 +19,8 @@ macro_rules! opcodes {
     ($($mnemonic:ident [$($op:tt)*])*) => { [$([$(opcode!($op)),*]),*] };
 }
 
-// The opcodes of the 65C02: a line for each mnemonic and a column for each mode, both in the order of their
-// declaration. The NMOS part has the same, without those that the 65C02 added.
+// The opcodes of the 65C02: a line for each mnemonic and a column for each mode, in the order of
+// the declarations. The NMOS part has the same opcodes, without those that the 65C02 added.
 static OPCODES: [[Option<u8>; 16]; 64] = opcodes![
     //    Imp  Acc  Imm   Zp  ZpX  ZpY  Abs AbsX AbsY IndX IndY IndZp Rel  Ind IndAbsX Spare
     Adc [   -    - 0x69 0x65 0x75    - 0x6D 0x7D 0x79 0x61 0x71 0x72    -    -    -    -]
@@ -104,7 +104,8 @@ fn nmos_opcode(mnemonic: Mnemonic, mode: Mode) -> Option<u8>
     }
 }
 
-/// The documented opcode of a mnemonic in a mode; None where the part has no such instruction.
+/// Returns the documented opcode of a mnemonic in a mode. Returns `None` if the part has no such
+/// instruction.
 pub fn find(part: Part, mnemonic: Mnemonic, mode: Mode) -> Option<u8>
     ensures names { (op : ℕ) → (result ≡ Some op) ↔ Names part mnemonic mode op }
     ensures form { result ≡ find_form part mnemonic mode }
@@ -115,7 +116,7 @@ pub fn find(part: Part, mnemonic: Mnemonic, mode: Mode) -> Option<u8>
     }
 }
 
-/// A law of both tables, for all parts: the forms of the opcode matrix and the rows of the opcodes lead to one another.
+/// Proves a law of both parts: the forms of the opcode matrix and the rows of the opcodes agree.
 pub fn forms_and_rows_agree()
     ensures { (part : Part) (name : Mnemonic) (way : Mode) (op : ℕ) → (find_form part name way ≡ Some op) ↔ Names part name way op }
 {}

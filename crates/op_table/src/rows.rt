@@ -1,4 +1,4 @@
-//! What the tables tell of each opcode.
+//! The row of each opcode in the instruction tables.
 ghost use Rattle.std.specs.Prelude.{◌≡◌, ◌↔◌, ◌<◌, ◌≤◌, IsSome, IfSome, option_map};
 ghost use Rattle.op_table.specs.declared.names.Part.TheVariants.{Nmos, Cmos};
 ghost use Rattle.op_table.specs.Forms.{IsDocumented, forms, form_at};
@@ -6,16 +6,16 @@ ghost use Rattle.op_table.specs.Rows.{cmos_row, nmos_row, row_of, documented_row
 
 use crate::names::{Mnemonic, Mode, Part};
 
-/// What a table tells of one opcode.
+/// The entry of the instruction table for one opcode.
 #[derive(Clone, Copy, Debug, PartialEq, Eq)]
 pub struct Row {
     /// The instruction.
     pub mnemonic: Mnemonic,
-    /// How it finds its operand.
+    /// The place of its operand.
     pub mode: Mode,
     /// The bytes of the instruction, its opcode included.
     pub bytes: u8,
-    /// The bus cycles that the instruction always takes: without those of a taken branch, of a crossed page or of
+    /// The bus cycles of every execution: without those of a taken branch, of a crossed page or of
     /// decimal arithmetic.
     pub cycles: u8,
 }
@@ -40,7 +40,7 @@ macro_rules! row_or_none {
     ($($row:tt)+) => { Some(row!($($row)+)) };
 }
 
-// The same where an opcode can have no row.
+// Like `rows`, for a table in which an opcode may have no row.
 macro_rules! rows_or_none {
     ($([$($row:tt)*])*) => { [$(row_or_none!($($row)*)),*] };
 }
@@ -49,7 +49,8 @@ static NMOS: [Option<Row>; 256] = crate::nmos_listing!(rows_or_none);
 
 static CMOS: [Row; 256] = crate::cmos_listing!(rows);
 
-/// The row of an opcode of the NMOS 6502; None where no documented instruction has it.
+/// Returns the row of an opcode of the NMOS 6502. Returns `None` if no documented instruction has
+/// it.
 /// Source: the MCS6500 Programming Manual.
 pub fn nmos(op: u8) -> Option<Row>
     ensures row { result ≡ nmos_row op }
@@ -59,7 +60,8 @@ pub fn nmos(op: u8) -> Option<Row>
     NMOS[op as usize]
 }
 
-/// The row of an opcode of the 65C02. An opcode that does nothing is a `Nop` of mode `Spare`.
+/// Returns the row of an opcode of the 65C02. An opcode that does nothing is a `Nop` of mode
+/// `Spare`.
 /// Source: the W65C02S data sheet, without its instructions for single bits, WAI and STP.
 pub fn cmos(op: u8) -> Row
     ensures row { result ≡ cmos_row op }
@@ -69,8 +71,8 @@ pub fn cmos(op: u8) -> Row
     CMOS[op as usize]
 }
 
-/// The row of an opcode where the part documents it: None for the opcodes of the NMOS 6502 outside its 151, and for those of
-/// the 65C02 that do nothing.
+/// Returns the row of an opcode if the part documents it. Returns `None` for an opcode of the NMOS
+/// 6502 outside its 151, and for one of the 65C02 that does nothing.
 pub fn documented(part: Part, op: u8) -> Option<Row>
     ensures row { result ≡ documented_row part op }
     ensures form { result ≡ option_map (row_of part) (form_at (forms part) op) }

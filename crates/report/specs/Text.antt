@@ -17,7 +17,7 @@ regs_text r =
     ++ codes " S=" ++ hex_digits 2 r.s
     ++ codes " P=" ++ hex_digits 2 (shown_flags r.p)
 
--- a machine's line: its name, its registers and, where it has stopped, how
+-- a machine's line: its name, its registers, and the word stop if it has stopped
 abbrev pub line_text : List ℕ → List ℕ → Option Line → List ℕ
 line_text name stop None = []
 line_text name stop (Some line) = name ++ regs_text line.regs ++ (if line.stopped then stop else []) ++ codes "\n"
@@ -30,7 +30,8 @@ abbrev pub option_text : List ℕ → Option ℕ → List ℕ
 option_text name None = []
 option_text name (Some n) = count_text name n
 
--- n ticks, the lines of the machines that are there, the number of Tube accesses, and the counts that are told
+-- n ticks, the lines of the machines that are present, the number of Tube accesses, and the other
+-- counts if given
 abbrev pub text : ℕ → Option Line → Option Line → ℕ → Option ℕ → Option ℕ → List ℕ
 text n host para tube kept frames =
     count_text (codes "ticks ") n

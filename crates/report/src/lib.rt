@@ -1,4 +1,4 @@
-//! The text of what a run came to.
+//! The text of a run's results.
 #![tactic(auto)]
 
 ghost use Rattle.std.specs.Prelude.{◌≡◌, ◌++◌, IfOk, decimal};
@@ -10,15 +10,15 @@ use cpu_alu::Regs;
 use digits::{four_digits, two_digits};
 use std::alloc::{AllocError, Global};
 
-/// A machine's line: its registers, and whether it has stopped, the host by an opcode that halts it, the second processor by the Tube's reset
-/// line that holds it.
+/// A machine's line: its registers, and true if it has stopped. An opcode can halt the host; the
+/// Tube's reset line can hold the second processor.
 #[derive(Clone, Copy, Debug, PartialEq, Eq)]
 pub struct Line {
     pub regs: Regs,
     pub stopped: bool,
 }
 
-// Appends a byte in two digits behind its name.
+// Appends a name and a byte in two digits.
 fn push_byte(text: &mut Vec<u8>, name: &[u8], n: u8) -> Result<(), AllocError>
     ensures { IfOk result (λ _. text.new.items ≡ text.old.items ++ (name.now ++ hex_digits 2 n)) }
 {
@@ -26,7 +26,7 @@ fn push_byte(text: &mut Vec<u8>, name: &[u8], n: u8) -> Result<(), AllocError>
     text.extend_from_slice(&two_digits(n))
 }
 
-// Appends a word in four digits behind its name.
+// Appends a name and a word in four digits.
 fn push_word(text: &mut Vec<u8>, name: &[u8], n: u16) -> Result<(), AllocError>
     ensures { IfOk result (λ _. text.new.items ≡ text.old.items ++ (name.now ++ hex_digits 4 n)) }
 {
@@ -89,11 +89,12 @@ fn push_option(
     }
 }
 
-/// The report of `n` ticks: a line for each machine that is there, the number of its Tube accesses, how many of them are kept, and how many
-/// frames were taken. What is none is left out. P is told with bit 5 set and bit 4 clear.
+/// Returns the report of `n` ticks: a line for each machine that is present, the number of Tube
+/// accesses, the number of accesses kept, and the number of frames taken. An absent machine or
+/// count has no line. P has bit 5 set and bit 4 clear.
 ///
 /// # Errors
-/// Memory for the text can be wanting.
+/// Returns an error if there is no memory for the text.
 pub fn text(
     alloc: Global,
     n: Tick,

@@ -1,4 +1,4 @@
--- `after` picks the state behind the turn.
+-- `after` picks the state after the turn.
 use Rattle.std.proofs.Common.{[], ◌∷◌, refl}
 use Rattle.std.proofs.raw_atomic.Walks.{proved}
 use mir.Syntax.{named}
