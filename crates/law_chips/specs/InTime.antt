@@ -24,8 +24,7 @@ abbrev pub settle_time : ℕ → ℕ
 settle_time v = if bit v 2 then 30000 else 0
 
 -- A command is written while none is in progress. The program waits while the head settles, and
--- then until the step at which the sector begins whose number is in the sector register. The track
--- has this sector.
+-- then until the sector begins whose number is in the sector register. The track has this sector.
 pub record IsFound (s : State) (v : ℕ) (settles waits : List Event) : Type 0 where
   pub idle : s.command ≡ Idle
   pub live : is_reset s.latch ≡ false
@@ -35,7 +34,7 @@ pub record IsFound (s : State) (v : ℕ) (settles waits : List Event) : Type 0 w
   pub wait : AllWait waits
   pub waited : count_steps waits ≡ steps_to (sector_angle s.sector) (history settles (write_leaves 0 v s))
 
--- the state in which the sector begins
+-- the state after the step that begins the sector
 abbrev pub found_after : ℕ → List Event → List Event → State → State
 found_after v settles waits s = history waits (history settles (write_leaves 0 v s))
 

@@ -40,7 +40,7 @@ abbrev pub is_in_time : Bool → ℕ → ℕ → Bool
 is_in_time false i place = place == 31 + i
 is_in_time true i place = if i == 0 then nat_le 12 place && nat_lt place 22 else place == 29 + i
 
--- the place at which that time is over
+-- the place that ends this time
 abbrev pub time_over : Bool → ℕ → ℕ
 time_over false i = 32 + i
 time_over true i = if i == 0 then 22 else 30 + i

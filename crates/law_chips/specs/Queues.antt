@@ -23,7 +23,7 @@ reader Para = Host
 abbrev pub queue : Side → ℕ → State → Register
 queue from k c = register k (outgoing_bank from c)
 
--- the address at which the byte of register `k` is read and written
+-- the address of the byte of register `k`
 abbrev pub byte_number : ℕ → ℕ
 byte_number k = 2 * k - 1
 
@@ -167,7 +167,7 @@ pub record IsForOne (from : Side) (k : ℕ) (c : State) : Type 0 where
 pub record RegistersHold : Type 0 where
   -- register 1 to the host: 24 bytes
   pub fifo : (c : State) → HasRoom Para 1 24 c
-  -- register 3: two bytes each way if V is set, otherwise one
+  -- register 3: two bytes in each direction if V is set, otherwise one
   pub pair : (from : Side) (c : State) → c.flags.v ≡ true → HasRoom from 3 2 c
   pub single : (from : Side) (c : State) → c.flags.v ≡ false → IsForOne from 3 c
   -- every other register: one byte

@@ -27,11 +27,12 @@ AllWait (e ∷ events) = Waits e × AllWait events
 abbrev pub steps_to : ℕ → State → ℕ
 steps_to angle s = (angle + 200000 - next_angle s.angle) % 200000 + 1
 
--- the angle at which sector `k` begins
+-- the angle of the beginning of sector `k`
 abbrev pub sector_angle : ℕ → ℕ
 sector_angle k = 64 * (312 * k)
 
--- There is a sector for the search: it is on the disc, single density is selected, and the track register is the head's track.
+-- There is a sector for the search: it is on the disc, single density is selected, and the track
+-- register is the head's track.
 abbrev pub has_match : Transfer → State → Bool
 has_match t s = is_single_density s.latch && ((t.target.head == s.track) && is_on_disc (disc_in t.target.drive s) t.target s.sector)
 
@@ -39,9 +40,9 @@ has_match t s = is_single_density s.latch && ((t.target.head == s.track) && is_o
 abbrev pub ComesNot : Transfer → ℕ → State → Type 0
 ComesNot t left s = (has_match t s ≡ false) ⊎ (left < steps_to (sector_angle s.sector) s)
 
--- A search whose sector begins in the time that is left ends at the step at which it begins, and
--- not before. The disc, lost data and the sector register stay as they are. Any other search ends
--- when its time is over, with record not found, and with INTRQ until the status is read.
+-- If its sector begins in the time that is left, the search ends at this step, and not before. The
+-- disc, lost data and the sector register stay as they are. Any other search ends when its time is
+-- over, with record not found, and with INTRQ until the status is read.
 pub record SearchEnds : Type 0 where
   pub goes_on : (s : State) (t : Transfer) (left : ℕ) (events : List Event) →
       s.command ≡ Searching t left → steps_to (sector_angle s.sector) s ≤ left → has_match t s ≡ true → AllWait events →

@@ -73,7 +73,7 @@ NoneClears f [] c = ⊤
 NoneClears f (m ∷ moves) c = (is_cleared f m c ≡ false) × NoneClears f moves (after_move m c)
 
 -- An access clears those flags, and leaves each other as it was: it sets none. No microsecond
--- clears a flag. A set flag stays set through each list of moves of which none clears it. The shift
+-- clears a flag. A set flag stays set through each list of moves that does not clear it. The shift
 -- register never shifts, and sets no flag.
 pub record FlagsAreCleared : Type 0 where
   pub by_read : (f : Flag) (reg : ℕ) (c : State) → is_set f (read_leaves reg c).flags ≡ (is_set f c.flags && not (is_cleared f (read reg) c))
@@ -85,9 +85,9 @@ pub record FlagsAreCleared : Type 0 where
 abbrev pub some_enabled : State → Bool
 some_enabled c = list_any (λ f. is_set f c.flags && is_set f c.enabled) all_flags
 
--- IFR shows each flag in its bit. Its bit 7 and the interrupt line show whether an enabled flag is
--- set. IER shows the enabled flags, with bit 7 set. A write to IER sets or clears, by its bit 7,
--- the flags whose bits are set in the byte, and leaves the others.
+-- IFR shows each flag in its bit. Its bit 7 is set, and the interrupt line asserted, if an enabled
+-- flag is set. IER shows the enabled flags, with bit 7 set. A write to IER sets or clears, by its
+-- bit 7, the flags whose bits are set in the byte, and leaves the others.
 pub record FlagsAreShown : Type 0 where
   pub flag : (f : Flag) (pins : Pins) (c : State) → bit (answer_of 13 pins c) (bit_of f) ≡ is_set f c.flags
   pub top : (pins : Pins) (c : State) → bit (answer_of 13 pins c) 7 ≡ some_enabled c

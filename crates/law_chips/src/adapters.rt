@@ -13,18 +13,18 @@ pub fn active_edges_set_flags()
     ensures cb2 { Cb2Sees }
 {}
 
-/// Each run from power-on leaves bytes in the low latches of a 6522's timers, whatever a program
-/// writes. The laws of the timers need this.
+/// Each run from power-on leaves bytes in the low latches of a 6522's timers. The laws of the
+/// timers need this.
 pub fn latches_are_bytes()
     ensures { LatchesAreBytes }
 {}
 
-/// An IFR flag is cleared by the accesses that the data sheet names for it, and by nothing else.
+/// An IFR flag is cleared by the accesses that the data sheet names for it, and by no others.
 pub fn flags_are_cleared()
     ensures { FlagsAreCleared }
 {}
 
-/// IFR shows the flags, and in bit 7 whether an enabled flag is set. IER shows the enabled flags.
+/// IFR shows the flags. Its bit 7 is set if an enabled flag is set. IER shows the enabled flags.
 pub fn flags_are_shown()
     ensures { FlagsAreShown }
 {}

@@ -10,7 +10,7 @@ ghost use Rattle.law_chips.specs.Interrupts.{InterruptsAreForced};
 ghost use Rattle.law_chips.specs.AddressReads.{AddressIsRead};
 ghost use Rattle.law_chips.specs.SeveralSectors.{SectorsFollow, SectorsAreWritten};
 
-/// A search for a sector ends at the step at which the sector begins, or when its time is over.
+/// A search for a sector ends at the sector's beginning, or when its time is over.
 pub fn a_search_ends_in_time()
     ensures { SearchEnds }
 {}

@@ -6,8 +6,8 @@ ghost use Rattle.law_chips.specs.ShownBytes.{MicrosecondsAreClocks};
 ghost use Rattle.law_chips.specs.TeletextCells.{CellsShowTheirCodes};
 ghost use Rattle.law_chips.specs.TeletextFrames.{FramesShowTheirCells, RestOfPageIsBlack, LowerRowsFollow};
 
-/// Each run from power-on leaves the registers of a 6845 within their bits, whatever a program
-/// writes. The laws over whole frames need this. It holds of a raster's 6845 too.
+/// Each run from power-on leaves the registers of a 6845 within their bits, and those of a raster's
+/// 6845 too. The laws over whole frames need this.
 pub fn registers_have_their_bits()
     ensures chip { RegistersHaveTheirBits }
     ensures raster { RastersHaveTheirBits }

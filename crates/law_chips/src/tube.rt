@@ -1,8 +1,8 @@
 //! The Tube.
 ghost use Rattle.law_chips.specs.Queues.{RegistersAreQueues, NothingIsLost, FifoLosesNothing, RegistersHold};
 
-/// Each register of the Tube is a queue in each direction: bytes leave it in the order in which
-/// they entered.
+/// Each register of the Tube is a queue in each direction: bytes leave it in the order they
+/// entered.
 pub fn registers_are_queues()
     ensures all { RegistersAreQueues }
     ensures nothing_lost { NothingIsLost }
