@@ -1,4 +1,4 @@
--- Memory that is plain all over, as whole instructions reach it.
+-- Memory that is plain at each address, as whole instructions access it.
 use Rattle.std.specs.Prelude.{◌≡◌, ℕ, zero, suc, List, [], ◌∷◌, true, slice_index, slice_set, refl}
 use Rattle.std.proofs.Common.{ap}
 use Rattle.cpu_whole.specs.Whole.{Reach, IsPlain}
@@ -11,7 +11,7 @@ ram = record {
   put = λ m t n at byte. slice_set m at byte;
 }
 
--- the last byte that was written at a place stands there
+-- The last byte written at an address is stored there.
 pub set_again : (m : List ℕ) (at a b : ℕ) → slice_set (slice_set m at a) at b ≡ slice_set m at b
 set_again [] at a b = refl
 set_again (x ∷ xs) zero a b = refl

@@ -1,4 +1,5 @@
-//! Cases for the crates of the processors, the assembler and what stands beside them: source texts, arithmetic, tables of instructions, files.
+//! Cases for the crates of the processors, the assembler and related tools: source texts,
+//! arithmetic, instruction tables, files.
 #![tactic(auto)]
 
 #[cfg(test)]

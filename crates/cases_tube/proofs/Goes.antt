@@ -1,4 +1,4 @@
--- A party that leaves off earlier than it might.
+-- A party that stops earlier than it must.
 use Rattle.std.proofs.Common.{ℕ, ◌≡◌, ◌≤◌, Some, refl}
 use Rattle.beeb_bits.specs.declared.Tick.{Tick}
 use Rattle.tube_chip.specs.declared.Answer.TheVariants.{Byte}
@@ -9,13 +9,13 @@ use Rattle.tube_party.specs.declared.party.Ask.TheVariants.{Access}
 use Rattle.tube_party.specs.Moves.{Moves, Talks, Sees, Hears, GoesHearing, shown_lines}
 use Rattle.tube_party.specs.Steps.{looks_wider, talks_on, talks_past_access}
 
--- one that leaves off at no sure look
+-- one that does not stop at a safe look
 pub goes_heard : {S D : Type 0} {m : Moves S} {answers : D → ℕ → Op → ℕ → D → Type 0} {n sure : ℕ} {lines : Lines} {s new : S} {d e : D} {ask : Ask}
     → Hears m answers n (shown_lines lines sure) s d ask new e → GoesHearing m answers n (shown_lines lines sure) s d ask new e
 goes_heard h = record { accesses = h.accesses; last = h.last; talks = h.talks; asked = h.asked }
 
 module _ {S D : Type 0} (m : Moves S) (answers : D → ℕ → Op → ℕ → D → Type 0) (n : ℕ) (lines : Lines) (near sure : ℕ) where
-  -- after some accesses it went on as far as its notes reach, and leaves off
+  -- after some accesses it advanced to the end of its notes, and stops
   pub goes_there : (old cur new : S) (d f : D) (ask : Ask) → (j : ℕ) × Talks m answers n (shown_lines lines sure) j old d cur f → Sees m n (shown_lines lines near) cur ask new
       → near ≤ sure → GoesHearing m answers n (shown_lines lines sure) old d ask new f
   goes_there old cur new d f ask so_far sees low =
@@ -23,7 +23,7 @@ module _ {S D : Type 0} (m : Moves S) (answers : D → ℕ → Op → ℕ → D 
       let all = talks_on m answers n lines sure so_far.0 0 old cur sees.last d f f so_far.1 (refl, (sees.steps, far)) in
       record { accesses = all.0; last = sees.last; talks = all.1; asked = sees.asked }
 
-  -- or came to one more access, which the desk answered
+  -- or reached one more access, which the port answered
   pub goes_one_more : (old cur at new : S) (d f e : D) (t : Tick) (op : Op) (byte : ℕ) → (j : ℕ) × Talks m answers n (shown_lines lines sure) j old d cur f
       → Sees m n (shown_lines lines near) cur (Access t op) at → near ≤ sure → answers f t.0 op byte e → new ≡ m.next at (Some (Byte byte)) →
       (j : ℕ) × Talks m answers n (shown_lines lines sure) j old d new e

@@ -1,10 +1,11 @@
--- A side's pass as a test holds it.
+-- A side's pass in a test.
 use Rattle.std.specs.Prelude.{ℕ, ◌≡◌, ◌≤◌, ◌++◌, Bool, IsTrue, []}
 use Rattle.atomic_table.specs.Seated.{TableId}
 use Rattle.tube_cell.specs.Views.{word_of, past_last}
 use Rattle.tube_cell.specs.Passes.{Carried}
 
--- It is of this cell, has nothing on trust, its word and its events are no further than a tick, and where it is said to be bare, it has nothing unpublished.
+-- The pass is of this cell, and has nothing speculative. Its word and its events are at most at
+-- tick `at`. If `is_bare` holds, it has nothing unpublished.
 pub record IsFit (cell : TableId) (p : Carried) (at : ℕ) (is_bare : Bool) : Type 0 where
   pub cell_is : p.cell ≡ cell
   pub none_trusted : p.trusted ≡ []

@@ -1,14 +1,15 @@
--- What contracts see of a party that does an access every six ticks.
+-- The state, in contracts, of a party that does an access every six ticks.
 use Rattle.std.specs.Prelude.{ℕ}
 
 pub record Station : Type 0 where
   pub due : ℕ
-  -- how far it is closed, in ticks before the next step
+  -- the ticks from its closed part to the next step
   pub lag : ℕ
 
--- What contracts see of a party that reads a status register every two ticks, behind so many looks.
+-- The state, in contracts, of a party that reads a status register every two ticks, after `looks`
+-- looks.
 pub record Polling : Type 0 where
   pub due : ℕ
-  -- how far it is closed, in ticks before the next step
+  -- the ticks from its closed part to the next step
   pub lag : ℕ
   pub looks : ℕ

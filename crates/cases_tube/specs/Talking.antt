@@ -1,4 +1,4 @@
--- What the talkers of the tests ask, and what they hear.
+-- The questions of the tests' talkers, and what they hear.
 use Rattle.std.specs.Prelude.{ℕ, zero, suc, ◌+◌, ◌*◌, ◌%◌, Bool, true, false, not, Option, None, Some}
 use Rattle.std.proofs.Common.{arith}
 use Rattle.beeb_bits.specs.declared.Side.{Side}
@@ -10,7 +10,8 @@ use Rattle.beeb_bits.specs.Bits.{weight}
 use Rattle.tube_chip.specs.Act.{Query, access, look}
 use Rattle.tube_party.specs.Moves.{MayAsk}
 
--- a look, as long as looks are left, or an access to the register that what it heard picks: one that polls reads a status register
+-- A look, as long as looks are left, or an access. What the talker heard picks the register. A
+-- talker that polls reads a status register.
 abbrev pub asks : ℕ → Bool → Bool → ℕ → Query
 asks (suc looks) polls writes heard = look
 asks zero true writes heard = access (Read (heard % 4 * 2))
@@ -23,12 +24,12 @@ may_ask zero true writes heard side = omega arith
 may_ask zero false true heard side = omega arith
 may_ask zero false false heard side = omega arith
 
--- how many looks are left after that
+-- the number of looks that are left after a step
 abbrev pub looks_after : ℕ → ℕ → ℕ
 looks_after (suc looks) rest = looks
 looks_after zero rest = rest
 
--- accesses write and read in turn
+-- Accesses write and read in turn.
 abbrev pub writes_after : ℕ → Bool → Bool
 writes_after (suc looks) writes = writes
 writes_after zero writes = not writes
@@ -41,6 +42,6 @@ heard_of None = 0
 heard_of (Some (Byte b)) = b
 heard_of (Some (Seen l)) = heard_lines l
 
--- what was heard so far, and this answer
+-- everything heard, and this answer
 abbrev pub heard_after : ℕ → Option Answer → ℕ
 heard_after heard a = (((heard * 5) % 256 + heard_of a) % 256 + 1) % 256

@@ -1,4 +1,5 @@
--- Counts add up: the starts to those that a listing without a filter chooses, and the ticks to the time from the first of them to the end.
+-- Counts add up: the starts to those that a listing without a filter chooses, and the ticks to the
+-- time from the first of these starts to the end.
 use Rattle.std.specs.Prelude.{ℕ, zero, suc, ◌≡◌, ◌+◌, ◌-◌, ◌≤◌, ◌<◌, true, List, [], ◌∷◌, length, All, None, ⊤}
 use Rattle.beeb_bits.specs.declared.Side.{Side}
 use Rattle.tube_trace.specs.declared.Entry.{Entry}
@@ -17,11 +18,11 @@ sum_from (suc k) pc f = f pc + sum_from k (pc + 1) f
 unfoldable pub sum_of_all : (ℕ → ℕ) → ℕ
 sum_of_all f = sum_from 65536 0 f
 
--- PC is an address
+-- The program counter is an address.
 abbrev pub IsPlaced : StartState → Type 0
 IsPlaced s = s.regs.pc < 65536
 
--- all starts from a tick on are listed, and counted
+-- lists and counts all starts from tick `from` on
 abbrev pub all_from : ℕ → Choice
 all_from from = record { from = from; at = None; points = None; watch = None; counts = true }
 
@@ -29,7 +30,8 @@ pub record AddUp (n : ℕ) (starts : List StartState) : Type 0 where
   pub starts_are : sum_of_all (λ pc. (count_at n pc starts).starts) ≡ length starts
   pub ticks_are : sum_of_all (λ pc. (count_at n pc starts).ticks) ≡ n - tick_or n starts
 
--- A run counts the starts that a listing without a filter chooses, and the counts of all addresses add up.
+-- A run counts the starts that a listing without a filter chooses, and the counts of all addresses
+-- add up.
 pub record CountsAddUp {S : Type 0} (m : Moves S) (sights : S → Sight) : Type 0 where
   pub same : (side : Side) (trace : List Entry) (n from : ℕ) (s : S) →
       counted_of (all_from from) (starts_of m sights None (run_of m side trace n s)) ≡ chosen_of (all_from from) (starts_of m sights None (run_of m side trace n s))

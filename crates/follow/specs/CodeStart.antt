@@ -1,4 +1,4 @@
--- What is noted of a start.
+-- The code's start as a `StartState`.
 use Rattle.std.specs.Prelude.{ℕ, List, []}
 use Rattle.follow.specs.declared.start.Start.{Start}
 use Rattle.follow.specs.Start.{StartState, front}

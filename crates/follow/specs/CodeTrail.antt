@@ -1,4 +1,4 @@
--- How the logic stores what is told of starts.
+-- How the logic stores lists of starts.
 use Rattle.std.specs.Prelude.{ℕ, List, Option, refl}
 use Rattle.std.specs.Coded.{Coded, code_by, coded×, coded_ℕ, coded_list, coded_option}
 use Rattle.cpu_alu.specs.declared.Regs.{Regs}

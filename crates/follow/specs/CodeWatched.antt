@@ -1,4 +1,4 @@
--- A party that keeps the chosen ones of the starts from which it did a step.
+-- A party that keeps the chosen starts among those from which it did a step.
 use Rattle.std.specs.Prelude.{ℕ, ◌≡◌, Bool, Option, None, Some, if◌then◌else◌, refl}
 use Rattle.std.proofs.Common.{ap}
 use Rattle.op_table.specs.declared.names.Part.{Part}
@@ -8,7 +8,7 @@ use Rattle.follow.specs.Sight.{Sight, IsSameSight, IsSeen}
 use Rattle.follow.specs.CodeNotes.{Kept, keep}
 use Rattle.follow.specs.Start.{StartState, watched_byte, start_at, start_of}
 
--- what is listed of a machine of this part
+-- the processor's part, and the starts that are listed
 pub record Order : Type 0 where
   pub part : Part
   pub choice : Choice
@@ -16,7 +16,7 @@ pub record Order : Type 0 where
 abbrev pub order : Part → Choice → Order
 order part choice = record { part = part; choice = choice }
 
--- A party, what is to be listed of it, and what is kept of the starts from which it did a step.
+-- A party, the starts that are to be listed, and the notes of the starts from which it did a step.
 pub record Watched (S : Type 0) : Type 0 where
   pub now : S
   pub order : Order
@@ -29,7 +29,7 @@ abbrev pub keep_if : Bool → Choice → Kept → StartState → Kept
 keep_if is choice k x = if is then keep choice k x else k
 
 module _ {S : Type 0} (m : Moves S) (sights : S → Sight) where
-  -- what is kept, with this state if it is a start
+  -- the notes, with this state if it starts an instruction
   abbrev pub noted : S → Choice → Kept → Kept
   noted s choice kept = keep_if (sights s).starting choice kept (start_of m sights choice.watch s)
 
@@ -50,7 +50,7 @@ module _ {S : Type 0} (m : Moves S) (sights : S → Sight) where
   start_same : (tick : ℕ) (watch : Option ℕ) (a b : Sight) → IsSameSight a b → start_at tick watch a ≡ start_at tick watch b
   start_same tick watch a b same = simp (same.regs, same.peek, watched_same watch a.peek b.peek same.peek)
 
-  -- closing the party changes nothing of what is noted
+  -- Closing the party leaves the notes as they are.
   noted_closed : (s : S) (choice : Choice) (kept : Kept) (t : ℕ) → IsSameSight (sights (m.close s t)) (sights s) → m.due (m.close s t) ≡ m.due s →
       noted (m.close s t) choice kept ≡ noted s choice kept
   noted_closed s choice kept t same due =

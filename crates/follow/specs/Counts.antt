@@ -1,4 +1,4 @@
--- What is counted of the starts of each address, and its text. (This project's own format.)
+-- The counts of each address, and their text. (This project's own format.)
 use Rattle.std.specs.Prelude.{ℕ, zero, suc, ◌+◌, ◌-◌, ◌==◌, ◌&&◌, nat_le, nat_lt, List, [], ◌∷◌, ◌++◌}
 use Rattle.std.specs.Prelude.{length, filter, Bool, true, false, Option, None, Some, if◌then◌else◌, codes}
 use Rattle.std.specs.Fmt.{decimal}
@@ -11,7 +11,7 @@ use Rattle.follow.specs.declared.count.Count.{Count}
 use Rattle.follow.specs.declared.choice.Choice.{Choice}
 use Rattle.follow.specs.Start.{StartState}
 
--- ---- The starts that are counted: those at tick `from` or later, chosen or not, if it is asked for
+-- ---- The counted starts: if counts are requested, all at tick `from` or later, chosen or not
 
 abbrev pub is_counted : Choice → ℕ → Bool
 is_counted choice tick = choice.counts && nat_le choice.from tick
@@ -21,7 +21,7 @@ counted_of choice starts = filter (λ s. is_counted choice s.tick) starts
 
 -- ---- Conditional branches
 
--- the branch of an opcode, if it has a condition
+-- the branch of a conditional branch's opcode
 abbrev pub branch_of : ℕ → Option Mnemonic
 branch_of opcode =
     if opcode == 16 then Some Bpl
@@ -34,12 +34,13 @@ branch_of opcode =
     else if opcode == 240 then Some Beq
     else None
 
--- whether the condition of a branch holds by P, if it is one
+-- the condition of a branch, by the flags in P
 abbrev pub condition_of : Option Mnemonic → Regs → Option Bool
 condition_of None regs = None
 condition_of (Some branch) regs = Some (takes_branch branch regs)
 
--- the same of the instruction whose bytes stand at PC; it is none where no byte stands there
+-- the condition of the branch among the bytes at the program counter, or none if there is no branch
+-- or no byte
 abbrev pub condition_at : List ℕ → Regs → Option Bool
 condition_at [] regs = None
 condition_at (opcode ∷ operand) regs = condition_of (branch_of opcode) regs
@@ -52,26 +53,27 @@ abbrev pub is_taken : Option Bool → Bool
 is_taken None = false
 is_taken (Some holds) = holds
 
--- ---- What is counted at an address, of all starts that are counted
+-- ---- The counts of an address, over all counted starts
 
 abbrev pub is_of : ℕ → StartState → Bool
 is_of pc s = s.regs.pc == pc
 
--- the starts
+-- the starts at address `pc`
 abbrev pub starts_at : ℕ → List StartState → List StartState
 starts_at pc starts = filter (λ s. is_of pc s) starts
 
--- the tick of the first of some starts, or n where there is none
+-- the tick of the first of `starts`, or `n` if there is none
 abbrev pub tick_or : ℕ → List StartState → ℕ
 tick_or n [] = n
 tick_or n (s ∷ starts) = s.tick
 
--- the ticks from each of the starts there to the next of all, for the last of all to n
+-- the sum, over the starts at `pc`, of the ticks to the next start of the run, or to `n` from the
+-- last start
 abbrev pub ticks_at : ℕ → ℕ → List StartState → ℕ
 ticks_at n pc [] = 0
 ticks_at n pc (s ∷ starts) = (if is_of pc s then tick_or n starts - s.tick else 0) + ticks_at n pc starts
 
--- those at which the instruction is a conditional branch, and those whose condition holds
+-- the starts at `pc` whose instruction is a conditional branch, and those whose condition holds
 abbrev pub branches_at : ℕ → List StartState → List StartState
 branches_at pc starts = filter (λ s. is_of pc s && is_branch (condition_at s.code s.regs)) starts
 
@@ -90,7 +92,7 @@ count_at n pc starts = record {
   taken = length (taken_at pc starts);
 }
 
--- ---- The text: a line for each address that has a start, in order
+-- ---- The text: a line for each address that has a start, in ascending order
 
 -- a space and a number
 abbrev pub number_text : ℕ → List ℕ
@@ -104,7 +106,7 @@ count_line pc c =
     if c.starts == 0 then []
     else hex_digits 4 pc ++ number_text c.starts ++ number_text c.ticks ++ taken_text c.branches c.taken ++ codes "\n"
 
--- the lines of k addresses from pc on
+-- the lines of `k` addresses from `pc` on
 abbrev pub count_lines : ℕ → ℕ → (ℕ → Count) → List ℕ
 count_lines zero pc count = []
 count_lines (suc k) pc count = count_line pc (count pc) ++ count_lines k (pc + 1) count
@@ -112,6 +114,6 @@ count_lines (suc k) pc count = count_line pc (count pc) ++ count_lines k (pc + 1
 unfoldable pub counts_text : ℕ → List StartState → List ℕ
 counts_text n starts = count_lines 65536 0 (λ pc. count_at n pc starts)
 
--- what is counted of the starts of a run up to tick n, if it is asked for
+-- the text of the counts of a run up to tick `n`, if counts are requested
 abbrev pub counts_of_counted : Bool → ℕ → List StartState → Option (List ℕ)
 counts_of_counted counts n counted = if counts then Some (counts_text n counted) else None

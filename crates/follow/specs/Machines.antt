@@ -1,4 +1,4 @@
--- What is seen of both machines.
+-- The views of both machines.
 use Rattle.std.specs.Prelude.{ℕ, ◌≡◌, ◌+◌, List, [], ◌∷◌, ◌++◌, Bool, true, false, Option, None, Some, if◌then◌else◌, refl}
 use Rattle.std.proofs.Common.{arith}
 use Rattle.op_table.specs.declared.names.Part.{Part}
@@ -28,7 +28,7 @@ host_sight s = record { starting = starting s.cpu; regs = s.cpu.regs; peek = hos
 abbrev pub para_sight : ParaState → Sight
 para_sight s = record { starting = starting s.cpu; regs = shown_regs s; peek = para.para_peek s }
 
--- ---- An instruction starts behind a look alone.
+-- ---- An instruction starts only after a look.
 
 seen_more : (seen : List (Option ℕ)) (x : Option ℕ) (q : Sequence) → is_start (seen ++ x ∷ []) q ≡ false
 seen_more [] x q = refl
@@ -61,6 +61,6 @@ para_seen_laws = record {
   behind = behind_look Cmos para_wiring;
 }
 
--- a party is what it is
+-- the view of a party by its own state
 pub same_itself : {X S : Type 0} (state : X → S) (m : Moves S) → IsSame state m state m
 same_itself state m = record { to = λ s. s; is = λ x. refl; due = λ s. refl; asks = λ s. refl; next = λ s a. refl; closed = λ s. refl; close = λ s t. refl }

@@ -10,12 +10,13 @@ use Rattle.follow.specs.declared.choice.Choice.{Choice}
 use Rattle.follow.specs.Sight.{Sight}
 use Rattle.follow.specs.Listing.{ListingState, listing_of, starts_of, replay_listing}
 
--- the state, if its step is due at tick k
+-- the state, if its next step is due at tick `k`
 abbrev pub due_at : {S : Type 0} → Moves S → ℕ → S → List S
 due_at m k s = if nat_eq (m.due s) k then s ∷ [] else []
 
 module _ {S T X : Type 0} (h : Moves S) (p : Moves T) (m : Moves X) (state : World S T → X) where
-  -- The states from which a side does its steps, in so many ticks from tick k on.
+  -- The states from which a side does its steps in the `j` ticks from tick `k` on, where `j` is the
+  -- first argument.
   abbrev pub reference_run : ℕ → ℕ → World S T → List X
   reference_run zero k w = []
   reference_run (suc j) k w = due_at m k (state w) ++ reference_run j (k + 1) (tick h p k w)
@@ -24,7 +25,8 @@ module _ {S T X : Type 0} (h : Moves S) (p : Moves T) (m : Moves X) (state : Wor
   abbrev pub reference_listing : (X → Sight) → Part → Choice → S → T → ℕ → ListingState
   reference_listing sights part choice s t n = listing_of part choice n (starts_of m sights choice.watch (reference_run n 0 (start s t)))
 
-  -- Replayed against the accesses of the reference run, the side has that listing.
+  -- Replayed against the accesses of the reference run, the side has the listing of the reference
+  -- run.
   abbrev pub ListingIsReference : Side → (X → Sight) → Type 0
   ListingIsReference side sights =
       (part : Part) (choice : Choice) (s : S) (t : T) (n : ℕ) →

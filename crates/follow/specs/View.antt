@@ -1,4 +1,4 @@
--- What a listing is.
+-- A listing, as contracts see it.
 use Rattle.std.specs.Prelude.{ℕ, List, option_map}
 use Rattle.std.specs.declared.vec.Vec.{Vec}
 use Rattle.std.specs.declared.alloc.Global.{Global}

@@ -1,13 +1,15 @@
-//! Which starts of instructions are listed, and which are counted.
+//! Chooses the starts of instructions that are listed, and those that are counted.
 ghost use Rattle.std.specs.Prelude.{◌≡◌};
 ghost use Rattle.follow.specs.Listing.{is_at, is_in, is_same_byte, has_changed, is_chosen};
 ghost use Rattle.follow.specs.Counts.{is_counted};
 
 use crate::points::Points;
 
-/// Which starts of instructions are listed: those at tick `from` or later for which the rest holds too. If `at` is given, PC is `at`. If `points` are
-/// given, PC is among them. If `watch` is given, the byte at `watch` is not what it was at the start before, listed or not. If `counts` is set, all
-/// starts at tick `from` or later are counted, listed or not.
+/// The starts of instructions that are listed: those at tick `from` or later that meet each
+/// condition that is given. `at`: the program counter is `at`. `points`: the program counter is one
+/// of these addresses. `watch`: the byte at address `watch` differs from its value at the start
+/// before, listed or not. If `counts` is set, all starts at tick `from` or later are counted,
+/// listed or not.
 #[derive(Drop)]
 pub struct Choice {
     pub from: u64,
@@ -62,7 +64,8 @@ fn has_changed(watch: Option<u16>, before: Option<Option<u8>>, now: Option<u8>) 
 }
 
 impl Choice {
-    /// Whether a start at this tick and PC, with this watched byte, is listed, by the byte that was watched at the start before it.
+    /// Returns true if a start at tick `tick` and address `pc`, with watched byte `watched`, is
+    /// listed. `before` is the byte that was watched at the start before.
     #[inline(always)]
     pub(crate) fn chooses(
         &self,
@@ -79,7 +82,7 @@ impl Choice {
             && has_changed(self.watch, before, watched)
     }
 
-    /// Whether a start at this tick is counted.
+    /// Returns true if a start at tick `tick` is counted.
     #[inline(always)]
     pub(crate) fn counts_at(&self, tick: u64) -> bool
         ensures { result ≡ is_counted self.now tick }

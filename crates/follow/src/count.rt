@@ -1,4 +1,4 @@
-//! What is counted of the starts of an address.
+//! The counts of an address: starts, ticks and branches taken.
 ghost use Rattle.std.specs.Prelude.{◌≡◌, ◌++◌, IfOk};
 ghost use Rattle.follow.specs.Counts.{branch_of, condition_at, number_text, taken_text, count_line};
 ghost use Rattle.follow.specs.CodeStart.{code_seen};
@@ -9,20 +9,20 @@ use digits::four_digits;
 use op_table::Mnemonic;
 use std::alloc::{AllocError, Global};
 
-/// What is counted of the starts of an address.
+/// The counts of the starts of one address.
 #[derive(Clone, Copy, Drop)]
 pub struct Count {
-    /// How many they are.
+    /// The number of starts.
     pub starts: u64,
-    /// The ticks from each of them to the next start.
+    /// The sum, over these starts, of the ticks to the next start of the run.
     pub ticks: u64,
-    /// At one of them the instruction is a conditional branch.
+    /// At one of these starts the instruction is a conditional branch.
     pub branches: bool,
-    /// How many of these branches have a condition that holds.
+    /// The number of starts at which a conditional branch has a condition that holds.
     pub taken: u64,
 }
 
-// The branch of an opcode, if it has a condition.
+// Returns the branch of a conditional branch's opcode.
 #[inline(always)]
 fn branch_of(opcode: u8) -> Option<Mnemonic>
     ensures { result ≡ branch_of opcode }
@@ -40,7 +40,8 @@ fn branch_of(opcode: u8) -> Option<Mnemonic>
     }
 }
 
-/// Whether the condition of the branch at a start holds, if there is one.
+/// Returns true if the condition of the branch at `start` holds, or `None` if the instruction is no
+/// conditional branch.
 #[inline(always)]
 pub(crate) fn condition_at(start: &Start) -> Option<bool>
     ensures { result ≡ condition_at (code_seen start.now) (start.now).regs }
@@ -54,7 +55,7 @@ pub(crate) fn condition_at(start: &Start) -> Option<bool>
     }
 }
 
-/// With so many ticks more.
+/// Returns `count` with `ticks` added to its ticks.
 #[inline(always)]
 pub(crate) fn with_ticks(count: Count, ticks: u64) -> Count
     ensures { result ≡ with_ticks count ticks }
@@ -67,7 +68,8 @@ pub(crate) fn with_ticks(count: Count, ticks: u64) -> Count
     }
 }
 
-/// With one start more.
+/// Returns `count` with one more start. `holds` is the condition of the branch there, if there is
+/// one.
 #[inline(always)]
 pub(crate) fn with_start(count: Count, holds: Option<bool>) -> Count
     ensures { result ≡ with_start count holds }
@@ -92,7 +94,7 @@ fn push_number(alloc: Global, text: &mut Vec<u8>, n: u64) -> Result<(), AllocErr
     text.extend_from_slice(digits.as_bytes())
 }
 
-// Appends how many branches have a condition that holds, if there is a branch.
+// Appends a space and the number of branches taken, if there is a branch.
 fn push_taken(
     alloc: Global,
     text: &mut Vec<u8>,
@@ -107,7 +109,7 @@ fn push_taken(
     push_number(alloc, text, taken)
 }
 
-/// Appends the line of an address, if it has a start.
+/// Appends the line of address `pc`, if an instruction starts there.
 #[tactic(auto, unfolding(crate::specs::Counts::count_line))]
 pub(crate) fn push_count(
     alloc: Global,

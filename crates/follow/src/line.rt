@@ -12,7 +12,7 @@ use dis65::disassemble;
 use op_table::Part;
 use std::alloc::{AllocError, Global};
 
-// A text behind its first line.
+// Returns the text after its first line.
 fn behind_line(text: &[u8]) -> &[u8]
     ensures { result.now ≡ behind_line text.now }
 {
@@ -26,7 +26,7 @@ fn behind_line(text: &[u8]) -> &[u8]
     rest
 }
 
-// Appends the first line of another text.
+// Appends the first line of `other`.
 fn push_first_line(text: &mut Vec<u8>, other: &[u8]) -> Result<(), AllocError>
     ensures { IfOk result (λ _. text.new.items ≡ text.old.items ++ first_line other.now) }
 {
@@ -41,7 +41,7 @@ fn push_first_line(text: &mut Vec<u8>, other: &[u8]) -> Result<(), AllocError>
     Ok(())
 }
 
-// Appends the second line of the disassembly of some bytes.
+// Appends the second line of the disassembly of the bytes.
 fn push_decoded(
     alloc: Global,
     text: &mut Vec<u8>,
@@ -79,7 +79,7 @@ fn push_instruction(
     push_decoded(alloc, text, part, &[first, second, third], pc)
 }
 
-// Appends a byte in two digits behind its name.
+// Appends a name and then a byte in two hexadecimal digits.
 fn push_byte(text: &mut Vec<u8>, name: &[u8], n: u8) -> Result<(), AllocError>
     ensures { IfOk result (λ _. text.new.items ≡ text.old.items ++ (name.now ++ hex_digits 2 n)) }
 {
@@ -87,7 +87,7 @@ fn push_byte(text: &mut Vec<u8>, name: &[u8], n: u8) -> Result<(), AllocError>
     text.extend_from_slice(&two_digits(n))
 }
 
-// Appends the registers but PC.
+// Appends all registers but the program counter.
 #[tactic(auto, unfolding(crate::specs::Listing::registers_text))]
 fn push_registers(text: &mut Vec<u8>, regs: Regs) -> Result<(), AllocError>
     ensures { IfOk result (λ _. text.new.items ≡ text.old.items ++ registers_text regs) }
@@ -99,7 +99,8 @@ fn push_registers(text: &mut Vec<u8>, regs: Regs) -> Result<(), AllocError>
     push_byte(text, b" P=", (regs.p & 0xcf) | 0x20)
 }
 
-/// Appends the line of a start: its tick, PC and the other registers, and the text of the instruction.
+/// Appends the line of a start: its tick, the program counter, the other registers and the text of
+/// the instruction.
 #[tactic(auto, unfolding(crate::specs::Listing::start_line))]
 pub(crate) fn push_line(
     alloc: Global,

@@ -17,8 +17,8 @@ use thiserror::Error;
 use tube_party::{Doing, MOST, replay};
 use tube_trace::Entry;
 
-/// A listing: a line for each of the first 1,048,576 chosen starts, how many lines that are, how many starts are chosen, and what is counted of the
-/// starts of each address, if it is asked for.
+/// A listing: a line for each of the first 1,048,576 chosen starts, the number of these lines, the
+/// number of chosen starts and, if `--counts` is given, the counts of each address.
 #[derive(Drop)]
 pub struct Listing {
     pub text: Vec<u8>,
@@ -27,22 +27,24 @@ pub struct Listing {
     pub counts: Option<Vec<u8>>,
 }
 
-/// Why there is no listing.
+/// The reason why there is no listing.
 #[derive(Clone, Copy, Debug, PartialEq, Eq, Error)]
 pub enum FollowError {
-    /// The machine and its side of the trace differ at `line`: that of the side's entry, or one past the trace where it has none. `doing` is what the
-    /// machine does there, if it does something.
+    /// The machine and its side of the trace differ at line `line` of the trace, or one line past
+    /// its end if the side has no further entry. `doing` is the access of the machine there, if it
+    /// does one.
     #[error("the machine differs from line {line} of the trace")]
     Differs { line: u64, doing: Option<Doing> },
     #[error("no memory")]
     NoMemory,
 }
 
-/// The listing of the instructions that a machine starts below tick `n`, in its replay against the entries of its side of a trace. The machine is
-/// dropped.
+/// Lists the instructions that `machine` starts below tick `n` in its replay against the entries of
+/// its side of `trace`. The machine is dropped.
 ///
 /// # Errors
-/// `Differs` exactly where the replay ends at that place; else `NoMemory`, where memory for the text is wanting.
+/// `Differs` exactly if the replay ends at that place; otherwise `NoMemory` if memory for the text
+/// runs out.
 pub fn list<M: Seen>(
     alloc: Global,
     machine: M,

@@ -1,4 +1,4 @@
-//! What is seen of the host and of the second processor.
+//! The views of the host and of the second processor.
 use crate::seen::Seen;
 use beeb_bits::Tick;
 use bus_plug::BusDevice;

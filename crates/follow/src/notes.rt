@@ -1,4 +1,4 @@
-//! What is kept of the starts so far: the lines of those that are chosen, and what is counted of all.
+//! The notes of a replay: the lines of the chosen starts, and the counts of all counted starts.
 ghost use Rattle.std.specs.Prelude.{◌≡◌, ◌+◌, ◌++◌, ◌≤◌, ◌<◌, ◌^◌, [], ◌∷◌, nat_lt, if◌then◌else◌};
 ghost use Rattle.std.specs.Prelude.{false, true, ℕ, length, Option, None, Some, IfSome, IfOk, List, option_map, ◌&&◌, is_none};
 ghost use Rattle.follow.specs.Listing.{start_line};
@@ -24,21 +24,22 @@ use tube_machine::Passing;
 /// The most lines of a listing.
 const MOST_LINES: u64 = 1_048_576;
 
-/// The lines of the chosen starts so far, and how many are chosen.
+/// The lines and the number of the starts chosen until now, and the counts of the starts counted
+/// until now.
 #[derive(Drop)]
 pub(crate) struct Notes {
     alloc: Global,
     pub(crate) part: Part,
     pub(crate) choice: Choice,
     text: Vec<u8>,
-    // Memory for a line was wanting.
+    // Memory for a line or for the counts ran out.
     is_short: bool,
     chosen: u64,
-    // The byte watched at the last start, if there was one.
+    // The byte watched at the last start, if there was a start.
     pub(crate) before: Option<Option<u8>>,
     // The chosen starts.
     pub(crate) trail: Trail,
-    // What is counted, if it is asked for and memory was not short.
+    // The counts, if `--counts` is given and there was memory for them.
     tally: Option<Tally>,
     // The counted starts.
     pub(crate) counted: Trail,
@@ -46,7 +47,7 @@ pub(crate) struct Notes {
     ghost tallied: { is_short ≡ false → IsTallied choice.counts tally counted.starts } by { Prim.hlevel props },
 }
 
-// A table for what is counted, if it is asked for and there is memory.
+// Returns an empty table of counts, or `None` if `counts` is not set or memory runs out.
 fn tally_if(alloc: Global, counts: bool) -> Option<Tally>
     ensures { IfSome result (λ t. tally_seen t ≡ none_tallied) }
 {
@@ -59,14 +60,15 @@ fn tally_if(alloc: Global, counts: bool) -> Option<Tally>
     }
 }
 
-// A table is asked for, and there was no memory for it.
+// Returns true if counts are requested and there was no memory for their table.
 fn is_wanting(counts: bool, tally: &Option<Tally>) -> bool
     ensures { result ≡ (counts && is_none tally.now) }
 {
     counts && tally.is_none()
 }
 
-// The text of what is counted, if it is asked for.
+// Returns the text of the counts at the end of the run at tick `n`, or `None` if `counts` is not
+// set.
 fn text_if(
     alloc: Global,
     counts: bool,
@@ -87,7 +89,8 @@ fn text_if(
     }
 }
 
-// Appends the line of a chosen start, if fewer than the most stand there and memory was not short. Whether it is short.
+// Appends the line of a chosen start if the text has fewer than `MOST_LINES` lines and memory never
+// ran out. Returns true if memory ran out, now or before.
 fn add_line(
     alloc: Global,
     text: &mut Vec<u8>,
@@ -112,7 +115,7 @@ fn add_line(
 impl Notes {
     ghost use Rattle.follow.specs.View.{listing_seen};
 
-    /// No start yet.
+    /// Returns notes without a start.
     pub(crate) fn new(alloc: Global, part: Part, choice: Choice) -> Notes
         ensures part { result.part ≡ part }
         ensures choice { result.choice ≡ choice }
@@ -134,7 +137,7 @@ impl Notes {
         }
     }
 
-    // Counts a start, if it is to be counted.
+    // Counts `start` if its tick is one of those that are counted.
     #[inline(always)]
     fn count(&mut self, start: &Start)
         ensures counted { self.new.counted.starts ≡ with_if (is_counted self.old.choice (start.now).tick) self.old.counted.starts (start_seen start.now) }
@@ -152,7 +155,7 @@ impl Notes {
         }
     }
 
-    /// One more start.
+    /// Records `start`.
     pub(crate) fn note(&mut self, start: &Start)
         requires within { (start.now.regs).pc + length (code_seen start.now) ≤ 65536 }
         requires few { length self.old.trail.starts < 2 ^ 60 }
@@ -182,8 +185,9 @@ impl Notes {
         self.chosen += 1;
     }
 
-    /// Starts from tick `now` on that may be passed over: they are neither chosen nor counted, and leave what is kept. None are known before the first start, nor
-    /// where all are chosen or counted.
+    /// Returns starts from tick `now` on that the machine may skip: they are neither chosen nor
+    /// counted, and leave these notes as they are. Returns `None` before the first start, and if
+    /// all starts are chosen or counted.
     #[inline(always)]
     pub(crate) fn passing(&self, now: u64) -> Option<Passing>
         ensures leaves { IfSome result (λ passing. LeavesKept self.now.choice self.now.before passing) }
@@ -207,7 +211,7 @@ impl Notes {
         }
     }
 
-    /// The listing, if memory was not short.
+    /// Returns the listing of the run up to tick `n`, or `None` if memory ran out.
     pub(crate) fn finish(self, n: Tick) -> Option<Listing>
         ensures { IfSome result (λ l. listing_seen l ≡ listing_noted self.part self.choice n.0 self.trail.starts self.counted.starts) }
     {

@@ -8,10 +8,10 @@ use std::alloc::Global;
 use std::marker::Model;
 use thiserror::Error;
 
-/// How many addresses there are.
+/// The number of addresses.
 const ADDRESSES: usize = 65_536;
 
-/// A set of addresses. Contracts see, for each address, whether it is in it.
+/// A set of addresses. Contracts see a Boolean for each of the 65,536 addresses.
 #[derive(Drop)]
 pub struct Points {
     marked: Vec<bool>,
@@ -27,7 +27,7 @@ impl Model for Points {
     ghost invariant = { λ p. length p.marked.items ≡ 65536 };
 }
 
-/// Why a text is no file of addresses. Lines count from 1.
+/// The reason why a text is no file of addresses. Lines count from 1.
 #[derive(Clone, Copy, Debug, PartialEq, Eq, Error)]
 pub enum PointsError {
     #[error("line {line} is outside the form of an address")]
@@ -38,7 +38,7 @@ pub enum PointsError {
     NoMemory,
 }
 
-// The address of a line, or none where the bytes are outside the form.
+// Returns the address of a line, or `None` if the line is outside the form.
 fn point_of(line: &[u8]) -> Option<u16>
     ensures { result ≡ point_of line.now }
 {
@@ -49,7 +49,8 @@ fn point_of(line: &[u8]) -> Option<u16>
     }
 }
 
-// The address of a text's first line, if it is in form, and the text behind it.
+// Splits off the first line of `text`: returns its address and the rest of the text, or `None` if
+// the line is outside the form.
 fn next_point(text: &[u8]) -> Option<(u16, &[u8])>
     requires { 0 < length text.now }
     ensures lines { MatchOption result (BeginsBadly text.now) (λ next. points_of_lines text.now ≡ Some next.0 ∷ points_of_lines next.1.now) }
@@ -61,10 +62,12 @@ fn next_point(text: &[u8]) -> Option<(u16, &[u8])>
 }
 
 impl Points {
-    /// The addresses of a file: four upper-case hexadecimal digits and a line feed for each, rising from line to line.
+    /// Reads a file of addresses: four upper-case hexadecimal digits and a line feed for each,
+    /// rising from line to line.
     ///
     /// # Errors
-    /// The first line that is outside the form, or whose address is not above that of the line before it.
+    /// The first line that is outside the form, or whose address is not above that of the line
+    /// before it.
     pub fn read(alloc: Global, bytes: &[u8]) -> Result<Points, PointsError>
         ensures { (points bytes.now ≡ result) ⊎ (result ≡ Err NoMemory) }
     {
@@ -89,7 +92,7 @@ impl Points {
         Ok(Points { marked })
     }
 
-    /// Whether an address is among them.
+    /// Returns true if the set contains address `at`.
     #[inline(always)]
     pub(crate) fn has(&self, at: u16) -> bool
         ensures { result ≡ slice_index_or self.now at false }

@@ -1,4 +1,4 @@
-//! A party with a processor that can be looked at.
+//! A party whose processor can be inspected.
 ghost use Rattle.std.specs.Prelude.{ℕ, ◌≡◌, ◌≤◌, Bool, true};
 ghost use Rattle.tube_party.specs.Moves.{Moves, IsPermitted, shown_lines};
 ghost use Rattle.tube_machine.specs.Passing.{IsOver, Passes};
@@ -10,33 +10,37 @@ use tube_chip::Lines;
 use tube_machine::Passing;
 use tube_party::{MOST, Party};
 
-/// A party whose processor can be looked at. What is seen is a function of the party's state, and closing it leaves that as it is. The state and
-/// the steps are named once more here, since the members of a trait cannot name the types of the trait that it stands on.
+/// A party whose processor can be inspected. Each view is a function of the party's state, and
+/// closing the party leaves it as it is. The trait names the state and the steps once more, since
+/// its members cannot name the types of its supertrait.
 pub trait Seen: Party {
-    /// What contracts see of it: the party's state.
+    /// The party's state, as contracts see it.
     ghost Inside: { Type 0 };
 
     ghost inside: { Self → Inside };
 
-    /// Its steps: the party's.
+    /// The party's steps.
     ghost steps: { Moves Inside };
 
-    /// What is seen of a state.
+    /// The view of a state.
     ghost sights: { Inside → Sight };
 
-    /// The registers at the start of the instruction, or of the reset or interrupt, to which the next step belongs.
+    /// Returns the registers at the start of the instruction, reset or interrupt to which the next
+    /// step belongs.
     fn regs(&self) -> Regs
         ensures { result ≡ (sights (inside self.now)).regs };
 
-    /// Whether the next step is the first cycle of an instruction.
+    /// Returns true if the next step is the first cycle of an instruction.
     fn starting(&self) -> bool
         ensures { result ≡ (sights (inside self.now)).starting };
 
-    /// The byte that a read of this address would give now. None where a device answers.
+    /// Returns the byte that a read of address `at` would give now, or `None` if a device answers
+    /// there.
     fn peek(&self, at: u16) -> Option<u8>
         ensures { result ≡ (sights (inside self.now)).peek at };
 
-    /// Skips instructions whose starts `passing` passes over. Their looks see these lines, and come before `until` and `sure`. It may stop at any start.
+    /// Runs instructions whose starts `skip` leaves out. Their looks see `lines`, and come before
+    /// both `until` and `safe_until`. It may stop at any start.
     fn pass(&mut self, until: Tick, lines: &Lines, sure: Tick, passing: Passing)
         requires { until.0 ≤ MOST }
         ensures { let old = inside self.old in

@@ -1,4 +1,4 @@
-//! What is told of the start of an instruction.
+//! The start of an instruction, as a listing shows it.
 ghost use Rattle.std.specs.Prelude.{◌≡◌, ◌+◌, ◌≤◌, length};
 ghost use Rattle.follow.specs.Start.{byte_at, watched_byte, start_of};
 ghost use Rattle.follow.specs.CodeStart.{start_seen, code_seen};
@@ -6,8 +6,8 @@ ghost use Rattle.follow.specs.CodeStart.{start_seen, code_seen};
 use crate::seen::Seen;
 use cpu_alu::Regs;
 
-/// The start of an instruction: its tick, the registers, the bytes that stand at PC and behind it, up to the first that is none, and the byte that
-/// is watched.
+/// The start of an instruction: its tick, the registers, up to three bytes from the program counter
+/// on, before the first that is not in memory, and the watched byte.
 #[derive(Clone, Copy, Drop)]
 pub(crate) struct Start {
     pub(crate) tick: u64,
@@ -18,7 +18,7 @@ pub(crate) struct Start {
     pub(crate) watched: Option<u8>,
 }
 
-// The byte so far behind an address, if that does not pass FFFF.
+// Returns the byte `far` addresses after `at`, or `None` past FFFF.
 #[inline(always)]
 fn byte_behind<M: Seen>(machine: &M, at: u16, far: u16) -> Option<u8>
     ensures { result ≡ byte_at (M.sights (M.inside machine.now)).peek (at + far) }
@@ -29,7 +29,7 @@ fn byte_behind<M: Seen>(machine: &M, at: u16, far: u16) -> Option<u8>
     }
 }
 
-// The byte that is watched, if one is.
+// Returns the watched byte, if there is one.
 #[inline(always)]
 fn watched_byte<M: Seen>(machine: &M, watch: Option<u16>) -> Option<u8>
     ensures { result ≡ watched_byte watch (M.sights (M.inside machine.now)).peek }
@@ -40,7 +40,7 @@ fn watched_byte<M: Seen>(machine: &M, watch: Option<u16>) -> Option<u8>
     }
 }
 
-/// What is told of the state of a machine that starts an instruction.
+/// Returns the start of the instruction that the machine is about to begin.
 #[inline(always)]
 pub(crate) fn start_of<M: Seen>(machine: &M, watch: Option<u16>) -> Start
     ensures told { start_seen result ≡ start_of M.steps M.sights watch (M.inside machine.now) }

@@ -1,4 +1,4 @@
-//! What is counted start by start: a table of all addresses.
+//! The counts of all addresses, updated at each start.
 ghost use Rattle.std.specs.Prelude.{◌≡◌, ◌++◌, IfOk, length};
 
 use crate::count::{Count, condition_at, push_count, with_start, with_ticks};
@@ -8,14 +8,14 @@ use std::alloc::{AllocError, Global};
 /// The number of addresses.
 const ADDRESSES: usize = 65_536;
 
-/// Where and when the last start was, whose ticks the table lacks.
+/// The address and tick of the last start. The table does not contain its ticks yet.
 #[derive(Clone, Copy, Drop)]
 pub(crate) struct Last {
     pub(crate) pc: u16,
     pub(crate) tick: u64,
 }
 
-/// What is counted so far at each address.
+/// The counts of each address, up to the last start.
 #[derive(Drop)]
 pub(crate) struct Tally {
     pub(crate) table: Vec<Count>,
@@ -27,7 +27,7 @@ impl Tally {
     ghost use Rattle.follow.specs.CodeStart.{start_seen};
     ghost use Rattle.follow.specs.CodeTally.{tally_seen, none_tallied, ended_at, tally, table_lines, tallied_text};
 
-    /// Nothing is counted yet.
+    /// Returns counts of zero for all addresses.
     pub(crate) fn new(alloc: Global) -> Result<Tally, AllocError>
         ensures { IfOk result (λ t. tally_seen t ≡ none_tallied) }
     {
@@ -43,7 +43,7 @@ impl Tally {
         })
     }
 
-    // The last start ends at this tick.
+    // Ends the last start at tick `tick`.
     #[inline(always)]
     fn end(&mut self, tick: u64)
         ensures table { self.new.table.items ≡ ended_at self.old.table.items self.old.last tick }
@@ -55,7 +55,7 @@ impl Tally {
         }
     }
 
-    /// One more start.
+    /// Counts `start`, and ends the start before it.
     #[inline(always)]
     pub(crate) fn note(&mut self, start: &Start)
         ensures { tally_seen self.new ≡ tally (tally_seen self.old) (start_seen start.now) }
@@ -69,7 +69,7 @@ impl Tally {
         });
     }
 
-    // Appends the lines of the table.
+    // Appends the line of each address that has a start.
     fn push_lines(&self, alloc: Global, text: &mut Vec<u8>) -> Result<(), AllocError>
         ensures { IfOk result (λ _. text.new.items ≡ text.old.items ++ table_lines 0 self.now.table.items) }
     {
@@ -79,7 +79,7 @@ impl Tally {
         Ok(())
     }
 
-    /// The text of what is counted, where the run ends at tick `n`.
+    /// Returns the text of the counts of a run that ends at tick `n`.
     pub(crate) fn text(self, alloc: Global, n: u64) -> Result<Vec<u8>, AllocError>
         ensures { IfOk result (λ text. text.items ≡ tallied_text n (tally_seen self)) }
     {

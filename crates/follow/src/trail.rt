@@ -1,4 +1,5 @@
-//! The starts that were chosen. Only contracts see them: they take no memory, and the methods do nothing at run time.
+//! Lists of starts that only contracts see: they take no memory, and their methods do nothing at
+//! run time.
 ghost use Rattle.std.specs.Prelude.{◌≡◌, List, [], ◌∷◌, ◌++◌};
 ghost use Rattle.std.specs.Borrow.{ftrue};
 ghost use Rattle.follow.specs.Start.{StartState};
@@ -20,14 +21,14 @@ impl Model for Trail {
 impl Trail {
     ghost use Rattle.follow.specs.CodeStart.{start_seen};
 
-    /// None yet.
+    /// Returns the empty list.
     pub(crate) fn new() -> Trail
         ensures { result.starts ≡ [] }
     {
         Trail {}
     }
 
-    /// With one more.
+    /// Returns the list with `start` appended.
     #[inline(always)]
     pub(crate) fn after(&self, _start: &Start) -> Trail
         ensures { result.starts ≡ self.now.starts ++ start_seen _start.now ∷ [] }

@@ -1,4 +1,4 @@
-//! A party that notes where chosen instructions start.
+//! A party that records the starts of chosen instructions.
 ghost use Rattle.std.specs.Prelude.{◌≡◌, ◌≤◌, length};
 
 use crate::notes::Notes;
@@ -8,7 +8,8 @@ use beeb_bits::Tick;
 use tube_chip::{Answer, Lines};
 use tube_party::{Ask, MOST, Party};
 
-/// A party beside notes of the chosen starts from which it did a step. Its steps are the party's, so that a replay of it is one of the party.
+/// A party with notes of the chosen starts from which it did a step. Its steps are the party's, so
+/// a replay of it is a replay of the party.
 #[derive(Drop)]
 pub(crate) struct Watcher<M: Seen> {
     pub(crate) machine: M,
@@ -22,7 +23,7 @@ impl<M: Seen> Watcher<M> {
     ghost use Rattle.follow.specs.CodeNotes.{kept_of};
     ghost use Rattle.follow.specs.CodeWatched.{order, watched_of, watched_moves};
 
-    // Goes on, maybe, past starts that are not chosen.
+    // Runs past starts that are neither chosen nor counted, if there are any.
     #[inline(always)]
     fn pass_over(&mut self, until: Tick, lines: &Lines, sure: Tick)
         requires { until.0 ≤ MOST }
@@ -68,14 +69,14 @@ impl<M: Seen> Party for Watcher<M> {
         let before = self.machine.due().0;
         let start = start_of(&self.machine, self.notes.choice.watch);
         let ask = self.machine.advance(until);
-        // Past the end, or where the opcode is the Tube's, no step was done.
+        // No step was done if it lies past the end, or if the opcode comes from the Tube.
         if before < self.machine.due().0 {
             self.notes.note(&start);
         }
         ask
     }
 
-    // Most starts are passed over where few are chosen.
+    // If few starts are chosen, most are skipped.
     fn advance_seeing(&mut self, until: Tick, lines: &Lines, sure: Tick) -> Ask {
         loop {
             self.pass_over(until, lines, sure);

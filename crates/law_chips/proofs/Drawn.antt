@@ -1,4 +1,4 @@
--- The dots of the frame that is drawn and of the one that is finished, while no register is written.
+-- The dots of the frame that is drawn and of the finished one, while no register is written.
 use Rattle.std.proofs.Common.{◌≡◌, ◌∙◌, sym, ap, refl, ℕ, zero, suc, ◌+◌, ◌-◌, ◌*◌, ◌/◌, ◌%◌, ◌<◌, ◌≤◌, ◌⊎◌, Bool, true, false, min, List, length, arith, inl}
 use Rattle.std.proofs.Common.{inr, map, ◌==◌, ◌&&◌}
 use Rattle.std.specs.Prelude.{slice_index, if◌then◌else◌, replicate, nat_le, nat_lt}
@@ -27,7 +27,8 @@ use Rattle.video_ula.specs.State as ula
 use Rattle.raster.specs.Beam.{Cursor, byte_address, cursor_past, is_marked}
 use Rattle.raster.specs.Clock.{byte_dots}
 
--- Each character that is shown draws these dots, the first of which is at the beam's place, in a frame that begins at this dot of a line.
+-- Each shown character draws `dots`, from the beam's position on, in a frame that begins at dot
+-- `left` of a line.
 pub record Shows (left : ℕ) (ram : ℕ → List ℕ) (size : ℕ → ℕ) (font : Font) (s : State) (dots : ℕ → List ℕ) : Type 0 where
   pub many : (n : ℕ) → length (dots n) ≡ dots_of s.ula.control
   pub working : (n : ℕ) →

@@ -1,4 +1,4 @@
--- How many bytes a register of the Tube holds.
+-- The number of bytes that a register of the Tube holds.
 use Rattle.std.proofs.Common.{◌≡◌, ◌∙◌, sym, ap, refl, ℕ, ◌-◌, ◌*◌, ◌%◌, ◌≤◌, ◌<◌, ◌==◌, Bool, true, false, List, [], ◌∷◌, ◌++◌, arith, inl, inr}
 use Rattle.std.specs.Prelude.{nat_lt, length, take, if◌then◌else◌}
 use Rattle.std.proofs.lemmas.Bool.{cases_Bool, ltb-true, ltb-false, eq-eqb, ne_eqb}
@@ -39,7 +39,7 @@ one_in room byte bytes more fits = elim (cases_Bool (nat_lt (length bytes) room)
       rw is_full (take-append-le room bytes more full ∙ sym (take-append-le room bytes (byte ∷ more) full))
 ]
 
--- one write of the byte of register k
+-- one write of the byte of register `k`
 one_written : (from : Side) (k byte : ℕ) (c : State) → 1 ≤ k → k ≤ 4 →
     queue from k (chip_after c from (Write (byte_number k) byte)) ≡ write_leaves (capacity from k c.flags) byte (queue from k c)
 one_written from k byte c lk hk =
@@ -51,7 +51,7 @@ flags_stay : (from : Side) (k byte : ℕ) (c : State) → 1 ≤ k → k ≤ 4 �
 flags_stay Host k byte c lk hk = four (λ k. (chip_after c Host (Write (byte_number k) byte)).flags ≡ c.flags) refl refl refl refl k lk hk
 flags_stay Para k byte c lk hk = four (λ k. (chip_after c Para (Write (byte_number k) byte)).flags ≡ c.flags) refl refl refl refl k lk hk
 
--- all bytes, from what the register holds on
+-- all bytes, from the register's contents on
 fills : (from : Side) (k room : ℕ) (bytes : List ℕ) (c : State) → 1 ≤ k → k ≤ 4 → 2 ≤ room → capacity from k c.flags ≡ room →
     length (held_bytes (queue from k c)) ≤ room →
     held_bytes (queue from k (all_written from k bytes c)) ≡ take room (held_bytes (queue from k c) ++ bytes)

@@ -1,4 +1,4 @@
--- How long the motor is on after a command.
+-- The motor after a command.
 use Rattle.std.proofs.Common.{◌≡◌, ◌∙◌, ap, subst, ℕ, ◌+◌, ◌-◌, ◌||◌, Bool, List, [], ◌∷◌, arith}
 use Rattle.std.specs.Prelude.{nat_lt, if◌then◌else◌}
 use Rattle.wd1770.specs.declared.command.Command.TheVariants.{Idle}
@@ -9,7 +9,7 @@ use Rattle.wd1770.specs.Step.{step}
 use Rattle.wd1770.specs.History.{Event, microsecond, read, write, latch, history, count_steps}
 use Rattle.law_chips.specs.Searches.{AllWait}
 
--- No command, and the motor goes off in so many steps.
+-- No command is in progress, and the motor goes off after `left` steps.
 pub record Runs (left : ℕ) (s : State) : Type 0 where
   pub command : s.command ≡ Idle
   pub motor : s.motor ≡ left

@@ -48,7 +48,8 @@ odd_is number k odd low = grind arith
 even_is : (number k : ℕ) → is_status number ≡ true → 1 ≤ k → (number == byte_number k) ≡ false
 even_is number k even low = grind arith
 
--- What leaves a register and what comes into it, by what an event is for it: it clears all (z), writes this byte (s), reads (r).
+-- The bytes that leave and enter a register at an event: it clears all (z), writes byte s, or reads
+-- (r).
 record Balance (z : Bool) (s : Option ℕ) (r : Bool) (room : ℕ) (shown made : List ℕ) (q after : Register) : Type 0 where
   pub is :
       (if z || (is_some s && ((room == 1) && not (is_empty q))) then held_bytes q else if r && not (is_empty q) then shown else []) ++ held_bytes after

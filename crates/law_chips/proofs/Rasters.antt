@@ -1,4 +1,4 @@
--- The bits of the registers of the 6845; and which characters are shown, and on which raster, clock by clock.
+-- The bits of the 6845's registers; and the shown characters and their rasters, clock by clock.
 use Rattle.std.proofs.Common.{◌≡◌, ◌∙◌, sym, refl, ℕ, ◌%◌, ◌<◌, Bool, true, false, List, [], ◌∷◌, subst, arith, ap, zero, suc, ◌+◌, ◌-◌, ◌*◌, ◌/◌, ◌≤◌, ◌==◌}
 use Rattle.std.proofs.Common.{◌⊎◌, ◌&&◌, Option, Some, None, add-one, inl, inr, true≢false}
 use Rattle.std.specs.Prelude.{slice_index, if◌then◌else◌, is_none, nat_lt, nat_le}

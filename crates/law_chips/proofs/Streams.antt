@@ -1,5 +1,6 @@
--- What each event of a program leaves of a controller in which a command goes on; and bytes that come to its data register one after the other, each to be
--- taken before the next: those of a sector, or of an ID field.
+-- The effect of each event of a program on a controller whose command continues; and bytes that
+-- come to its data register one after the other: those of a sector, or of an ID field. The program
+-- must take each before the next.
 use Rattle.std.proofs.Common.{◌≡◌, ◌∙◌, sym, ap, subst, refl, ℕ, ◌+◌, ◌<◌, ◌≤◌, ◌==◌, Bool, true, false, List, [], ◌∷◌, ◌++◌, arith, inl, inr, ◌-◌, ◌*◌, ◌/◌}
 use Rattle.std.proofs.Common.{◌%◌, ◌&&◌, ◌||◌, not, ◌⊎◌, min, length, take}
 use Rattle.std.specs.Prelude.{if◌then◌else◌, Some, nat_le, slice_index}
@@ -85,7 +86,8 @@ counts m e es = grind arith
 
 -- ---- Programs.
 
--- What a program may do at an event, and in a run, while it lets a command go on; and what is noted of an event, and of a run.
+-- The events that a program may do while it lets a command continue, one and in a run; and the
+-- notes of an event, and of a run.
 pub record Program : Type 1 where
   pub may : State → Event → Type 0
   pub all : State → List Event → Type 0
@@ -170,7 +172,8 @@ pub lets_go : (p : Program) (s : State) (events : List Event) → p.all s events
 lets_go p s [] all = tt
 lets_go p s (e ∷ es) all = let parts = p.parts s e es all in (p.lets s e parts.0, lets_go p (happens e s) es parts.1)
 
--- What each step and each access keeps, with what is noted, holds at the end of a run of so many steps.
+-- A property of state and notes that each step and each access keeps holds at the end of a run of
+-- steps.
 module _ (p : Program) (P : State → ℕ → List ℕ → Type 0) (last : ℕ)
     (step_keeps : (s : State) (m : ℕ) (got : List ℕ) → m < last → P s m got → P (step s) (m + 1) got)
     (access_keeps : (e : Event) (s : State) (m : ℕ) (got : List ℕ) → IsAccess e → p.may s e → Accessed (is_data e) s (happens e s) → P s m got →
@@ -235,7 +238,8 @@ by_contrary a b h is = grind arith
 pub stays_lost : (s : State) → s.lost_data ≡ true → (step s).lost_data ≡ true
 stays_lost s is = by_contrary s.lost_data (step s).lost_data (kept_before s) is
 
--- ---- A command that begins at the angle `base`, gives bytes 0 to l, byte i at its place `first` + i, and ends at its place `last`.
+-- ---- A command that begins at the angle `base`, gives bytes 0 to l, byte i at its place `first` +
+-- i, and ends at its place `last`.
 
 -- A byte was not taken, and is told to be lost.
 pub record Missed (first l : ℕ) (s : State) (m : ℕ) (ps : List ℕ) : Type 0 where

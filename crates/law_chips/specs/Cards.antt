@@ -34,18 +34,19 @@ abbrev pub last_page : List Access → ℕ → ℕ
 last_page [] page = page
 last_page (a ∷ accesses) page = last_page accesses (page_after a page)
 
--- what an access with this page selected leaves of a byte at an address of a page, which was b before
+-- the byte at address `at` of page `of` after an access while `page` is selected; it was `b` before
 abbrev pub byte_after : (page of at : ℕ) → Access → ℕ → ℕ
 byte_after page of at (read from) b = b
 byte_after page of at (write to v) b = if (page == of) && (to == at) then v else b
 
--- The byte last written at an address while that page was selected, or b. The page selected at the beginning is `page`.
+-- The byte last written at address `at` while page `of` was selected, or `b` if there is none. The
+-- page selected at the beginning is `page`.
 abbrev pub last_written : (page of at : ℕ) → List Access → ℕ → ℕ
 last_written page of at [] b = b
 last_written page of at (a ∷ accesses) b = last_written (page_after a page) of at accesses (byte_after page of at a b)
 
--- From power-on on, whatever is read and written, a read in JIM answers the byte that was last written there while the same page was
--- selected, or 00, and a read of FCFF the page.
+-- After each run from power-on, a read in JIM gives the byte that was last written there while the
+-- selected page was selected, or 00. A read of FCFF gives the page.
 pub record CardRemembers : Type 0 where
   pub bytes : (accesses : List Access) (at : ℕ) → AreAccesses accesses → 0xFD00 ≤ at → at ≤ 0xFDFF →
       plug_answer (after_accesses accesses new_card) at ≡ last_written 0 (last_page accesses 0) at accesses 0

@@ -1,5 +1,5 @@
--- The colours of both frames over whole runs of the picture: three bits each. (BBC Microcomputer Advanced User Guide,
--- The Video ULA.)
+-- The colours of both frames over whole runs of the picture: three bits each. (BBC Microcomputer
+-- Advanced User Guide, The Video ULA.)
 use Rattle.std.specs.Prelude.{ℕ, ◌<◌, List}
 use Rattle.std.specs.List.{All}
 use Rattle.raster.specs.State.{power_on}
@@ -9,7 +9,8 @@ use Rattle.law_chips.specs.PictureRuns.{Move, after_moves}
 abbrev pub AreColours : List ℕ → Type 0
 AreColours frame = All (λ colour. colour < 8) frame
 
--- From power-on on, each dot of the frame that is drawn and of the last one that was finished is a colour from 0 to 7.
+-- After each run from power-on, each dot of the frame that is drawn, and of the last finished one,
+-- is a colour from 0 to 7.
 abbrev pub DotsAreColours : Type 0
 DotsAreColours =
     (moves : List Move) →

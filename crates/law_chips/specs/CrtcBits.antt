@@ -1,4 +1,5 @@
--- The bits of the registers of the 6845 over whole runs. (6845 data sheet, Internal Register Assignment.)
+-- The bits of the 6845's registers over whole runs. (6845 data sheet, Internal Register
+-- Assignment.)
 use Rattle.std.specs.Prelude.{ℕ, ◌<◌, ⊤, List, [], ◌∷◌}
 use Rattle.crtc6845.specs.State.{State, power_on}
 use Rattle.crtc6845.specs.Registers.{select_leaves, set_leaves}
@@ -7,7 +8,8 @@ use Rattle.crtc6845.specs.Laws.{HaveTheirBits}
 use Rattle.raster.specs.State as raster
 use Rattle.law_chips.specs.PictureRuns as picture
 
--- What befalls a 6845: a character clock, a register is selected, or a byte is written to the selected one.
+-- An event of a 6845: a character clock, the selection of a register, or a write of a byte to the
+-- selected one.
 pub data Move : Type 0 where
   clock : Move
   select : (v : ℕ) → Move
@@ -23,7 +25,7 @@ abbrev pub after_moves : List Move → State → State
 after_moves [] c = c
 after_moves (m ∷ moves) c = after_moves moves (after_move m c)
 
--- what is written is a byte
+-- A written value is a byte.
 abbrev pub WritesByte : Move → Type 0
 WritesByte clock = ⊤
 WritesByte (select v) = ⊤
@@ -33,14 +35,14 @@ abbrev pub WriteBytes : List Move → Type 0
 WriteBytes [] = ⊤
 WriteBytes (m ∷ moves) = WritesByte m × WriteBytes moves
 
--- From power-on on, the registers have their bits, of which the laws over whole frames speak; and they keep them from
--- any chip on.
+-- The registers are within their bits at power-on and after each run from it. Each move keeps this,
+-- from any chip on. The laws over whole frames need this.
 pub record RegistersHaveTheirBits : Type 0 where
   pub keeps : (m : Move) (c : State) → WritesByte m → HaveTheirBits c.registers →
       HaveTheirBits (after_move m c).registers
   pub reached : (moves : List Move) → WriteBytes moves → HaveTheirBits (after_moves moves power_on).registers
 
--- the 6845 that a move puts into a raster has its bits
+-- the 6845 that a move puts into a raster is within its bits
 abbrev pub PutsBits : picture.Move → Type 0
 PutsBits (picture.clock ram size font) = ⊤
 PutsBits (picture.step ram size font) = ⊤
@@ -51,7 +53,7 @@ abbrev pub PutBits : List picture.Move → Type 0
 PutBits [] = ⊤
 PutBits (m ∷ moves) = PutsBits m × PutBits moves
 
--- Then from power-on on the 6845 of a raster has its bits.
+-- Then a raster's 6845 is within its bits after each run from power-on.
 abbrev pub RastersHaveTheirBits : Type 0
 RastersHaveTheirBits =
     (moves : List picture.Move) → PutBits moves →

@@ -1,11 +1,13 @@
--- The control lines of the 6522 over whole runs of steps. (6522 data sheet, Peripheral Control Register and Interrupt Flag Register.)
+-- The control lines of the 6522 over whole runs of steps. (6522 data sheet, Peripheral Control
+-- Register and Interrupt Flag Register.)
 use Rattle.std.specs.Prelude.{◌≡◌, ◌&&◌, ◌||◌, Bool, false, not, List, [], ◌∷◌, map, if◌then◌else◌}
 use Rattle.beeb_bits.specs.Bits.{bit}
 use Rattle.via6522.specs.declared.Pins.{Pins}
 use Rattle.via6522.specs.State.{State}
 use Rattle.via6522.specs.Step.{after_steps}
 
--- Somewhere in a row of levels, the first of which follows this one, the line rises; somewhere it falls.
+-- The line rises, or falls, between `before` and the first of the levels, or between two successive
+-- levels.
 abbrev pub rises : Bool → List Bool → Bool
 rises before [] = false
 rises before (now ∷ levels) = (not before && now) || rises now levels
@@ -14,17 +16,17 @@ abbrev pub falls : Bool → List Bool → Bool
 falls before [] = false
 falls before (now ∷ levels) = (before && not now) || falls now levels
 
--- the edge that is active where a bit of PCR is set is the rising one
+-- the active edge: the rising one if `up`, a bit of PCR, is set
 abbrev pub has_active : Bool → Bool → List Bool → Bool
 has_active up before levels = if up then rises before levels else falls before levels
 
--- CA1's flag is set after any steps where it was before, or the line had its active edge.
+-- CA1's flag is set after any steps if it was set before, or if the line had its active edge.
 abbrev pub Ca1Sees : Type 0
 Ca1Sees =
     (c : State) (pins : List Pins) →
     (after_steps pins c).flags.ca1 ≡ c.flags.ca1 || has_active (bit c.pcr 0) c.levels.ca1 (map (λ p. p.ca1) pins)
 
--- CA2 has an active edge only while it is an input, where bit 3 is clear.
+-- CA2 has an active edge only while it is an input, with bit 3 clear.
 abbrev pub Ca2Sees : Type 0
 Ca2Sees =
     (c : State) (pins : List Pins) →
@@ -36,7 +38,7 @@ Cb1Sees =
     (c : State) (pins : List Pins) →
     (after_steps pins c).flags.cb1 ≡ c.flags.cb1 || has_active (bit c.pcr 4) c.levels.cb1 (map (λ p. p.cb1) pins)
 
--- CB2 is an input where bit 7 is clear.
+-- CB2 is an input if bit 7 is clear.
 abbrev pub Cb2Sees : Type 0
 Cb2Sees =
     (c : State) (pins : List Pins) →

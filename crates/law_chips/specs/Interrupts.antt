@@ -17,7 +17,7 @@ status_is_read (read reg ∷ events) = (reg == 0) || status_is_read events
 status_is_read (write reg v ∷ events) = status_is_read events
 status_is_read (latch v ∷ events) = status_is_read events
 
--- What it leaves at once: registers, heads and discs as they were, and none of the signs of the command that it ended.
+-- The effect of Dx at once: registers, heads and discs stay as they were, and DRQ is clear.
 pub record LeavesRest (s x : State) : Type 0 where
   pub track : x.track ≡ s.track
   pub sector : x.sector ≡ s.sector
@@ -27,11 +27,12 @@ pub record LeavesRest (s x : State) : Type 0 where
   pub drq : x.drq ≡ false
   pub lost_data : x.lost_data ≡ false
   pub not_found : x.record_not_found ≡ false
-  -- the status that follows is of type I where no command was in progress, and else of the type of the one that was ended
+  -- If no command was in progress, the status that follows is of type I, otherwise of the ended
+  -- command's type.
   pub status : x.type_one ≡ (s.type_one || not (is_busy s.command))
 
--- Whatever command is in progress, it is over at once, and stays so until the next is written. D8 to DF raise INTRQ, which stays until the status is
--- read, and D0 to D7 do not.
+-- Any command in progress is over at once, and none begins before the next is written. D8 to DF set
+-- INTRQ until the status is read; D0 to D7 do not.
 pub record InterruptsAreForced : Type 0 where
   pub over : (s : State) (v : ℕ) (events : List Event) → is_reset s.latch ≡ false → v / 16 ≡ 0xD → AllLetGo events →
       (history events (write_leaves 0 v s)).command ≡ Idle

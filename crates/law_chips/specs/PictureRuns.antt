@@ -7,8 +7,8 @@ use Rattle.raster.specs.State.{State}
 use Rattle.raster.specs.Clock.{char_clock_leaves, microsecond}
 use Rattle.raster.specs.Lending.{with_crtc, with_ula}
 
--- What befalls a raster: a character clock or a microsecond, each with the RAM, the screen's size and the font as they
--- are at it; and between them the 6845 or the video ULA becomes any other one.
+-- An event of a raster. A character clock or a microsecond, each with the RAM, the screen's size
+-- and the font at this time; or any other 6845 or video ULA takes the place of the present one.
 pub data Move : Type 0 where
   clock : (ram : List ℕ) (size : ℕ) (font : Font) → Move
   step : (ram : List ℕ) (size : ℕ) (font : Font) → Move

@@ -1,4 +1,5 @@
--- How long a search for a sector takes. (WD1770 data sheet, Type II Commands; the places and times of the sectors are this project's profile.)
+-- The duration of a search for a sector. (WD1770 data sheet, Type II Commands; the angles and times
+-- of the sectors are this project's profile.)
 use Rattle.std.specs.Prelude.{ℕ, ◌+◌, ◌-◌, ◌*◌, ◌%◌, ◌≡◌, ◌≤◌, ◌<◌, ◌==◌, ◌&&◌, ◌⊎◌, not, Bool, true, false, List, [], ◌∷◌}
 use Rattle.wd1770.specs.declared.command.Command.TheVariants.{Idle, Searching}
 use Rattle.wd1770.specs.declared.command.Transfer.{Transfer}
@@ -11,7 +12,7 @@ use Rattle.law_chips.specs.SectorReads.{IsAtSector}
 use Rattle.law_chips.specs.LostData.{AllLetGo}
 use Rattle.law_chips.specs.Interrupts.{status_is_read}
 
--- a program that waits: between steps it reads registers, and writes none
+-- A program that waits reads registers between steps, and writes none.
 abbrev pub Waits : Event → Type 0
 Waits microsecond = Unit {0}
 Waits (read reg) = Unit {0}
@@ -22,24 +23,26 @@ abbrev pub AllWait : List Event → Type 0
 AllWait [] = Unit {0}
 AllWait (e ∷ events) = Waits e × AllWait events
 
--- how many steps there are up to the next one at an angle, that one counted: 200,000 make a turn
+-- the number of steps up to and with the next one at `angle`: 200,000 make a turn
 abbrev pub steps_to : ℕ → State → ℕ
 steps_to angle s = (angle + 200000 - next_angle s.angle) % 200000 + 1
 
--- the angle at which sector k begins
+-- the angle of the beginning of sector `k`
 abbrev pub sector_angle : ℕ → ℕ
 sector_angle k = 64 * (312 * k)
 
--- There is a sector for the search: it is on the disc, single density is selected, and the track register is the head's track.
+-- There is a sector for the search: it is on the disc, single density is selected, and the track
+-- register is the head's track.
 abbrev pub has_match : Transfer → State → Bool
 has_match t s = is_single_density s.latch && ((t.target.head == s.track) && is_on_disc (disc_in t.target.drive s) t.target s.sector)
 
--- No sector comes in the time that is left: there is none, or it begins later.
+-- No sector begins in the `left` steps: there is no match, or it begins later.
 abbrev pub ComesNot : Transfer → ℕ → State → Type 0
 ComesNot t left s = (has_match t s ≡ false) ⊎ (left < steps_to (sector_angle s.sector) s)
 
--- A search whose sector begins in the time that is left ends at the step at which it begins, and at none before; the disc, lost data and the sector
--- register stay as they are. Any other ends when its time is over, with record not found, and with INTRQ until the status is read.
+-- If its sector begins in the time that is left, the search ends at this step, and not before. The
+-- disc, lost data and the sector register stay as they are. Any other search ends when its time is
+-- over, with record not found, and with INTRQ until the status is read.
 pub record SearchEnds : Type 0 where
   pub goes_on : (s : State) (t : Transfer) (left : ℕ) (events : List Event) →
       s.command ≡ Searching t left → steps_to (sector_angle s.sector) s ≤ left → has_match t s ≡ true → AllWait events →

@@ -12,7 +12,8 @@ use Rattle.law_chips.specs.SectorWrites.{AllWritten, bytes_given}
 use Rattle.law_chips.specs.Searches.{AllWait, steps_to, sector_angle}
 use Rattle.law_chips.specs.InTime.{IsInTime}
 
--- What a program does for a sector: it waits until it begins, and then takes, or gives, its bytes.
+-- A program's events for one sector: it waits until the sector begins, and then takes, or gives,
+-- its bytes.
 pub record Round : Type 0 where
   pub waits : List Event
   pub serves : List Event
@@ -24,12 +25,12 @@ abbrev pub rounds_end : List Round → State → State
 rounds_end [] s = s
 rounds_end (round ∷ rounds) s = rounds_end rounds (round_end round s)
 
--- the bytes that it takes
+-- the bytes that the program takes
 abbrev pub bytes_of : List Round → State → List ℕ
 bytes_of [] s = []
 bytes_of (round ∷ rounds) s = bytes_taken (history round.waits s) round.serves ++ bytes_of rounds (round_end round s)
 
--- It reads registers alone, and takes each byte in its time.
+-- The program only reads registers, and takes each byte in its time.
 pub record IsTimely (round : Round) (s : State) : Type 0 where
   pub wait : AllWait round.waits
   pub waited : count_steps round.waits ≡ steps_to (sector_angle s.sector) s
@@ -41,12 +42,12 @@ abbrev pub AreTimely : List Round → State → Type 0
 AreTimely [] s = Unit {0}
 AreTimely (round ∷ rounds) s = IsTimely round s × AreTimely rounds (round_end round s)
 
--- the bytes of as many sectors, from sector k on
+-- the bytes of one sector for each round, from sector `k` on
 abbrev pub bytes_from : Image → Target → ℕ → List Round → List ℕ
 bytes_from d target k [] = []
 bytes_from d target k (round ∷ rounds) = sector_bytes d target.side target.head k ++ bytes_from d target (k + 1) rounds
 
--- A command for several sectors that are to be read searches for the one of the sector register, on this disc.
+-- A command that reads several sectors searches for the one of the sector register, on disc `d`.
 pub record IsReading (s : State) (t : Transfer) (d : Image) : Type 0 where
   pub command : s.command ≡ search_of t
   pub reads : t.writes ≡ false
@@ -58,8 +59,8 @@ pub record IsReading (s : State) (t : Transfer) (d : Image) : Type 0 where
   pub drq : s.drq ≡ false
   pub lost : s.lost_data ≡ false
 
--- The program has the bytes of all sectors, one after the other, up to the last of the track. The sector register is then that of the next one, for
--- which the command searches.
+-- The program has the bytes of all sectors, one after the other, up to the last of the track. The
+-- sector register is then that of the next one, and the command searches for it.
 pub record SeveralAreRead (t : Transfer) (d : Image) (rounds : List Round) (s : State) : Type 0 where
   pub bytes : bytes_of rounds s ≡ bytes_from d t.target s.sector rounds
   pub goes_on : IsReading (rounds_end rounds s) t d
@@ -71,7 +72,7 @@ SectorsFollow =
 
 -- ---- Sectors that are written.
 
--- a program that reads registers, and writes the data register alone
+-- a program that reads registers, and writes only the data register
 abbrev pub Gives : Event → Type 0
 Gives microsecond = Unit {0}
 Gives (read reg) = Unit {0}
@@ -82,7 +83,7 @@ abbrev pub AllGive : List Event → Type 0
 AllGive [] = Unit {0}
 AllGive (e ∷ events) = Gives e × AllGive events
 
--- It waits until the sector begins, and then gives each byte in its time.
+-- The program waits until the sector begins, and then gives each byte in its time.
 pub record GivesInTime (round : Round) (s : State) : Type 0 where
   pub wait : AllWait round.waits
   pub waited : count_steps round.waits ≡ steps_to (sector_angle s.sector) s
@@ -95,7 +96,7 @@ abbrev pub AllGiveInTime : List Round → State → Type 0
 AllGiveInTime [] s = Unit {0}
 AllGiveInTime (round ∷ rounds) s = GivesInTime round s × AllGiveInTime rounds (round_end round s)
 
--- A command for several sectors that are to be written searches for the one of the sector register, on this disc.
+-- A command that writes several sectors searches for the one of the sector register, on disc `d`.
 pub record IsWriting (s : State) (t : Transfer) (d : Image) : Type 0 where
   pub command : s.command ≡ search_of t
   pub writes : t.writes ≡ true
@@ -112,11 +113,11 @@ abbrev pub HasAll : Image → Target → ℕ → List Round → Type 0
 HasAll d target k [] = Unit {0}
 HasAll d target k (round ∷ rounds) = (sector_of d target.side target.head k ≡ Some (bytes_given round.serves)) × HasAll d target (k + 1) rounds
 
--- this place is in none of so many sectors from sector k on
+-- place `n` is in none of `many` sectors from sector `k` on
 abbrev pub IsOutside : Image → Target → ℕ → ℕ → ℕ → Type 0
 IsOutside d target k many n = (j i : ℕ) → k ≤ j → j < k + many → i < 256 → n ≢ place d.kind target.side target.head j i
 
--- Each sector on the disc has the bytes that were given for it, and all other bytes are as they were.
+-- Each sector on the disc has the bytes that were given for it, and all other bytes stay.
 pub record SeveralAreWritten (t : Transfer) (d : Image) (rounds : List Round) (s : State) : Type 0 where
   pub now : Image
   pub goes_on : IsWriting (rounds_end rounds s) t now

@@ -1,5 +1,6 @@
--- What each dot of a finished frame shows in teletext mode, while no register of the 6845 and of the video ULA is written. (SAA5050 data sheet; 6845 data
--- sheet, Horizontal and Vertical Timing, Memory Addresses; BBC Microcomputer Advanced User Guide, The Video ULA.)
+-- The dots of a finished frame in teletext mode, while no register of the 6845 and of the video ULA
+-- is written. (SAA5050 data sheet; 6845 data sheet, Horizontal and Vertical Timing, Memory
+-- Addresses; BBC Microcomputer Advanced User Guide, The Video ULA.)
 use Rattle.std.specs.Prelude.{ℕ, zero, suc, ◌+◌, ◌-◌, ◌*◌, ◌/◌, ◌%◌, ◌≡◌, ◌<◌, ◌≤◌, ◌&&◌, not, Bool, true, false, List, [], ◌∷◌, slice_index}
 use Rattle.beeb_bits.specs.Bits.{bit}
 use Rattle.crtc6845.specs.State as crtc
@@ -13,24 +14,26 @@ use Rattle.law_chips.specs.ShownBytes.{char_clocks, beam_line, beam_dot, finish_
 use Rattle.law_chips.specs.ShownBytes.{MakesFrames, IsUnderWay}
 use Rattle.law_chips.specs.TeletextCells.{pixels_of}
 
--- the code of the character of clock n: the low seven bits of its byte, as it is at that clock
+-- the code of the character of clock `n`: the low seven bits of its byte at that clock
 abbrev pub code_at : (ℕ → List ℕ) → (ℕ → ℕ) → crtc.Registers → ℕ → ℕ
 code_at ram size r n = byte_at (ram n) (size n) r n % 128
 
--- those of the characters before it, so many of them and the nearest first
+-- the codes of the `j` characters before clock `n`, the nearest first
 abbrev pub codes_before : (ℕ → List ℕ) → (ℕ → ℕ) → crtc.Registers → ℕ → ℕ → List ℕ
 codes_before ram size r n zero = []
 codes_before ram size r n (suc j) = code_at ram size r (n - 1) ∷ codes_before ram size r (n - 1) j
 
--- The pixels of its cell on its line, by all the codes before it in the line. Whether its row is the lower one of double height is told below.
+-- The pixels of its cell on its line, by all codes before it in the line. The rows that are lower
+-- ones of double height are defined below.
 abbrev pub cell_at : (ℕ → List ℕ) → (ℕ → ℕ) → Font → State → ℕ → List ℕ
 cell_at ram size font s n =
     let r = s.crtc.registers in
     pixels_of font (code_at ram size r n) (codes_before ram size r n (column_at r n)) (raster_at r n)
     (char_clocks ram size font n s).text.bottom (tells n s.crtc).fields
 
--- Each dot of each character that is shown, as far as it lies in the frame, has in the finished frame the colour of its cell, which the cursor inverts:
--- after the clock that finishes that frame and until the next one is finished. The frame begins at dot 208 after the beginning of horizontal sync.
+-- Each dot of each shown character within the frame has the colour of its cell in the finished
+-- frame; the cursor inverts it. This holds after the clock that finishes that frame, until the next
+-- one is finished. The frame begins at dot 208 after the beginning of horizontal sync.
 abbrev pub FramesShowTheirCells : Type 0
 FramesShowTheirCells =
     (ram : ℕ → List ℕ) (size : ℕ → ℕ) (font : Font) (s : State) (n d m : ℕ) →
@@ -55,18 +58,18 @@ RestOfPageIsBlack =
     finish < m → m ≤ finish + frame_clocks r →
     slice_index (char_clocks ram size font m s).finished (640 * (y - 40) + (x - 208)) ≡ 0
 
--- ---- Which rows are the lower ones of double height.
+-- ---- The lower rows of double height
 
--- the frame that clock n is in, counted from that of clock 0
+-- the number of the frame of clock `n`, counted from that of clock 0
 abbrev pub frame_index : crtc.Registers → ℕ → ℕ
 frame_index r n = n / line_characters r / frame_lines r
 
--- clock m is in the row above that of clock n
+-- clock `m` is in the row above that of clock `n`
 pub record IsAbove (r : crtc.Registers) (m n : ℕ) : Type 0 where
   pub frame : frame_index r m ≡ frame_index r n
   pub row : row_at r m + 1 ≡ row_at r n
 
--- the character of clock m is shown, and has the code for double height
+-- the character of clock `m` is shown, and has the code for double height
 pub record Doubles (ram : ℕ → List ℕ) (size : ℕ → ℕ) (r : crtc.Registers) (m : ℕ) : Type 0 where
   pub shown : is_shown_at r m ≡ true
   pub code : code_at ram size r m ≡ 0x0D
@@ -74,8 +77,8 @@ pub record Doubles (ram : ℕ → List ℕ) (size : ℕ → ℕ) (r : crtc.Regis
 abbrev pub is_lower : (ℕ → List ℕ) → (ℕ → ℕ) → Font → State → ℕ → Bool
 is_lower ram size font s n = (char_clocks ram size font n s).text.bottom
 
--- From the first whole frame on, the first row of a frame is no lower one. Another is where the row above it is none and has such a code on any of its
--- lines, and else it is not.
+-- From the first whole frame on, the first row of a frame is no lower one. Any other is a lower one
+-- if the row above is none, and has a double height code on any of its lines; otherwise it is not.
 pub record LowerRowsFollow : Type 0 where
   pub first : (ram : ℕ → List ℕ) (size : ℕ → ℕ) (font : Font) (s : State) (n : ℕ) → MakesFrames s.crtc → bit s.ula.control 1 ≡ true →
       1 ≤ frame_index s.crtc.registers n → row_at s.crtc.registers n ≡ 0 → is_lower ram size font s n ≡ false

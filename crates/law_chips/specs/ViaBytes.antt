@@ -1,11 +1,12 @@
--- The latches of the timers of the 6522 over whole runs. (6522 data sheet, Timer 1 Operation and Timer 2 Operation.)
+-- The latches of the 6522's timers over whole runs. (6522 data sheet, Timer 1 Operation and Timer 2
+-- Operation.)
 use Rattle.std.specs.Prelude.{ℕ, ◌<◌, ⊤, List, [], ◌∷◌}
 use Rattle.via6522.specs.declared.Pins.{Pins}
 use Rattle.via6522.specs.State.{State, power_on}
 use Rattle.via6522.specs.Registers.{read_leaves, write_leaves}
 use Rattle.via6522.specs.Step.{step}
 
--- What befalls a 6522: a microsecond with these pins, or a register is read or written.
+-- An event of a 6522: a microsecond with the given pins, or a read or write of a register.
 pub data Move : Type 0 where
   microsecond : (pins : Pins) → Move
   read : (reg : ℕ) → Move
@@ -21,7 +22,7 @@ abbrev pub after_moves : List Move → State → State
 after_moves [] c = c
 after_moves (m ∷ moves) c = after_moves moves (after_move m c)
 
--- what is written is a byte
+-- A written value is a byte.
 abbrev pub WritesByte : Move → Type 0
 WritesByte (microsecond pins) = ⊤
 WritesByte (read reg) = ⊤
@@ -36,7 +37,8 @@ pub record HasByteLatches (c : State) : Type 0 where
   pub timer1 : c.timer1.latch_low < 256
   pub timer2 : c.timer2.latch_low < 256
 
--- From power-on on they are, of which the laws of the timers speak; and they stay so from any chip on.
+-- The low latches are bytes at power-on and after each run from it. Each move keeps this, from any
+-- chip on. The laws of the timers need this.
 pub record LatchesAreBytes : Type 0 where
   pub keeps : (m : Move) (c : State) → WritesByte m → HasByteLatches c → HasByteLatches (after_move m c)
   pub reached : (moves : List Move) → WriteBytes moves → HasByteLatches (after_moves moves power_on)

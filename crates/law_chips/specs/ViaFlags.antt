@@ -1,5 +1,5 @@
--- The interrupt flags of the 6522: what clears each, what the flag register shows, and what asks for an interrupt. (6522 data sheet, Interrupt Flag
--- Register and Interrupt Enable Register.)
+-- The interrupt flags of the 6522: the accesses that clear each, the contents of the flag register,
+-- and the interrupt line. (6522 data sheet, Interrupt Flag Register and Interrupt Enable Register.)
 use Rattle.std.specs.Prelude.{ℕ, ◌≡◌, ◌==◌, ◌&&◌, ◌||◌, not, Bool, true, false, ⊤, List, [], ◌∷◌, if◌then◌else◌}
 use Rattle.std.specs.List.{list_any}
 use Rattle.beeb_bits.specs.Bits.{bit}
@@ -40,8 +40,8 @@ is_set shift_register s = s.shift
 is_set line_ca1 s = s.ca1
 is_set line_ca2 s = s.ca2
 
--- The table of the data sheet. A flag is cleared by a read of T1C-L, of T2C-L, of ORB, of SR or of ORA; those of CB2 and CA2 not where PCR makes
--- them independent.
+-- The table of the data sheet. A flag is cleared by a read of T1C-L, T2C-L, ORB, SR or ORA. PCR can
+-- make CB2 and CA2 independent; then reads of ORB and ORA do not clear their flags.
 abbrev pub cleared_by_read : Flag → ℕ → State → Bool
 cleared_by_read timer_1 reg c = reg == 4
 cleared_by_read timer_2 reg c = reg == 8
@@ -51,7 +51,7 @@ cleared_by_read shift_register reg c = reg == 10
 cleared_by_read line_ca1 reg c = reg == 1
 cleared_by_read line_ca2 reg c = (reg == 1) && not (bit c.pcr 1)
 
--- and by a write of T1C-H or T1L-H, of T2C-H, of ORB, of SR, or of ORA
+-- Each flag is also cleared by a write of T1C-H or T1L-H, T2C-H, ORB, SR, or ORA.
 abbrev pub cleared_by_write : Flag → ℕ → State → Bool
 cleared_by_write timer_1 reg c = (reg == 5) || (reg == 7)
 cleared_by_write timer_2 reg c = reg == 9
@@ -61,31 +61,33 @@ cleared_by_write shift_register reg c = reg == 10
 cleared_by_write line_ca1 reg c = reg == 1
 cleared_by_write line_ca2 reg c = (reg == 1) && not (bit c.pcr 1)
 
--- A write to IFR clears each flag whose bit it has.
+-- A write to IFR clears each flag whose bit is set in the byte.
 abbrev pub is_cleared : Flag → Move → State → Bool
 is_cleared f (microsecond pins) c = false
 is_cleared f (read reg) c = cleared_by_read f reg c
 is_cleared f (write reg v) c = cleared_by_write f reg c || ((reg == 13) && bit v (bit_of f))
 
--- none of these moves, one after the other, clears the flag
+-- None of these moves clears the flag.
 abbrev pub NoneClears : Flag → List Move → State → Type 0
 NoneClears f [] c = ⊤
 NoneClears f (m ∷ moves) c = (is_cleared f m c ≡ false) × NoneClears f moves (after_move m c)
 
--- An access clears those flags, and leaves each other as it was: it sets none. No microsecond clears one, and a flag that is set stays so through
--- any moves of which none clears it. The shift register, which never shifts, sets none.
+-- An access clears those flags, and leaves each other as it was: it sets none. No microsecond
+-- clears a flag. A set flag stays set through each list of moves that does not clear it. The shift
+-- register never shifts, and sets no flag.
 pub record FlagsAreCleared : Type 0 where
   pub by_read : (f : Flag) (reg : ℕ) (c : State) → is_set f (read_leaves reg c).flags ≡ (is_set f c.flags && not (is_cleared f (read reg) c))
   pub by_write : (f : Flag) (reg v : ℕ) (c : State) → is_set f (write_leaves reg v c).flags ≡ (is_set f c.flags && not (is_cleared f (write reg v) c))
   pub stays : (f : Flag) (moves : List Move) (c : State) → is_set f c.flags ≡ true → NoneClears f moves c → is_set f (after_moves moves c).flags ≡ true
   pub no_shift : (pins : Pins) (c : State) → (step pins c).flags.shift ≡ c.flags.shift
 
--- some flag is set that is enabled
+-- An enabled flag is set.
 abbrev pub some_enabled : State → Bool
 some_enabled c = list_any (λ f. is_set f c.flags && is_set f c.enabled) all_flags
 
--- IFR shows each flag in its bit, and in bit 7 whether some flag is set that is enabled, which is what the interrupt line says. IER shows what is
--- enabled, with bit 7 set. A write to it sets or clears, as its bit 7 says, those of which it has the bits, and leaves the others.
+-- IFR shows each flag in its bit. Its bit 7 is set, and the interrupt line asserted, if an enabled
+-- flag is set. IER shows the enabled flags, with bit 7 set. A write to IER sets or clears, by its
+-- bit 7, the flags whose bits are set in the byte, and leaves the others.
 pub record FlagsAreShown : Type 0 where
   pub flag : (f : Flag) (pins : Pins) (c : State) → bit (answer_of 13 pins c) (bit_of f) ≡ is_set f c.flags
   pub top : (pins : Pins) (c : State) → bit (answer_of 13 pins c) 7 ≡ some_enabled c

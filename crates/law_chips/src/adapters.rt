@@ -4,7 +4,8 @@ ghost use Rattle.law_chips.specs.ViaBytes.{LatchesAreBytes};
 ghost use Rattle.law_chips.specs.ViaFlags.{FlagsAreCleared, FlagsAreShown};
 ghost use Rattle.law_chips.specs.ViaPorts.{PortsShowTheirBits};
 
-/// In any run of steps a control line's flag becomes set exactly where the line has the edge that PCR says is active.
+/// In each run of steps, a control line's flag is set exactly if the line has the edge that PCR
+/// selects as active.
 pub fn active_edges_set_flags()
     ensures ca1 { Ca1Sees }
     ensures ca2 { Ca2Sees }
@@ -12,23 +13,23 @@ pub fn active_edges_set_flags()
     ensures cb2 { Cb2Sees }
 {}
 
-/// Whatever bytes are written to a 6522 from power-on on, the low latches of its timers are bytes: what the laws of the
-/// timers ask.
+/// Each run from power-on leaves bytes in the low latches of a 6522's timers. The laws of the
+/// timers need this.
 pub fn latches_are_bytes()
     ensures { LatchesAreBytes }
 {}
 
-/// A flag of IFR is cleared by the accesses that the data sheet names for it, and by nothing else.
+/// An IFR flag is cleared by the accesses that the data sheet names for it, and by no others.
 pub fn flags_are_cleared()
     ensures { FlagsAreCleared }
 {}
 
-/// IFR shows the flags, its bit 7 whether some flag is set that is enabled, and IER which are.
+/// IFR shows the flags. Its bit 7 is set if an enabled flag is set. IER shows the enabled flags.
 pub fn flags_are_shown()
     ensures { FlagsAreShown }
 {}
 
-/// A read of a port shows its output register at the outputs, and the pins at the inputs.
+/// A read of a port returns the output register for output bits, and the pins for input bits.
 pub fn ports_show_their_bits()
     ensures { PortsShowTheirBits }
 {}

@@ -1,4 +1,5 @@
-//! Laws of single chips over whole runs, above the definitions that the crates of the chips have. Nothing stands on this crate.
+//! Laws of single chips over whole runs, above the definitions of the chips' crates. No crate
+//! depends on this one.
 #![tactic(auto)]
 
 mod adapters;

@@ -6,14 +6,14 @@ ghost use Rattle.law_chips.specs.ShownBytes.{MicrosecondsAreClocks};
 ghost use Rattle.law_chips.specs.TeletextCells.{CellsShowTheirCodes};
 ghost use Rattle.law_chips.specs.TeletextFrames.{FramesShowTheirCells, RestOfPageIsBlack, LowerRowsFollow};
 
-/// Whatever bytes are written to a 6845 from power-on on, its registers have their bits: what the laws over whole
-/// frames ask. So it is with the 6845 of a raster.
+/// Each run from power-on leaves the registers of a 6845 within their bits, and those of a raster's
+/// 6845 too. The laws over whole frames need this.
 pub fn registers_have_their_bits()
     ensures chip { RegistersHaveTheirBits }
     ensures raster { RastersHaveTheirBits }
 {}
 
-/// Whatever is shown from power-on on, each dot of both frames is a colour from 0 to 7.
+/// In each run from power-on, each dot of both frames is a colour from 0 to 7.
 pub fn dots_are_colours()
     ensures { DotsAreColours }
 {}
@@ -26,13 +26,13 @@ pub fn characters_are_shown()
     crtc6845::frames_have_their_clocks();
 }
 
-/// A microsecond is one character clock, or two at 2 MHz.
+/// A microsecond has one character clock, or two at 2 MHz.
 pub fn microseconds_are_clocks()
     ensures { MicrosecondsAreClocks }
 {}
 
-/// In bit-mapped modes, while no register is written, each dot of a character that is shown has in the finished frame
-/// the colour of its byte, and each other dot is black.
+/// In bit-mapped modes, while no register is written, each dot of a displayed character has in the
+/// finished frame the colour of its byte. Each other dot is black.
 pub fn frames_show_their_bytes()
     ensures bytes { FramesShowTheirBytes }
     ensures rest { RestIsBlack }
@@ -44,15 +44,16 @@ pub fn frames_show_their_bytes()
     characters_are_shown();
 }
 
-/// On each line of a teletext row a cell shows what the codes before it in the row, and its own, say.
+/// On each line of a teletext row, a cell is shown by its own code and the codes before it in the
+/// row.
 pub fn cells_show_their_codes()
     ensures { CellsShowTheirCodes }
 {
     saa5050::row_is_fold();
 }
 
-/// In teletext mode, while no register is written, each dot of a character that is shown has in the finished frame the colour
-/// that its cell has by the codes before it in its line, and each other dot is black.
+/// In teletext mode, while no register is written, each dot of a displayed character has in the
+/// finished frame the colour that the codes up to its cell give it. Each other dot is black.
 pub fn frames_show_their_cells()
     ensures cells { FramesShowTheirCells }
     ensures rest { RestOfPageIsBlack }
@@ -66,7 +67,8 @@ pub fn frames_show_their_cells()
     characters_are_shown();
 }
 
-/// A row is a lower one of double height where the row above it is none and has the code for it on any of its lines.
+/// A row is the lower row of double height if the row above is not one and has the double-height
+/// code on one of its lines.
 pub fn lower_rows_follow()
     ensures { LowerRowsFollow }
 {

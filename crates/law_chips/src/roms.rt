@@ -1,7 +1,7 @@
 //! Paged ROMs.
 ghost use Rattle.law_chips.specs.Roms.{HalfRomStandsTwice};
 
-/// A ROM of 8,192 bytes answers the same in both halves of its slot.
+/// A ROM of 8,192 bytes reads alike in both halves of its slot.
 pub fn a_half_rom_stands_twice()
     ensures { HalfRomStandsTwice }
 {}

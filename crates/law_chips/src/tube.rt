@@ -1,7 +1,8 @@
 //! The Tube.
 ghost use Rattle.law_chips.specs.Queues.{RegistersAreQueues, NothingIsLost, FifoLosesNothing, RegistersHold};
 
-/// Each register of the Tube is a queue in each direction: what leaves it is what came into it, in that order.
+/// Each register of the Tube is a queue in each direction: bytes leave it in the order they
+/// entered.
 pub fn registers_are_queues()
     ensures all { RegistersAreQueues }
     ensures nothing_lost { NothingIsLost }

@@ -282,7 +282,8 @@ rises_by : (breaks : Bool) {d n : ℕ} → 1 ≤ n → d ≤ (if breaks then d +
 rises_by true some = omega arith
 rises_by false some = omega arith
 
--- an access of a halted one ends at its last tick where a break is pending there, and else behind it
+-- If a break is pending at its last tick, an access of a halted processor ends at that tick,
+-- otherwise after it.
 module _ (s : HostState) (a : Option Answer) (c : Cycle) (next : next_cycle s.cpu ≡ Some c) (stopped : halted s.cpu ≡ true) (free : is_break s ≡ false) where
   abbrev end_tick : ℕ
   end_tick = s.due + (ticks_at s c - 1)
@@ -330,7 +331,8 @@ module _ (s : HostState) (a : Option Answer) (c : Cycle) (next : next_cycle s.cp
 
 -- ---- over whole runs
 
--- what holds before the next step, where BREAK might have begun at these ticks: all breaks up to the last of them are taken
+-- The invariant before the next step, if BREAK might have begun at these ticks: all breaks up to
+-- the last of them are taken.
 record Inv (script : List Event) (us : List ℕ) (s : HostState) : Type 0 where
   pub low : ℕ
   pub script_is : s.bus.bus.board.script ≡ script

@@ -229,7 +229,8 @@ step_keeps false (Some c) s a = access_keeps c s.bus.bus
 
 -- ---- tick by tick
 
--- Before tick k: of each later tick the finished frame is the last, and the shots so far have theirs.
+-- Before tick `k`, the finished frame is the last one for each later tick. The shots below `k` have
+-- their frames.
 record Holds (script : List Event) (k : ℕ) (frames : Frames) (m : Moving) : Type 0 where
   pub finished : (t : ℕ) → k ≤ t → last_before t black frames ≡ m.devices.video.finished
   pub shots : m.shots ≡ map (λ t. last_before t black frames) (shot_ticks k script)

@@ -8,7 +8,7 @@ abbrev pub begun_by : List (Option ℕ) → Sequence → Option Sequence
 begun_by [] sequence = Some sequence
 begun_by (byte ∷ seen) sequence = None
 
--- a sequence begins where none of its cycles is done
+-- A sequence begins if none of its cycles is done.
 abbrev pub begun : State → Option Sequence
 begun c = begun_by c.seen c.sequence
 

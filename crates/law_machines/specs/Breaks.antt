@@ -1,5 +1,6 @@
--- When BREAK begins, over whole runs of the host. (Acorn, BBC Microcomputer Advanced User Guide, the BREAK key; that it comes in place of a look, and at the
--- end of a cycle of a halted processor, is this project's.)
+-- The beginning of BREAK, over whole runs of the host. (Acorn, BBC Microcomputer Advanced User
+-- Guide, the BREAK key. This project's own: BREAK comes in place of a look, and at the end of a
+-- cycle of a halted processor.)
 use Rattle.std.specs.Prelude.{ℕ, ◌+◌, ◌-◌, ◌≡◌, ◌≤◌, ◌<◌, ◌⊎◌, Bool, true, List, [], ◌∷◌, ◌++◌, Option, Some, None, if◌then◌else◌}
 use Rattle.beeb_bits.specs.declared.clock.Clock.{Clock}
 use Rattle.cpu_alu.specs.declared.Cycle.{Cycle}
@@ -17,11 +18,12 @@ use Rattle.host_mach.specs.State.{HostState, cycle_of, power_on, with_tube}
 use Rattle.host_mach.specs.Step.{cycle_ticks, is_break, next_state}
 use Rattle.law_machines.specs.HostTicks.{run}
 
--- the last tick of an access that begins at a tick, or this tick where it is the last of a cycle already
+-- the last tick of an access that begins at `due`; `due` itself if it is the last tick of a cycle
 abbrev pub end_from : HostState → Cycle → ℕ
 end_from s c = if is_last_tick (cycle_of s) s.due then s.due else s.due + (cycle_ticks (clock_of s.bus.bus) s.due c - 1)
 
--- The tick at which BREAK may begin: that of a look, and the last one of an access of a halted processor. There is none in an access of any other.
+-- The tick at which BREAK may begin: that of a look, or the last one of an access of a halted
+-- processor. An access of a processor that is not halted has none.
 abbrev pub chance_by : Option Cycle → Bool → HostState → Option ℕ
 chance_by None stopped s = Some s.due
 chance_by (Some c) stopped s = if stopped then Some (end_from s c) else None
@@ -33,33 +35,36 @@ abbrev pub listed : Option ℕ → List ℕ
 listed None = []
 listed (Some t) = t ∷ []
 
--- the ticks at which it might begin in these steps
+-- the ticks at which BREAK may begin in these steps
 abbrev pub chances : List (Option Answer) → HostState → List ℕ
 chances [] s = []
 chances (a ∷ answers) s = listed (chance s) ++ chances answers (next_state s a)
 
--- the script has a break at this tick
+-- the script has a break at tick `t`
 abbrev pub HasBreak : ℕ → List Event → Type 0
 HasBreak t [] = ⊥
 HasBreak t (e ∷ events) = ((breaks.is_break e ≡ true) × (tick_of e ≡ t)) ⊎ HasBreak t events
 
--- each of these ticks is before the break, or it is this one
+-- each of these ticks is before `break`, or is `t`
 abbrev pub NoneBetween : ℕ → ℕ → List ℕ → Type 0
 NoneBetween break t [] = Unit {0}
 NoneBetween break t (u ∷ ticks) = ((u < break) ⊎ (u ≡ t)) × NoneBetween break t ticks
 
--- This tick is the first from a break of the script on at which BREAK might begin, where it might at these before.
+-- Tick `t` is the first at or after a break of the script at which BREAK may begin. The list has
+-- the earlier ticks at which it may.
 pub record IsFirst (script : List Event) (t : ℕ) (before : List ℕ) : Type 0 where
   pub break : ℕ
   pub pressed : HasBreak break script
   pub behind : break ≤ t
   pub none : NoneBetween break t before
 
--- a break step is done at this tick: it is the next step, or the one behind the access whose last tick this is
+-- A break step is done at tick `t`. It is the next step, or the one after an access that ends at
+-- `t`.
 abbrev pub BreaksAt : ℕ → HostState → Type 0
 BreaksAt t s = ((is_break s ≡ true) × (s.due ≡ t)) ⊎ ((a : Option Answer) → (is_break (next_state s a) ≡ true) × ((next_state s a).due ≡ t))
 
--- From power-on, with a Tube or without, after any steps: a break step comes only at the first tick at which it might, from a break of the script on, and at each such.
+-- From power-on, with a Tube or without, after any steps: a break step is done at the first tick,
+-- at or after each break of the script, at which BREAK may begin. No other is done.
 pub record BreaksBegin : Type 0 where
   pub only : (clock : Clock) (roms : Roms) (d0 d1 : Option Image) (script : List Event) (plugs : List Plug) (tube : Bool) (answers : List (Option Answer)) →
       let p : HostState = with_tube tube (power_on clock roms d0 d1 script plugs) in

@@ -1,5 +1,5 @@
--- When a frame is finished, and where the cursor stands, in whole frames of a 6845 whose registers are not written. (6845 data sheet, Vertical
--- Timing and Cursor.)
+-- The ends of frames, and the cursor's position, in whole frames of a 6845 whose registers are not
+-- written. (6845 data sheet, Vertical Timing and Cursor.)
 use Rattle.std.specs.Prelude.{ℕ, zero, suc, ◌+◌, ◌*◌, ◌%◌, ◌==◌, ◌&&◌, ◌≡◌, ◌≤◌, ◌<◌, nat_le, List, if◌then◌else◌}
 use Rattle.crtc6845.specs.State as chip
 use Rattle.crtc6845.specs.Registers.{start_address, cursor_address}
@@ -10,13 +10,14 @@ use Rattle.saa5050.specs.Shapes.{Font}
 use Rattle.raster.specs.State.{State}
 use Rattle.raster.specs.Clock.{char_clock_leaves}
 
--- n character clocks, one after the other, each with the RAM and the screen's size as they are at it
+-- `n` character clocks, one after the other, each with the RAM and the screen's size at its time
 abbrev pub char_clocks : (ℕ → List ℕ) → (ℕ → ℕ) → Font → ℕ → State → State
 char_clocks ram size font zero s = s
 char_clocks ram size font (suc n) s = char_clock_leaves (ram n) (size n) font (char_clocks ram size font n s)
 
--- The finished frame changes in no character clock but one that ends a frame, and becomes the frame that was drawn up to it. From the first
--- clock of a frame on that is the first character of row R7 of each frame, whatever is written to the RAM, and never where there is no row R7.
+-- Only a character clock that ends a frame changes the finished frame. It becomes the frame that
+-- was drawn up to this clock. From the first clock of a frame on, the first character of row R7
+-- ends each frame, whether or not the RAM is written. If there is no row R7, no frame ends.
 pub record FramesFinish : Type 0 where
   pub each : (ram : List ℕ) (size : ℕ) (font : Font) (s : State) →
       (char_clock_leaves ram size font s).finished ≡ (if (beam_of s.crtc).frame_end then s.working else s.finished)
@@ -29,12 +30,14 @@ pub record FramesFinish : Type 0 where
       HaveTheirBits s.crtc.registers → s.crtc.registers.vertical_total < s.crtc.registers.vertical_sync_position → BeginsFrame s.crtc →
       (char_clocks ram size font n s).finished ≡ s.finished
 
--- where a character stands in the screen's memory: past the start address by R1 for each row above it and by one for each character before it
+-- The character's address in the screen's memory: the start address, plus R1 for each row above,
+-- plus one for each character before it in its line.
 abbrev pub place_of : chip.Registers → ℕ → ℕ
 place_of r n = (start_address r + row_at r n * r.horizontal_displayed + column_at r n) % 16384
 
--- From the first clock of a frame on that begins at the start address, the cursor is on each character that is shown and stands at the cursor's
--- address, on the rasters from R10's low five bits to R11, as it blinks; and on no other.
+-- From the first clock of a frame on that begins at the start address, the cursor is on each shown
+-- character at the cursor's address, on the rasters from R10's low five bits to R11, as it blinks.
+-- It is on no other.
 abbrev pub CursorStands : Type 0
 CursorStands =
     (c : chip.State) (n : ℕ) → HaveTheirBits c.registers → BeginsFrame c → c.base ≡ start_address c.registers →

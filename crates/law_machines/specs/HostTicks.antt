@@ -1,6 +1,7 @@
--- How long a sequence of the host takes: an instruction, a reset, an NMI or an IRQ, from its first access to the look behind its last one, or to
--- the break step in place of that look.
--- (MCS6500 Hardware Manual, summary of single cycle execution; BBC Microcomputer Advanced User Guide, the 1 MHz bus.)
+-- The duration of a sequence of the host: an instruction, a reset, an NMI or an IRQ, from its first
+-- access to the look after its last one, or to the break step in place of that look.
+-- (MCS6500 Hardware Manual, summary of single cycle execution; BBC Microcomputer Advanced User
+-- Guide, the 1 MHz bus.)
 use Rattle.std.specs.Prelude.{ℕ, ◌+◌, ◌-◌, ◌*◌, ◌/◌, ◌%◌, ◌||◌, Bool, ◌≡◌, ◌≤◌, ◌<◌, ◌==◌, false, List, [], ◌∷◌, ◌++◌, length, Option, Some, None, is_none, if◌then◌else◌}
 use Rattle.beeb_bits.specs.declared.clock.Clock.{Clock}
 use Rattle.beeb_bits.specs.Clock.{host}
@@ -21,7 +22,7 @@ use Rattle.host_mach.specs.State.{HostState, cycle_of, power_on}
 use Rattle.host_mach.specs.Step.{address, is_break, next_state}
 use Rattle.law_machines.specs.Cycles.{the_cycle}
 
--- steps one after the other, each with what the Tube answers, if it was asked
+-- steps one after the other, each with the Tube's answer, if it was asked
 abbrev pub run : List (Option Answer) → HostState → HostState
 run [] s = s
 run (a ∷ answers) s = run answers (next_state s a)
@@ -31,26 +32,27 @@ abbrev pub cycles : List (Option Answer) → HostState → List Cycle
 cycles [] s = []
 cycles (a ∷ answers) s = the_cycle (next_cycle s.cpu) ++ cycles answers (next_state s a)
 
--- the next step is an access, and neither a look nor a break step
+-- The next step is an access, neither a look nor a break step.
 abbrev pub IsAccess : HostState → Type 0
 IsAccess s = (is_break s ≡ false) × (is_none (next_cycle s.cpu) ≡ false)
 
--- and so is each of these steps
+-- Each of the steps is an access.
 abbrev pub AllAccess : List (Option Answer) → HostState → Type 0
 AllAccess [] s = Unit {0}
 AllAccess (a ∷ answers) s = IsAccess s × AllAccess answers (next_state s a)
 
--- How many cycles an access at tick t waits for the 1 MHz clock, if it does: one where its own is even, and two where it is odd.
+-- The cycles that an access at tick `t` waits for the 1 MHz clock: none if it does not use the 1
+-- MHz bus. Otherwise one if its own cycle is even, and two if it is odd.
 abbrev pub wait : Clock → ℕ → Cycle → ℕ
 wait clock t c = if stretched_in memory_map (address c) then (if t / host clock % 2 == 0 then 1 else 2) else 0
 
--- how many ticks accesses take from tick t on: a cycle each, and what they wait
+-- the ticks of accesses from tick `t` on: one cycle each, and the cycles that they wait
 abbrev pub takes : Clock → ℕ → List Cycle → ℕ
 takes clock t [] = 0
 takes clock t (c ∷ cs) = host clock * (1 + wait clock t c) + takes clock (t + host clock * (1 + wait clock t c)) cs
 
--- From any access on, where the accesses up to the end of its sequence are done, the look, or the break step in its place, is at the last of the
--- ticks that they take, and the next sequence begins behind it.
+-- From any access on, let the accesses up to the end of its sequence be done. The look, or the
+-- break step in its place, is at the last of their ticks, and the next sequence begins after it.
 pub record HostTakes : Type 0 where
   pub look : (s : HostState) (answers : List (Option Answer)) → 0 < length answers → AllAccess answers s → next_cycle (run answers s).cpu ≡ None →
       (run answers s).due + 1 ≡ s.due + takes (clock_of s.bus.bus) s.due (cycles answers s)
@@ -58,21 +60,22 @@ pub record HostTakes : Type 0 where
       0 < length answers → AllAccess answers s → next_cycle (run answers s).cpu ≡ None →
       (next_state (run answers s) answer).due ≡ s.due + takes (clock_of s.bus.bus) s.due (cycles answers s)
 
--- whether tick t is the last of a cycle of n ticks, or else the first
+-- tick `t` is the last of a cycle of `n` ticks if `ends` is set, otherwise the first
 abbrev pub IsAt : Bool → ℕ → ℕ → Type 0
 IsAt ends n t = t % n ≡ (if ends then n - 1 else 0)
 
--- an access is at the first tick of a cycle, and a look or a break step at the last tick of one
+-- An access is at the first tick of a cycle, and a look or a break step at the last one.
 abbrev pub IsOnCycle : HostState → Type 0
 IsOnCycle s = IsAt (is_break s || is_none (next_cycle s.cpu)) (cycle_of s) s.due
 
--- So it is at power-on, and after each step.
+-- This holds at power-on, and after each step.
 pub record HostKeepsCycles : Type 0 where
   pub first : (clock : Clock) (roms : Roms) (d0 d1 : Option Image) (script : List Event) (plugs : List Plug) →
       IsOnCycle (power_on clock roms d0 d1 script plugs)
   pub next : (s : HostState) (answer : Option Answer) → IsOnCycle s → IsOnCycle (next_state s answer)
 
--- An instruction that is over has made at least as many accesses as the table has cycles for its opcode, which is the first byte that it saw.
+-- An instruction that is over has made at least as many accesses as the instruction table has
+-- cycles for its opcode, the first byte that the processor read.
 abbrev pub HostTakesTheTable : Type 0
 HostTakesTheTable =
     (s : HostState) (answers : List (Option Answer)) (op : ℕ) (seen : List (Option ℕ)) (row : Row) →

@@ -1,5 +1,6 @@
--- How long a sequence of the second processor takes: an instruction, a reset, an NMI or an IRQ, from its first access to the look behind its last
--- one. (MCS6500 Hardware Manual, summary of single cycle execution, and the 65C02's data sheet.)
+-- The duration of a sequence of the second processor: an instruction, a reset, an NMI or an IRQ,
+-- from its first access to the look after its last one. (MCS6500 Hardware Manual, summary of single
+-- cycle execution, and the 65C02's data sheet.)
 use Rattle.std.specs.Prelude.{ℕ, ◌+◌, ◌*◌, ◌≡◌, ◌≤◌, ◌<◌, false, List, [], ◌∷◌, ◌++◌, length, Option, Some, None, is_none}
 use Rattle.beeb_bits.specs.Clock.{para}
 use Rattle.op_table.specs.declared.names.Part.TheVariants.{Cmos}
@@ -13,7 +14,7 @@ use Rattle.para_mach.specs.State.{ParaState}
 use Rattle.para_mach.specs.Step.{next_state}
 use Rattle.law_machines.specs.Cycles.{the_cycle}
 
--- steps one after the other, each with what the Tube answers, if it was asked
+-- steps one after the other, each with the Tube's answer, if it was asked
 abbrev pub run : List (Option Answer) → ParaState → ParaState
 run [] s = s
 run (a ∷ answers) s = run answers (next_state s a)
@@ -23,13 +24,14 @@ abbrev pub cycles : List (Option Answer) → ParaState → List Cycle
 cycles [] s = []
 cycles (a ∷ answers) s = the_cycle (next_cycle s.cpu) ++ cycles answers (next_state s a)
 
--- each of the steps is an access, and not a look
+-- Each of the steps is an access, and not a look.
 abbrev pub AllAccess : List (Option Answer) → ParaState → Type 0
 AllAccess [] s = Unit {0}
 AllAccess (a ∷ answers) s = (is_none (next_cycle s.cpu) ≡ false) × AllAccess answers (next_state s a)
 
--- From any access on, where the accesses up to the end of its sequence are done, the look is at the last of the ticks that they take, two each
--- at 3 MHz and three each at 4 MHz, and where the processor is not held the next sequence begins behind it.
+-- From any access on, let the accesses up to the end of its sequence be done. They take two ticks
+-- each at 3 MHz and three at 4 MHz. The look is at the last of these ticks. If the processor is not
+-- held, the next sequence begins after the look.
 pub record ParaTakes : Type 0 where
   pub look : (s : ParaState) (answers : List (Option Answer)) → 0 < length answers → AllAccess answers s → next_cycle (run answers s).cpu ≡ None →
       (run answers s).due + 1 ≡ s.due + para s.bus.clock * length (cycles answers s)
@@ -38,7 +40,8 @@ pub record ParaTakes : Type 0 where
       (next_state (run answers s) answer).bus.is_held ≡ false →
       (next_state (run answers s) answer).due ≡ s.due + para s.bus.clock * length (cycles answers s)
 
--- An instruction that is over has made at least as many accesses as the table has cycles for its opcode, which is the first byte that it saw.
+-- An instruction that is over has made at least as many accesses as the instruction table has
+-- cycles for its opcode, the first byte that the processor read.
 abbrev pub ParaTakesTheTable : Type 0
 ParaTakesTheTable =
     (s : ParaState) (answers : List (Option Answer)) (op : ℕ) (seen : List (Option ℕ)) (row : Row) →

@@ -1,5 +1,6 @@
--- Which frame a shot takes, over whole runs of the host: of the frames that were finished before its tick the last, or a black one. (6845 data sheet,
--- Vertical Timing: a frame is finished where vertical sync begins; the shots of a script are this project's.)
+-- The frame of a shot, over whole runs of the host: the last of those that were finished before its
+-- tick, or a black one. (6845 data sheet, Vertical Timing: vertical sync finishes a frame. The
+-- shots of a script are this project's own.)
 use Rattle.std.specs.Prelude.{ℕ, zero, suc, ◌+◌, ◌-◌, ◌%◌, ◌==◌, ◌&&◌, ◌≡◌, nat_lt, Bool, List, [], ◌∷◌, ◌++◌, map, Option, if◌then◌else◌}
 use Rattle.beeb_bits.specs.declared.clock.Clock.{Clock}
 use Rattle.beeb_bits.specs.Clock.{micro}
@@ -21,45 +22,47 @@ use Rattle.host_mach.specs.State.{HostState, power_on, with_tube}
 use Rattle.host_mach.specs.Step.{host_closed, next_state}
 use Rattle.law_machines.specs.HostTicks.{run}
 
--- A frame, with the tick of the microsecond in which it was finished: a character clock that ends a frame finishes the one that was drawn.
+-- The frame that is finished in a character clock, if one is, with the tick of the microsecond.
 abbrev pub in_clock : ℕ → picture.State → List (ℕ × List ℕ)
 in_clock k s = if (beam_of s.crtc).frame_end then (k, s.working) ∷ [] else []
 
--- in both character clocks of a microsecond, or in its one
+-- in the one or two character clocks of a microsecond
 abbrev pub in_microsecond : ℕ → List ℕ → ℕ → Font → picture.State → List (ℕ × List ℕ)
 in_microsecond k ram size font s = if bit s.ula.control 4 then in_clock k s ++ in_clock k (char_clock_leaves ram size font s) else in_clock k s
 
--- at tick k, if a microsecond comes at it
+-- at tick `k`, if it has a microsecond
 abbrev pub in_tick : Around → ℕ → Moving → List (ℕ × List ℕ)
 in_tick a k m =
     if k % micro a.clock == 0 then in_microsecond k a.ram (screen_size m.devices.latch) a.font m.devices.video else []
 
--- in so many ticks from tick k on
+-- in `n` ticks from tick `k` on
 abbrev pub in_ticks : Around → ℕ → ℕ → Moving → List (ℕ × List ℕ)
 in_ticks a zero k m = []
 in_ticks a (suc n) k m = in_tick a k m ++ in_ticks a n (k + 1) (tick a k m)
 
--- in the ticks below t that are not done yet
+-- in the ticks below `t` that are not done yet
 abbrev pub in_closing : BoardState → ℕ → List (ℕ × List ℕ)
 in_closing b t = in_ticks (around b) (t - b.closed) b.closed (moving_part b)
 
--- The frames that are finished in a run, in their order: in its steps, each of which comes behind its tick, and then up to tick n.
+-- The frames that are finished in a run, in their order: in its steps, each up to its tick, and
+-- then below tick `n`.
 abbrev pub finished_in : List (Option Answer) → HostState → ℕ → List (ℕ × List ℕ)
 finished_in [] s n = in_closing s.bus.bus.board n
 finished_in (a ∷ answers) s n = in_closing s.bus.bus.board (s.due + 1) ++ finished_in answers (next_state s a) n
 
--- the last of them that was finished before tick t, or this one
+-- the last of them that was finished before tick `t`, or `frame` if there is none
 abbrev pub last_before : ℕ → List ℕ → List (ℕ × List ℕ) → List ℕ
 last_before t frame [] = frame
 last_before t frame (f ∷ frames) = last_before t (if nat_lt f.0 t then f.1 else frame) frames
 
--- the ticks below n of a script's shots, in their order
+-- the ticks below `n` of a script's shots, in their order
 abbrev pub shot_ticks : ℕ → List Event → List ℕ
 shot_ticks n [] = []
 shot_ticks n (e ∷ events) = if is_shot e && nat_lt (tick_of e) n then tick_of e ∷ shot_ticks n events else shot_ticks n events
 
--- From power-on, with a Tube or without, after any steps and closed at any tick, the frames that were taken are those of the script's shots so far, of each the last that was
--- finished before its tick.
+-- From power-on, with a Tube or without, after any steps, and closed at any tick: the frames that
+-- were taken are those of the script's shots below this tick. Each is the last one finished before
+-- the shot's tick.
 abbrev pub ShotsAreFinished : Type 0
 ShotsAreFinished =
     (clock : Clock) (roms : Roms) (d0 d1 : Option Image) (script : List Event) (plugs : List Plug) (tube : Bool) (answers : List (Option Answer)) (n : ℕ) →

@@ -1,4 +1,5 @@
-//! Laws of whole machines over whole runs, above the definitions that the crates of the machines have. Nothing stands on this crate.
+//! Laws of whole machines over whole runs, of the definitions in the machines' crates. No crate
+//! depends on this one.
 #![tactic(auto)]
 
 mod lines;

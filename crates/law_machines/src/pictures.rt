@@ -10,14 +10,15 @@ pub fn frames_finish()
     crtc6845::no_sync_beyond_the_rows();
 }
 
-/// Over whole runs of the host a shot takes the last frame that was finished before its tick, or a black one.
+/// Over whole runs of the host, a shot takes the last frame that was finished before its tick, or a
+/// black one.
 pub fn shots_are_finished()
     ensures { ShotsAreFinished }
 {
     frames_finish();
 }
 
-/// The cursor stands at its address.
+/// The cursor is at its address.
 pub fn the_cursor_stands()
     ensures { CursorStands }
 {

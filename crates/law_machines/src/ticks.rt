@@ -1,13 +1,15 @@
-//! How long the sequences of both processors take.
+//! The durations of the sequences of both processors.
 ghost use Rattle.law_machines.specs.HostTicks.{HostTakes, HostKeepsCycles, HostTakesTheTable};
 ghost use Rattle.law_machines.specs.ParaTicks.{ParaTakes, ParaTakesTheTable};
 
-/// A sequence of the host takes as many ticks as a cycle has for each of its cycles, and for one or two more of each access that waits.
+/// A sequence of the host takes the ticks of its cycles, and of one or two more for each access
+/// that waits.
 pub fn host_sequences_take_their_ticks()
     ensures { HostTakes }
 {}
 
-/// Each access of the host is at the first tick of a cycle, and each look and each break step at the last tick of one.
+/// Each access of the host is at the first tick of a cycle, and each look and each break step at
+/// the last one.
 pub fn the_host_keeps_to_its_cycles()
     ensures { HostKeepsCycles }
 {}
@@ -19,12 +21,14 @@ pub fn host_cycles_of_the_table()
     cpu_core::cycles_of_the_table();
 }
 
-/// A sequence of the second processor takes two ticks for each of its cycles at 3 MHz, and three at 4 MHz.
+/// A sequence of the second processor takes two ticks for each of its cycles at 3 MHz, and three at
+/// 4 MHz.
 pub fn para_sequences_take_their_ticks()
     ensures { ParaTakes }
 {}
 
-/// An instruction of the second processor has at least the cycles that the instruction table has for it.
+/// An instruction of the second processor has at least the cycles that the instruction table has
+/// for it.
 pub fn para_cycles_of_the_table()
     ensures { ParaTakesTheTable }
 {

@@ -1,4 +1,4 @@
--- A run that was saved, and the run that goes on from its session file: they are one run.
+-- A run that was saved, and the run resumed from its session file: they are one run.
 use Rattle.std.specs.Prelude.{ℕ, ◌≡◌, ◌≤◌, nat_le, List, [], ◌∷◌, ◌++◌, length, map, take, Some, IfSome, IsTrue, Ok}
 use Rattle.bus_plug.specs.Plug.{Plug}
 use Rattle.rom_set.specs.Roms.{Rom}
@@ -29,28 +29,30 @@ use Rattle.cmd_ended.specs.Save.{saved_of}
 use Rattle.cmd_pair.specs.Solo.{solo_after}
 use Rattle.cmd_session.specs.Session.{state_of, session_after}
 
--- paged ROMs in slots below 16, the lower slots first
+-- Paged ROMs are in slots below 16, in ascending order.
 abbrev pub RiseBySlot : List Rom → Type 0
 RiseBySlot roms = IsTrue (rise_from 0 (map (λ (rom : Rom). rom.slot) roms))
 
--- A run that begins: what the words say of its machines, the files that were read, the devices that were handed in, and both machines at power-on.
+-- The beginning of a run: the words' choice of machines, the files that were read, the devices that
+-- were handed in, and both machines at power-on.
 pub record Begins (set : Setup) (i : Inputs) (plugs : List Plug) (m : HostState × ParaState) : Type 0 where
   pub made : machines_of set i ≡ Ok m
   pub number : set.number ≤ 8
-  -- of the devices the first are plugged, as many as the words say
+  -- The words say how many of the devices are plugged in, the first ones.
   pub plugged : set.plugs ≡ take set.number plugs
   pub roms : RiseBySlot i.roms
   pub keys : IfSome i.keys (λ keys. length keys ≤ 1048576)
 
--- the accesses to the Tube of the reference run of so many ticks
+-- the Tube accesses of the reference run of `n` ticks
 abbrev pub accesses_of : HostState × ParaState → ℕ → List Entry
 accesses_of m n = accesses (reference host_moves para_moves m.0 m.1 n).list
 
--- the session of a run of n ticks, of whose accesses the first `keep` are kept
+-- the session of a run of `n` ticks that keeps its first `keep` accesses
 abbrev pub saved_run : Setup → Inputs → HostState × ParaState → ℕ → ℕ → Session
 saved_run set i m n keep = saved_of (begun set i) n (nat_le (length (accesses_of m n)) keep) (take keep (accesses_of m n))
 
--- The machines of a session of a run are those of the run, where the same devices are handed in; and what is saved of them begins as the run did.
+-- The machines of a session of a run are those of the run, if the same devices are handed in. A
+-- session of these machines begins as the run did.
 abbrev pub MachinesAreMadeAgain : Type 0
 MachinesAreMadeAgain =
     (set : Setup) (i : Inputs) (plugs : List Plug) (n : ℕ) (list : List Entry) →
@@ -59,7 +61,7 @@ MachinesAreMadeAgain =
     let s : Session = record (begun set i) { ticks = n; entries = list } in
     (machines_of (setup_in s plugs) (inputs_in s) ≡ machines_of set i) × (begun (setup_in s plugs) (inputs_in s) ≡ begun set i)
 
--- The session of a run keeps the rules of a session, and its file is read as that session.
+-- The session of a run keeps the rules of a session, and its file reads as that session.
 abbrev pub SavedRunIsRead : Type 0
 SavedRunIsRead =
     (set : Setup) (i : Inputs) (plugs : List Plug) (m : HostState × ParaState) (n keep : ℕ) →
@@ -68,13 +70,13 @@ SavedRunIsRead =
     keep ≤ 4194304 →
     IsSession (saved_run set i m n keep) × (state_of (file_of (saved_run set i m n keep)) ≡ Ok (saved_run set i m n keep))
 
--- What a command comes to is done, and the last of its files has this name and these bytes.
+-- The command ends with `done`, and its last file has this name and these bytes.
 pub record EndsWith (name bytes : List ℕ) (v : Verdict Ending) : Type 0 where
   pub done : v.ending ≡ Done
   pub others : List (List ℕ × List ℕ)
   pub files : v.files ≡ others ++ (name, bytes) ∷ []
 
--- The last file of a run that is to be saved under a name is its session file.
+-- The last file of a run that is saved under a name is its session file.
 abbrev pub SessionIsWritten : Type 0
 SessionIsWritten =
     (set : Setup) (i : Inputs) (m : HostState × ParaState) (n keep : ℕ) (names : Names) (name : List ℕ) →
@@ -82,8 +84,9 @@ SessionIsWritten =
     names.save ≡ Some name →
     (v : Verdict Ending) × (solo_after set n keep names i ≡ Ok v) × EndsWith name (file_of (saved_run set i m n keep)) v
 
--- A run that goes on from the session file of a run, with the same devices, comes to what the run from its beginning comes to, of as many ticks, below, at
--- or above the moment of the session: it is refused nowhere, no answer is wrong and no machine differs.
+-- A run resumed from the session file of a run, with the same devices, yields what an uninterrupted
+-- run of the same number of ticks yields. That number may lie below, at or above the tick of the
+-- session. The resumed run is not refused, no answer is wrong and no machine differs.
 abbrev pub IsOneRun : Setup → Inputs → List Plug → HostState × ParaState → ℕ → ℕ → Type 0
 IsOneRun set i plugs m n keep =
     (ticks kept : ℕ) (names : Names) (j : Inputs) →
@@ -99,9 +102,10 @@ SavedRunIsOneRun =
     keep ≤ 4194304 →
     IsOneRun set i plugs m n keep
 
--- ---- From the words on
+-- ---- From the words
 
--- what a command reads and what its options say, of a run of n ticks of whose accesses the first `keep` are kept: it begins, and goes on from its session file
+-- What a command reads and its options say, for a run of `n` ticks that keeps its first `keep`
+-- accesses: it is the beginning of a run, which can be resumed from its session file.
 abbrev pub GoesOn : Command → ℕ → ℕ → Values → Type 0
 GoesOn c n keep given =
     IsWithin c →
@@ -114,9 +118,10 @@ pub record WordsGoOn : Type 0 where
   pub solo : (ticks : ℕ) (out : List ℕ) (keep : ℕ) (given : Values) → GoesOn (solo ticks out keep given) ticks keep given
   pub run : (ticks : ℕ) (out : List ℕ) (keep : ℕ) (given : Values) → GoesOn (run ticks out keep given) ticks keep given
 
--- ---- From any session file on
+-- ---- From any session file
 
--- A session that a file holds is a run that begins, whoever wrote the file, where its machines can be made.
+-- A session that a file holds is the beginning of a run, whoever wrote the file, if its machines
+-- can be made.
 abbrev pub SessionBegins : Type 0
 SessionBegins =
     (bytes : List ℕ) (s : Session) (plugs : List Plug) (m : HostState × ParaState) →
@@ -125,8 +130,9 @@ SessionBegins =
     machines_of (setup_in s plugs) (inputs_in s) ≡ Ok m →
     Begins (setup_in s plugs) (inputs_in s) plugs m
 
--- A run that goes on from any session file, and is done and saved: it is the run of that session's machines from power-on, of n ticks, the last of its files is the
--- session file of that run, and what goes on from there is one run with it.
+-- A run resumed from any session file, which is done and saved, is the run of `n` ticks of that
+-- session's machines from power-on. The last of its files is the session file of that run, and a
+-- run resumed from it is one run with it.
 pub record IsSavedAgain (s : Session) (plugs : List Plug) (n keep : ℕ) (name : List ℕ) (v : Verdict Ending) : Type 0 where
   pub machines : HostState × ParaState
   pub begins : Begins (setup_in s plugs) (inputs_in s) plugs machines

@@ -1,4 +1,5 @@
--- The words of `solo` and of `run`, and the files that they name: a run that begins, where its machines can be made.
+-- The words of `solo` and `run`, with the files that they name: the beginning of a run, if its
+-- machines can be made.
 use Rattle.std.specs.Prelude.{ℕ, ◌≡◌, List, Ok}
 use Rattle.bus_plug.specs.Plug.{Plug}
 use Rattle.host_mach.specs.State.{HostState}
@@ -14,7 +15,8 @@ use Rattle.cmd_machines.specs.Setup.{setup_of}
 use Rattle.cmd_machines.specs.Machines.{machines_of}
 use Rattle.law_sessions.specs.OneRun.{Begins}
 
--- what a command reads and what its options say is a run that begins, with the devices that were handed in
+-- What a command reads and its options say is the beginning of a run with the devices that were
+-- handed in.
 abbrev pub Begin : Command → Values → Type 0
 Begin c given =
     IsWithin c →

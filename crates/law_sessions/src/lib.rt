@@ -1,5 +1,6 @@
-//! Laws of sessions above the definitions of the commands: a run that is saved, and that goes on from its session file, is one run; and which refusal is
-//! told where several causes hold. Nothing stands on this crate.
+//! Laws of sessions and of refusals, above the definitions of the commands. A run that is saved and
+//! resumed from its session file is one run. If several causes for a refusal hold, one list says
+//! which is reported. No crate depends on this one.
 #![tactic(auto)]
 
 mod machines;

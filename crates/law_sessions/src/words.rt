@@ -1,7 +1,8 @@
-//! The words of `solo` and of `run`.
+//! The words of `solo` and `run`.
 ghost use Rattle.law_sessions.specs.Words.{WordsBegin};
 
-/// What the words of `solo` and of `run` say, and the files that they name, are a run that begins, where its machines can be made.
+/// The words of `solo` and `run`, with the files that they name, are the beginning of a run, if its
+/// machines can be made.
 pub fn words_begin()
     ensures { WordsBegin }
 {}

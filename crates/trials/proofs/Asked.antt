@@ -1,4 +1,4 @@
--- What a machine asks, once it has gone on, is asked for by its next step.
+-- After a machine has advanced, its question is that of its next step.
 use Rattle.std.specs.Prelude.{ℕ, ◌≡◌, ◌≤◌, Option, MatchOption, Some}
 use Rattle.std.proofs.Common.{sym, ◌∙◌, ap, subst, arith}
 use Rattle.beeb_bits.specs.declared.Tick.{Tick}

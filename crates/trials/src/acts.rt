@@ -1,4 +1,4 @@
-//! The host's bus, whose devices lag behind, beside one that is closed and stepped at each tick.
+//! The host's bus, whose devices lag, compared with one that is closed and stepped at each tick.
 use crate::chance::Chance;
 use crate::twins::{Tried, agree};
 use beeb_bits::{Clock, NoMemory, Tick, zeroed};
@@ -39,23 +39,26 @@ at 75000 shot
 at 90000 shot
 ";
 
-// Registers of all devices: the 6845, the serial system and the ULA, the latch, both 6522s, the controller, the converter; and FRED and JIM.
+// Registers of all devices: the 6845, the serial system and the ULA, the latch, both 6522s, the
+// disc controller and the converter; and FRED and JIM.
 const REGISTERS: [u16; 32] = [
     0xfe00, 0xfe01, 0xfe08, 0xfe20, 0xfe21, 0xfe30, 0xfe40, 0xfe41, 0xfe42, 0xfe43, 0xfe44, 0xfe45,
     0xfe48, 0xfe49, 0xfe4b, 0xfe4c, 0xfe4d, 0xfe4e, 0xfe4f, 0xfe60, 0xfe64, 0xfe65, 0xfe68, 0xfe69,
     0xfe6b, 0xfe6e, 0xfe84, 0xfe87, 0xfec0, 0xfec1, 0xfc00, 0xfd00,
 ];
 
-// Registers that small numbers make busy: the 6845's, with those that select one, timers' high bytes, the latch, and the controller's.
+// Registers in which small numbers have effects: the 6845's, those that select one, timers' high
+// bytes, the latch, and the disc controller's.
 const SMALL: [u16; 12] = [
     0xfe00, 0xfe01, 0xfe00, 0xfe40, 0xfe45, 0xfe49, 0xfe65, 0xfe69, 0xfe84, 0xfe87, 0xfec0, 0xfe20,
 ];
 
-// Bytes at places that the small screen shows, the first and the last of them too, and one between its lines.
+// Bytes that the small screen shows, the first and the last among them, and one between its lines.
 const SHOWN: [u16; 6] = [0x5800, 0x5800, 0x5801, 0x5808, 0x5818, 0x5858];
 
-// Registers of the 6845 with a screen of 44 lines of 20 characters, of which the first four lines show three, from 5800 on. Vertical sync begins
-// behind them, so that the frame begins with them: its lines are the 41st and those after it.
+// Registers of the 6845 for a screen of 44 lines of 20 characters. Its first four lines show three
+// characters each, from 5800 on. Vertical sync begins after these lines. The frame has the 41st
+// line after it and later ones, so it begins with these lines.
 pub const SMALL_SCREEN: [(u8, u8); 12] = [
     (0, 19),
     (1, 3),
@@ -81,17 +84,18 @@ pub const SETTINGS: [(u16, u8); 6] = [
     (0xfe44, 0x40),
 ];
 
-/// The first sector is read.
+/// A read of the first sector.
 pub const SECTOR: [(u16, u8); 3] = [(0xfe85, 0), (0xfe86, 1), (0xfe84, 0x80)];
 
-// The microsecond in which its first byte comes, or a few before it.
+// The microsecond of the sector's first byte, or a few before it.
 const FIRST_BYTE: u64 = 21_950;
 
-/// How many acts each seed has.
+/// The number of acts of each seed.
 pub const ACTS: u64 = 250;
 
-// What is done at a tick: a write, a read, a look at both lines, one at the NMI line alone, a write to the RAM behind the closing below its
-// tick, a closing, the steps that a board owes, or a break.
+// An act at a tick: a write, a read, a look at both lines, one at the NMI line alone, a write to
+// the RAM after the bus is closed below the tick, a closing, the steps that a board owes, or a
+// break.
 #[derive(Clone, Copy)]
 enum Act {
     Write(u16, u8),
@@ -109,7 +113,7 @@ fn any_act(chance: &mut Chance) -> Act {
         0 | 1 => Act::Look,
         2 => Act::Rises,
         3 => Act::Read(chance.among(&REGISTERS)),
-        // So that interrupts are asked for again.
+        // Clears flags, so that interrupts are asked for again.
         4 => Act::Write(chance.among(&[0xfe4d, 0xfe6d]), 0x7f),
         5 => Act::Write(chance.memory(), chance.byte()),
         6 => Act::Write(chance.among(&SHOWN), chance.byte()),
@@ -126,7 +130,8 @@ fn any_act(chance: &mut Chance) -> Act {
     }
 }
 
-// Whether an act may move the small screen: a write to the 6845 or to the ULA's control byte.
+// Returns true if an act may move the small screen: a write to the 6845 or to the ULA's control
+// byte.
 fn moves_screen(act: Act) -> bool {
     match act {
         Act::Write(at, _) => at / 8 == 0x1fc0 || at / 8 == 0x1fc4 && at % 2 == 0,
@@ -134,7 +139,7 @@ fn moves_screen(act: Act) -> bool {
     }
 }
 
-// An act, which may leave the screen where it is.
+// Chooses an act that does not move the screen, if `keeps` is set.
 fn act_of(chance: &mut Chance, keeps: bool) -> Act {
     let act = any_act(chance);
     if keeps && moves_screen(act) {
@@ -144,7 +149,7 @@ fn act_of(chance: &mut Chance, keeps: bool) -> Act {
     }
 }
 
-// How many ticks pass up to the next act: mostly few, and at times many.
+// Chooses the ticks up to the next act: mostly few, and at times many.
 fn wait(chance: &mut Chance) -> u64 {
     let most = match chance.below(16) {
         0 => 6_000,
@@ -155,7 +160,8 @@ fn wait(chance: &mut Chance) -> u64 {
     u64::from(chance.below(most))
 }
 
-// The script and the size of a ROM are arguments so that no proof writes the lists out.
+// Makes a bus. The script and the size of a ROM are arguments, so that no proof writes the lists
+// out.
 fn bus(alloc: Global, clock: Clock, script: &[u8], size: usize) -> Result<Bus, NoMemory> {
     let os = zeroed(alloc, size)?;
     let Ok(roms) = RomSet::read(os, Vec::new(alloc), None) else {
@@ -182,8 +188,8 @@ fn bus(alloc: Global, clock: Clock, script: &[u8], size: usize) -> Result<Bus, N
     )
 }
 
-// Does it at a tick, and tells the byte that is read, or how often the NMI line rose, and whether an interrupt is asked for. None where its tick
-// is past.
+// Does an act at tick `t`. Returns the byte that is read, or the number of rises of the NMI line,
+// and true if an interrupt is asked for. Returns `None` if the tick is past.
 fn told(bus: &mut Bus, t: u64, act: Act) -> Option<(u64, bool)> {
     let t = t % (1 << 40);
     if bus.closed() > t {
@@ -210,7 +216,7 @@ fn told(bus: &mut Bus, t: u64, act: Act) -> Option<(u64, bool)> {
     Some((byte, false))
 }
 
-// Whether both frames are there, with the same colours.
+// Returns true if both frames exist and have the same colours.
 fn are_alike(one: Option<&Frame>, other: Option<&Frame>) -> bool {
     match (one, other) {
         (Some(frame), Some(same)) => frame.colours.iter().eq(same.colours.iter()),
@@ -218,7 +224,7 @@ fn are_alike(one: Option<&Frame>, other: Option<&Frame>) -> bool {
     }
 }
 
-// Both buses. As far as `calm` the lines of the second are these.
+// Both buses. Up to `calm`, the second one's lines are `lines`.
 #[derive(Drop)]
 struct Both<'a> {
     lagging: &'a mut Bus,
@@ -229,8 +235,8 @@ struct Both<'a> {
 }
 
 impl Both<'_> {
-    // Closes and steps the second at each tick up to this one, and answers whether its lines stay as the first was sure that they do. A read of
-    // the 6845 each six ticks has the picture drawn too.
+    // Closes and steps the second bus at each tick up to `t`. Returns true if its lines stay as the
+    // first bus guaranteed. Every sixth tick it reads the 6845, which also draws the picture.
     fn step(&mut self, t: u64) -> bool {
         let t = t % (1 << 40);
         let mut stay = true;
@@ -246,7 +252,7 @@ impl Both<'_> {
         stay
     }
 
-    // Does an act at both, and answers whether both tell the same.
+    // Does an act on both buses. Returns true if both give the same result.
     fn agree(&mut self, t: u64, act: Act) -> bool {
         let stay = self.step(t);
         let one = told(self.lagging, t, act);
@@ -256,7 +262,7 @@ impl Both<'_> {
         stay && is_same
     }
 
-    // Whether both have the same some frames later.
+    // Returns true if both are the same some frames later.
     fn come_to_the_same(&mut self) -> bool {
         let t = self.stepped.closed().wrapping_add(20_000);
         let stay = self.step(t);
@@ -279,7 +285,7 @@ impl Both<'_> {
             && self.lagging.sound() == self.stepped.sound()
     }
 
-    // The next tick, or one about the end of what the first is sure of.
+    // Chooses the next tick, or one near the end of the first bus's guarantee.
     fn near_calm(&self, chance: &mut Chance) -> u64 {
         let next = self.stepped.closed();
         let t = self
@@ -293,7 +299,7 @@ impl Both<'_> {
         }
     }
 
-    // When the next act is.
+    // Chooses the tick of the next act.
     fn next(&self, chance: &mut Chance) -> u64 {
         if chance.once_in(8) {
             self.near_calm(chance)
@@ -302,7 +308,7 @@ impl Both<'_> {
         }
     }
 
-    // Whether both agree on so many acts.
+    // Returns true if both agree on `acts` random acts.
     fn agree_by_chance(&mut self, chance: &mut Chance, keeps: bool, acts: u64) -> bool {
         for _ in 0..acts {
             let t = self.next(chance);
@@ -314,7 +320,7 @@ impl Both<'_> {
         true
     }
 
-    // Whether both agree from their beginning on, and come to the same.
+    // Returns true if both agree from their beginning on, and end the same.
     fn agree_on(&mut self, chance: &mut Chance, lists: Lists<'_>, acts: u64) -> bool {
         let screen = !chance.once_in(4);
         let keeps = screen && chance.once_in(2);
@@ -333,7 +339,7 @@ impl Both<'_> {
         self.agree(t, act)
     }
 
-    // Whether both agree on these writes.
+    // Returns true if both agree on the writes.
     fn agree_on_writes(&mut self, writes: &[(u16, u8)]) -> bool {
         for (at, v) in writes {
             if !self.agree_next(Act::Write(*at, *v)) {
@@ -343,7 +349,7 @@ impl Both<'_> {
         true
     }
 
-    // Whether both agree on a palette of many colours.
+    // Returns true if both agree on a palette of many colours.
     fn set_palette(&mut self) -> bool {
         for entry in 0..16u8 {
             if !self.agree_next(Act::Write(0xfe21, entry.wrapping_mul(17))) {
@@ -353,14 +359,14 @@ impl Both<'_> {
         true
     }
 
-    // Whether both agree about when a sector that is read has its first byte.
+    // Returns true if both agree at about the first byte of a sector that is read.
     fn see_first_byte(&mut self, chance: &mut Chance) -> bool {
         let first = self.micro.wrapping_mul(FIRST_BYTE);
         let t = first.wrapping_add(u64::from(chance.below(200)));
         self.agree(t, Act::Look)
     }
 
-    // Whether both agree on a screen's registers.
+    // Returns true if both agree on a screen's registers.
     fn set_screen(&mut self, registers: &[(u8, u8)]) -> bool {
         for (register, v) in registers {
             if !self.agree_on_writes(&[(0xfe00, *register), (0xfe01, *v)]) {
@@ -371,19 +377,19 @@ impl Both<'_> {
     }
 }
 
-/// What both buses begin with: the script, the settings, the screen's registers and the reading of a sector. They are handed in so that no long
-/// proof writes them out.
+/// The beginning of both buses: the script, the settings, the screen's registers and the read of a
+/// sector. They are arguments, so that no long proof writes them out.
 #[derive(Clone, Copy)]
 pub struct Lists<'a> {
     pub script: &'a [u8],
     pub settings: &'a [(u16, u8)],
     pub screen: &'a [(u8, u8)],
     pub sector: &'a [(u16, u8)],
-    /// The bytes of a ROM.
+    /// The number of bytes of a ROM.
     pub size: usize,
 }
 
-// What both buses begin with, and how many acts they are tried by.
+// The beginning of both buses, and the number of acts to try.
 #[derive(Clone, Copy)]
 struct Course<'a> {
     clock: Clock,
@@ -414,7 +420,7 @@ impl Tried<Course<'_>> for Bus {
     }
 }
 
-/// Whether both buses agree on so many acts of a seed, and come to the same behind them.
+/// Returns true if both buses agree on `acts` acts of a seed, and are the same after them.
 pub fn agrees(alloc: Global, seed: u64, acts: u64, lists: Lists<'_>) -> Result<bool, NoMemory> {
     let mut chance = Chance::new(seed, 3);
     let clock = chance.clock();

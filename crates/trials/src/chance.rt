@@ -1,4 +1,4 @@
-//! Numbers that look like chance.
+//! Pseudo-random numbers.
 ghost use Rattle.std.specs.Prelude.{◌<◌};
 
 use beeb_bits::Clock;
@@ -12,7 +12,7 @@ pub struct Chance {
 }
 
 impl Chance {
-    /// Each kind of trial has a stream of its own.
+    /// Makes the generator of a seed. Each kind of trial has a stream of its own.
     pub fn new(seed: u64, stream: u64) -> Chance {
         Chance {
             words: Lcg64Xsh32::new(seed, stream),
@@ -27,19 +27,19 @@ impl Chance {
         (self.word() % 256) as u8
     }
 
-    /// A number below `n`, or 0.
+    /// Returns a number below `n`, or 0.
     pub fn below(&mut self, n: u32) -> u32
         ensures { 0 < n → result < n }
     {
         if n == 0 { 0 } else { self.word() % n }
     }
 
-    /// True once in `n` times.
+    /// Returns true once in `n` times.
     pub fn once_in(&mut self, n: u32) -> bool {
         self.below(n) == 0
     }
 
-    /// One of some addresses.
+    /// Returns one of the addresses.
     pub fn among(&mut self, addresses: &[u16]) -> u16 {
         let place = self.word() as usize;
         if addresses.is_empty() {
@@ -56,7 +56,7 @@ impl Chance {
         }
     }
 
-    /// An address below 8000.
+    /// Returns an address below 8000.
     pub fn memory(&mut self) -> u16 {
         (self.word() % 0x8000) as u16
     }

@@ -1,12 +1,13 @@
 //! Images of random programs.
 //!
-//! The first 1,024 bytes of an image stand in it again and again: 256 bytes that begin with the way into the program, two pages of instructions, and
-//! a page of addresses, which becomes the zero page and the stack.
+//! The first 1,024 bytes of an image are repeated up to its end: 256 bytes that begin with the
+//! program's entry code, two pages of instructions, and a page of addresses, which becomes the zero
+//! page and the stack.
 use crate::chance::Chance;
 use op_table::{Mnemonic, Mode, Part, Row, cmos, nmos};
 use std::alloc::{AllocError, Global};
 
-/// Where pages or devices begin and end, or memory wraps.
+/// The addresses at which pages or devices begin and end, or memory wraps.
 pub const EDGES: [u16; 40] = [
     0x0000, 0x0001, 0x00fe, 0x00ff, 0x0100, 0x01fe, 0x01ff, 0x0200, 0x02ff, 0x7ffe, 0x7fff, 0x8000,
     0xbfff, 0xc000, 0xf7ff, 0xf800, 0xf8ff, 0xfbfe, 0xfbff, 0xfc00, 0xfdff, 0xfe00, 0xfe01, 0xfe21,
@@ -14,7 +15,8 @@ pub const EDGES: [u16; 40] = [
     0xff00, 0xfffa, 0xfffe, 0xffff,
 ];
 
-/// What a program's instructions name: where its image begins, and the page of the RAM that has its second page of instructions too.
+/// The addresses in a program's instructions: the image's beginning, and the RAM page that also has
+/// the second page of instructions.
 #[derive(Clone, Copy)]
 pub struct Place {
     pub part: Part,
@@ -22,7 +24,7 @@ pub struct Place {
     pub page: u16,
 }
 
-/// Writes bytes from a place on, as far as there is room.
+/// Writes bytes from `start` on, as far as there is room.
 pub fn put(bytes: &mut [u8], start: usize, part: &[u8]) {
     for (i, byte) in part.iter().enumerate() {
         if let Some(at) = bytes.get_mut(start.wrapping_add(i)) {
@@ -31,12 +33,12 @@ pub fn put(bytes: &mut [u8], start: usize, part: &[u8]) {
     }
 }
 
-/// The low byte and the high byte.
+/// Returns the low byte and the high byte.
 pub fn halves(address: u16) -> [u8; 2] {
     [(address % 256) as u8, (address / 256) as u8]
 }
 
-/// The instruction of an opcode.
+/// Returns the instruction of an opcode.
 pub fn row_at(part: Part, op: u8) -> Option<Row> {
     match part {
         Part::Nmos => nmos(op),
@@ -45,7 +47,7 @@ pub fn row_at(part: Part, op: u8) -> Option<Row> {
 }
 
 impl Place {
-    // An edge, or a little below one, so that an index comes there.
+    // Chooses an edge, or an address a little below one, so that an index reaches it.
     fn edge(self, chance: &mut Chance) -> u16 {
         let at = chance.among(&EDGES);
         match chance.below(4) {
@@ -55,7 +57,7 @@ impl Place {
         }
     }
 
-    // Somewhere in the instructions, of the image or of the page in the RAM.
+    // Chooses an address in the instructions, of the image or of the page in the RAM.
     fn code(self, chance: &mut Chance) -> u16 {
         let from = if chance.once_in(2) {
             self.page
@@ -73,7 +75,7 @@ impl Place {
         }
     }
 
-    // Where a jump goes: mostly to instructions.
+    // Chooses a jump's target: mostly instructions.
     fn target(self, chance: &mut Chance) -> u16 {
         if chance.once_in(16) {
             self.edge(chance)
@@ -82,7 +84,7 @@ impl Place {
         }
     }
 
-    // An opcode, mostly with an instruction.
+    // Chooses an opcode, mostly one with an instruction.
     fn opcode(self, chance: &mut Chance) -> u8 {
         if chance.once_in(1024) {
             return chance.byte();
@@ -96,13 +98,14 @@ impl Place {
         0xea
     }
 
-    // The bytes behind an opcode. Most that stand for themselves are opcodes too, for a jump into the middle of an instruction.
+    // Chooses the bytes after an opcode. Most of those that are no addresses are opcodes too, for a
+    // jump into the middle of an instruction.
     fn operand(self, chance: &mut Chance, op: u8) -> [u8; 2] {
         let Some(row) = row_at(self.part, op) else {
             return [0xea, 0xea];
         };
         match row.mode {
-            // mostly a short way
+            // Most branches are short.
             Mode::Rel if chance.once_in(4) => [chance.byte(), 0xea],
             Mode::Rel => [chance.byte() % 16, 0xea],
             Mode::Abs => match row.mnemonic {
@@ -121,7 +124,7 @@ impl Place {
         }
     }
 
-    // Instructions up to a place.
+    // Fills the bytes below `end` with instructions.
     fn fill(self, chance: &mut Chance, bytes: &mut [u8], end: usize) {
         let mut at = 0;
         for _ in 0..end {
@@ -139,7 +142,8 @@ impl Place {
         }
     }
 
-    // The way into the program: copies of the pages, so that all of it stands in RAM where the image is not ROM for good, and its registers.
+    // Writes the program's entry code. It copies the pages, so that all of them are in RAM if the
+    // image can be switched out, and sets the registers.
     fn way_in(self, chance: &mut Chance, bytes: &mut [u8]) {
         let base = halves(self.base)[1];
         let page = halves(self.page)[1];
@@ -151,7 +155,7 @@ impl Place {
         put(bytes, 8, &[0xbd, 0, last, 0x95, 0, 0x9d, 0, 1]);
         // 0200 to the page and in place
         put(bytes, 16, &[0xbd, 0, third, 0x9d, 0, page, 0x9d, 0, third]);
-        // the way in itself, and the vectors
+        // the entry code itself, and the vectors
         put(bytes, 25, &[0xbd, 0, base, 0x9d, 0, base]);
         put(bytes, 31, &[0xbd, 0, 0xff, 0x9d, 0, 0xff]);
         // INX, BNE
@@ -179,12 +183,12 @@ impl Place {
         put(bytes, 53, &[0x4c, to[0], to[1]]);
     }
 
-    // The bytes that an image repeats.
+    // Makes the bytes that an image repeats.
     fn pages(self, alloc: Global, chance: &mut Chance) -> Result<Vec<u8>, AllocError> {
         let mut bytes = vec![in alloc; 0; 1024]?;
         self.fill(chance, &mut bytes, 0x300);
         self.way_in(chance, &mut bytes);
-        // behind the last instruction, JMP to the first
+        // after the last instruction, JMP to the first
         let again = halves(self.base)[1].wrapping_add(1);
         put(&mut bytes, 0x2fd, &[0x4c, 0, again]);
         for i in 0..128usize {
@@ -193,7 +197,7 @@ impl Place {
         Ok(bytes)
     }
 
-    /// An image of so many bytes, up to the address FFFF.
+    /// Makes an image of `size` bytes that ends at address FFFF.
     pub fn image(
         self,
         alloc: Global,

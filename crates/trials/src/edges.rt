@@ -1,5 +1,5 @@
-//! Each opcode of both parts with its operand at each edge, and itself, its pointer and its stack often at one; with interrupts, resets and breaks
-//! behind any tick of it.
+//! Each opcode of both processors with its operand at each edge, and often with the instruction,
+//! its pointer or its stack at one. Interrupts, resets and breaks come after any tick of it.
 use crate::chance::Chance;
 use crate::code::{EDGES, halves, row_at};
 use crate::host::Host;
@@ -12,7 +12,7 @@ use op_table::{Mnemonic, Mode, Part};
 use para_mach::ParaMachine;
 use std::alloc::Global;
 
-// Bytes about the ends of a page, of the zero page and of the stack.
+// Bytes near the ends of a page, of the zero page and of the stack.
 const ENDS: [u8; 8] = [0x00, 0x01, 0x7f, 0x80, 0x81, 0xfd, 0xfe, 0xff];
 
 fn any_byte(chance: &mut Chance) -> u8 {
@@ -24,7 +24,8 @@ fn any_byte(chance: &mut Chance) -> u8 {
     }
 }
 
-// Where an instruction begins: in the RAM, in the stack, or with its first byte or its last one at an edge.
+// Chooses the instruction's address: in the RAM, in the stack, or with its first or last byte at an
+// edge.
 fn any_place(chance: &mut Chance) -> u16 {
     match chance.below(4) {
         0 => 0x0100 + u16::from(chance.byte()),
@@ -35,7 +36,7 @@ fn any_place(chance: &mut Chance) -> u16 {
     }
 }
 
-// Registers with which it sets out. In the stack it is mostly where pushes go.
+// Chooses the registers at its beginning. If it is in the stack, pushes mostly reach it.
 fn any_registers(chance: &mut Chance) -> Regs {
     let pc = any_place(chance);
     let s = if pc / 256 == 1 && !chance.once_in(4) {
@@ -53,7 +54,7 @@ fn any_registers(chance: &mut Chance) -> Regs {
     }
 }
 
-// An instruction with these registers, whose operand is at an edge, by a pointer where it has one.
+// An instruction with its registers. Its operand is at an edge, through a pointer if it has one.
 #[derive(Clone, Copy)]
 struct Case {
     part: Part,
@@ -64,7 +65,7 @@ struct Case {
 }
 
 impl Case {
-    // The bytes behind the opcode that bring the operand to the edge.
+    // Returns the bytes after the opcode that bring the operand to the edge.
     fn operand(&self, mode: Mode) -> u16 {
         let x = u16::from(self.r.x);
         let y = u16::from(self.r.y);
@@ -89,7 +90,7 @@ impl Case {
         setting.place(u16::from(self.pointer.wrapping_add(1)), &[to[1]]);
     }
 
-    // What RTS or RTI pulls.
+    // Writes the bytes that RTS or RTI pulls.
     fn place_stack(&self, mnemonic: Mnemonic, setting: &mut Setting) {
         let to = halves(self.edge);
         let pulled = match mnemonic {
@@ -103,7 +104,7 @@ impl Case {
         }
     }
 
-    // The instruction, another by chance, INX, and a JMP to that.
+    // Writes the instruction, a random one, INX, and a JMP to the random one.
     fn place_code(&self, chance: &mut Chance, bytes: u8, operand: u16, setting: &mut Setting) {
         let operand = halves(operand);
         let code = [self.op, operand[0], operand[1]];
@@ -125,7 +126,7 @@ impl Case {
         );
     }
 
-    // All that stands in memory for it.
+    // Writes all memory that the instruction uses.
     fn place(&self, chance: &mut Chance, setting: &mut Setting) {
         match row_at(self.part, self.op) {
             None => self.place_code(chance, 1, 0, setting),
@@ -140,7 +141,8 @@ impl Case {
     }
 }
 
-// LDA #7F, STA FE4E, LDA #C0, STA FE4E, LDA #, STA FE44, LDA #0, STA FE45: timer 1 of the system's 6522 asks for an IRQ some microseconds later.
+// LDA #7F, STA FE4E, LDA #C0, STA FE4E, LDA #, STA FE44, LDA #0, STA FE45: timer 1 of the system's
+// 6522 asks for an IRQ some microseconds later.
 fn start_timer(count: u8) -> [u8; 20] {
     [
         0xa9, 0x7f, 0x8d, 0x4e, 0xfe, 0xa9, 0xc0, 0x8d, 0x4e, 0xfe, 0xa9, count, 0x8d, 0x44, 0xfe,
@@ -148,16 +150,17 @@ fn start_timer(count: u8) -> [u8; 20] {
     ]
 }
 
-// LDA #29, STA FE80, LDA #0, STA FE85, LDA #1, STA FE86, LDA #80, STA FE84: a sector is read, and each byte asks for an NMI.
+// LDA #29, STA FE80, LDA #0, STA FE85, LDA #1, STA FE86, LDA #80, STA FE84: a sector is read, and
+// each byte asks for an NMI.
 const READ_SECTOR: [u8; 20] = [
     0xa9, 0x29, 0x8d, 0x80, 0xfe, 0xa9, 0x00, 0x8d, 0x85, 0xfe, 0xa9, 0x01, 0x8d, 0x86, 0xfe, 0xa9,
     0x80, 0x8d, 0x84, 0xfe,
 ];
 
-// The first microsecond in which a byte of it may come; one comes each 64.
+// The first microsecond at which a byte of the sector may come. One comes every 64.
 const FIRST_BYTE: u64 = 21_900;
 
-// The way in to a host's program goes through code behind it, which begins a device.
+// Puts code that starts a device before a host's program: the entry code jumps to `code`.
 fn enter_by(setting: &mut Setting, r: &Regs, code: &[u8]) {
     let to = halves(r.pc);
     setting.patch(0xf000, code);
@@ -168,10 +171,10 @@ fn enter_by(setting: &mut Setting, r: &Regs, code: &[u8]) {
     setting.enter(&Regs { pc: 0xf000, ..*r });
 }
 
-// How many cycles a case has.
+// The number of cycles of a case.
 const CYCLES: u32 = 130;
 
-// In how many of them lines may begin to turn, or a break comes.
+// The number of these cycles in which lines may begin to change, or a break may come.
 const ASKED: u32 = 36;
 
 fn cycle_of(part: Part, clock: Clock) -> u64 {
@@ -181,7 +184,7 @@ fn cycle_of(part: Part, clock: Clock) -> u64 {
     }
 }
 
-// The course of a case.
+// Makes the course of a case.
 fn course(alloc: Global, chance: &mut Chance, case: Case) -> Result<Course, NoMemory> {
     let clock = chance.clock();
     let mut setting = Setting::new(alloc, case.part)?;
@@ -224,7 +227,7 @@ fn course(alloc: Global, chance: &mut Chance, case: Case) -> Result<Course, NoMe
     })
 }
 
-// The script of a break at a tick.
+// Returns the script of a break at a tick.
 fn break_at(alloc: Global, tick: u64) -> Result<Vec<u8>, NoMemory> {
     let Ok(text) = format!(in alloc; "at {tick} break\n") else {
         return Err(NoMemory);
@@ -232,7 +235,8 @@ fn break_at(alloc: Global, tick: u64) -> Result<Vec<u8>, NoMemory> {
     Ok(text.as_bytes().to_vec(alloc)?)
 }
 
-/// Whether the case of a seed comes to the same by both roads. So many seeds as there are opcodes of both parts and edges have each of both.
+/// Returns true if both runs of a seed's case end the same. 20,480 successive seeds have each
+/// opcode of both processors and each edge.
 pub fn agrees(alloc: Global, seed: u64) -> Result<bool, NoMemory> {
     let mut chance = Chance::new(seed, 4);
     let part = if seed % 2 == 0 {
@@ -245,7 +249,7 @@ pub fn agrees(alloc: Global, seed: u64) -> Result<bool, NoMemory> {
     let case = Case {
         part,
         op: (seed / 2 % 256) as u8,
-        // the instruction itself at times
+        // at times the instruction itself
         edge: if chance.once_in(8) {
             r.pc.wrapping_add((chance.below(4) % 4) as u16)
         } else {

@@ -27,7 +27,7 @@ at 92000 adc 2 1234
 at 94000 down 23
 ";
 
-// A break, after which a halted processor goes on too.
+// A break, after which a halted processor runs again too.
 const BREAK: &[u8] = b"at 48000 break\n";
 
 const BREAK_AT_4: &[u8] = b"at 93000 break\n";
@@ -46,7 +46,7 @@ fn a_break(clock: Clock) -> &'static [u8] {
     }
 }
 
-// What happens in the course of a program.
+// Chooses the script of a program.
 fn events(chance: &mut Chance, clock: Clock) -> &'static [u8] {
     match chance.below(8) {
         0 => &[],
@@ -55,7 +55,7 @@ fn events(chance: &mut Chance, clock: Clock) -> &'static [u8] {
     }
 }
 
-// A disc, where a course has one.
+// Returns the disc of a course, or `None` if it has none.
 fn disc_of(alloc: Global, course: &Course) -> Result<Option<Disc>, NoMemory> {
     if !course.has_disc {
         return Ok(None);
@@ -64,10 +64,10 @@ fn disc_of(alloc: Global, course: &Course) -> Result<Option<Disc>, NoMemory> {
     Ok(Disc::make(alloc, Kind::Ssd, bytes).ok())
 }
 
-/// The host as a party that notes nothing. No device is plugged in.
+/// The host as a party without notes. No device is plugged in.
 pub type Host = Forward<HostMachine<RamCard>>;
 
-// A machine of a course, with its image as the operating system and as the ROM in slot 0.
+// Makes the host of a course, with its image as the operating system and as the ROM in slot 0.
 fn machine(alloc: Global, course: &Course) -> Result<HostMachine<RamCard>, NoMemory> {
     let disc = disc_of(alloc, course)?;
     let Ok(slots) = vec![in alloc; (0, course.image.to_vec(alloc)?)] else {
@@ -83,7 +83,7 @@ fn machine(alloc: Global, course: &Course) -> Result<HostMachine<RamCard>, NoMem
     HostMachine::make(alloc, course.clock, roms, disc, None, script, plugs)
 }
 
-// The same machine as one that notes nothing. Generic, as `agree` is.
+// Makes the same machine as one without notes. Generic, like `agree`.
 fn forward<P: Party>(made: Result<P, NoMemory>) -> Result<Forward<P>, NoMemory> {
     Ok(Forward { party: made? })
 }
@@ -113,7 +113,7 @@ impl Stands for Host {
     }
 }
 
-/// Whether a program of a seed comes to the same by both roads.
+/// Returns true if both runs of a seed's program end the same.
 pub fn agrees(alloc: Global, seed: u64) -> Result<bool, NoMemory> {
     let mut chance = Chance::new(seed, 2);
     let clock = chance.clock();

@@ -1,9 +1,12 @@
-//! Trials by chance: what is done quickly beside the same one step after another, on random programs and acts.
+//! Random trials: fast execution is compared with execution step by step, on random programs and
+//! acts.
 //!
-//! `trials 65c02 SEED COUNT`: so many programs of the second processor, by whole instructions and cycle by cycle. `trials 6502 SEED COUNT`: the
-//! same of the host. `trials edges SEED COUNT`: instructions of both at edges, and lines that turn about them. `trials acts SEED COUNT`: so many
-//! acts on the host's bus, whose devices lag behind, and on one that is closed at each tick. `trials all SEED COUNT`: all four, with ten times as
-//! many edges and acts. The status is 0 where nothing differs, else 1.
+//! `trials 65c02 SEED COUNT`: COUNT programs of the second processor, by whole instructions and
+//! cycle by cycle. `trials 6502 SEED COUNT`: the same for the host. `trials edges SEED COUNT`:
+//! instructions of both at edges, with lines that change near them. `trials acts SEED COUNT`: COUNT
+//! acts on the host's bus, whose devices lag, and on one that is closed at each tick. `trials all
+//! SEED COUNT`: all four, with ten times as many edges and acts. The status is 0 if nothing
+//! differs, otherwise 1.
 #![tactic(auto)]
 
 mod acts;
@@ -22,7 +25,7 @@ use std::env;
 use std::process::ExitCode;
 use std::rt::Env;
 
-// What is tried.
+// The kind of a trial.
 #[derive(Clone, Copy)]
 enum Kind {
     Second,
@@ -40,7 +43,7 @@ fn name_of(kind: Kind) -> &'static str {
     }
 }
 
-// How a row of trials ends.
+// The result of several trials.
 #[derive(Clone, Copy)]
 enum Ended {
     Same,
@@ -56,7 +59,7 @@ const LISTS: acts::Lists<'static> = acts::Lists {
     size: 16_384,
 };
 
-// Whether what is tried for a seed comes to the same.
+// Returns true if the runs of a seed agree.
 fn agrees(alloc: Global, kind: Kind, seed: u64, left: u64) -> Result<bool, NoMemory> {
     match kind {
         Kind::Second => second::agrees(alloc, seed),
@@ -66,7 +69,7 @@ fn agrees(alloc: Global, kind: Kind, seed: u64, left: u64) -> Result<bool, NoMem
     }
 }
 
-// So many trials, from a seed on.
+// Does `count` trials, from `seed` on.
 fn trials(alloc: Global, kind: Kind, seed: u64, count: u64) -> Ended {
     let mut left = count;
     for i in 0..count {
@@ -86,7 +89,7 @@ fn trials(alloc: Global, kind: Kind, seed: u64, count: u64) -> Ended {
     Ended::Same
 }
 
-// Does them and says how they end. True where nothing differs.
+// Does the trials and prints their result. Returns true if nothing differs.
 fn tried<R: Print>(rt: &R, alloc: Global, kind: Kind, seed: u64, count: u64) -> bool {
     let name = name_of(kind);
     let ended = trials(alloc, kind, seed, count);
@@ -98,10 +101,10 @@ fn tried<R: Print>(rt: &R, alloc: Global, kind: Kind, seed: u64, count: u64) -> 
     said.is_ok() && matches!(ended, Ended::Same)
 }
 
-// What the words ask for.
+// The request of the command's words.
 #[derive(Clone, Copy)]
 struct Request {
-    // None for all.
+    // `None` for all.
     kind: Option<Kind>,
     seed: u64,
     count: u64,
@@ -124,7 +127,7 @@ fn read_words<R: Env + AllocGlobal>(rt: &R) -> Option<Request> {
     Some(Request { kind, seed, count })
 }
 
-// Whether nothing differs in what is asked for.
+// Carries out a request. Returns true if nothing differs.
 fn carried_out<R: Print>(rt: &R, alloc: Global, request: Request) -> bool {
     let Request { kind, seed, count } = request;
     if let Some(kind) = kind {

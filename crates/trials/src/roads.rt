@@ -1,4 +1,5 @@
-//! One machine by two roads: with horizons far away, as it does whole instructions, and with one at each tick.
+//! Two runs of one machine: in whole instructions with far horizons, and with a horizon at each
+//! tick.
 ghost use Rattle.std.specs.Prelude.{◌≤◌, ◌^◌};
 
 use crate::chance::Chance;
@@ -11,23 +12,24 @@ use std::alloc::Global;
 use tube_chip::{Answer, Lines, Op};
 use tube_party::{Ask, Closed, MOST, NO_LINES, Party, Rewinds};
 
-// A Tube that answers by chance: bytes to accesses, of which it keeps a sum, and lines that stay as they are for a while.
+// A Tube with random answers: bytes to accesses, of which it keeps a sum, and lines that stay the
+// same for a while.
 #[derive(Drop)]
 struct Tube {
     answers: Chance,
     accesses: u64,
     sum: u64,
-    // None before this tick.
+    // No line is asserted before this tick.
     from: u64,
-    // Lines stay for so many ticks.
+    // The lines stay for this number of ticks.
     stay: u64,
-    // Of the lines, these are driven.
+    // The lines that are driven.
     drives: u64,
     turn: u64,
 }
 
 impl Tube {
-    // The same seed answers the same.
+    // Makes the Tube of a seed. The same seed gives the same answers.
     fn new(seed: u64, from: u64) -> Tube {
         let mut answers = Chance::new(seed, 7);
         let stay = 4_u64 << answers.below(10);
@@ -69,7 +71,7 @@ impl Tube {
         self.answers.byte()
     }
 
-    // In which stay of lines a tick is.
+    // Returns the number of the period of equal lines that has tick `t`.
     fn number(&self, t: u64) -> u64 {
         let since = t.saturating_sub(self.from);
         if self.stay == 0 { 0 } else { since / self.stay }
@@ -99,7 +101,7 @@ impl Tube {
         }
     }
 
-    // A tick before which lines stay as they are at a tick.
+    // Returns a tick before which the lines stay as they are at tick `t`.
     fn sure(&self, t: u64) -> u64 {
         if t < self.from {
             return self.from;
@@ -108,13 +110,13 @@ impl Tube {
         self.from.wrapping_add(stays)
     }
 
-    // Whether both were asked the same, in the same order.
+    // Returns true if both were asked the same, in the same order.
     fn heard_the_same(&self, other: &Tube) -> bool {
         self.accesses == other.accesses && self.sum == other.sum
     }
 }
 
-// Goes on up to a tick, or to the first step that asks, and does that.
+// Advances up to tick `until`, or to the first step that asks, and answers it.
 fn step<M: Party>(machine: &mut M, until: u64, tube: &mut Tube)
     requires { until ≤ MOST }
 {
@@ -130,7 +132,8 @@ fn step<M: Party>(machine: &mut M, until: u64, tube: &mut Tube)
     }
 }
 
-// Goes ahead with notes from where it is, as if lines stayed as they are, as long as there is room, or some ticks.
+// Advances speculatively with notes, as if the lines stayed as they are, as long as there is room,
+// or for some ticks.
 #[tactic(auto, using(tube_party::specs::Steps::left_pending))]
 fn note<M: Rewinds>(machine: &mut M, past: &mut M::Past, lines: &Lines, sure: Tick, more: Tick) {
     let end = Tick(MOST);
@@ -149,7 +152,7 @@ fn note<M: Rewinds>(machine: &mut M, past: &mut M::Past, lines: &Lines, sure: Ti
     let _ = machine.advance_on(third, end, lines, more, past, &mut Closed);
 }
 
-// Goes ahead with notes and back again; or up to a tick, and stays there.
+// Advances with notes and rolls back; or advances up to tick `until`.
 fn go_ahead<M: Rewinds>(
     machine: &mut M,
     past: &mut M::Past,
@@ -172,7 +175,7 @@ fn go_ahead<M: Rewinds>(
     machine.rewind(past);
 }
 
-// With horizons that are mostly far, and at times with notes.
+// Advances to tick `end` with horizons that are mostly far, and at times with notes.
 fn go_far<M: Rewinds>(
     machine: &mut M,
     past: &mut M::Past,
@@ -201,7 +204,7 @@ fn go_far<M: Rewinds>(
     step(machine, end, tube);
 }
 
-// Whether an interrupt, if there was one between, left the flags as it does: I is set, and on the 65C02 D clear.
+// Returns true if there was no interrupt between, or if it set I and, on the 65C02, cleared D.
 fn masks(part: Part, before: &Regs, now: &Regs) -> bool {
     if !is_handler(part, now.pc) || now.s != before.s.wrapping_sub(3) {
         return true;
@@ -213,7 +216,8 @@ fn masks(part: Part, before: &Regs, now: &Regs) -> bool {
     now.p == p | INTERRUPT
 }
 
-// With a horizon at each tick. Whether interrupts leave the flags as they do.
+// Advances with a horizon at each tick. Returns true if interrupts leave the flags as `masks`
+// checks.
 fn go_by_ticks<M: Stands>(machine: &mut M, end: u64, tube: &mut Tube) -> bool
     requires { end ≤ MOST }
 {
@@ -229,21 +233,22 @@ fn go_by_ticks<M: Stands>(machine: &mut M, end: u64, tube: &mut Tube) -> bool
     is_right
 }
 
-/// A machine whose registers are seen.
+/// A machine whose registers can be read.
 pub trait Stands: Rewinds {
-    /// One at a course's beginning.
+    /// Makes a machine at a course's beginning.
     fn begun(alloc: Global, course: &Course) -> Result<Self, NoMemory>;
 
     fn part() -> Part;
 
     fn registers(&self) -> Regs;
 
-    /// Whether both are at the same step with the same registers, and hold the same.
+    /// Returns true if both are at the same step with the same registers and the same memory.
     fn is_as(&self, other: &Self) -> bool;
 }
 
-/// What both machines begin with: a clock, an image, a script and a disc or none; the tick to which both go by the same road, and from which on
-/// lines turn; and two at which they are to come to the same.
+/// The beginning of both machines: a clock, an image, a script and a disc or none. The machine may
+/// stop at tick `begun`, lines change from tick `from` on, and both machines are compared at ticks
+/// `middle` and `end`.
 #[derive(Drop)]
 pub struct Course {
     pub clock: Clock,
@@ -257,7 +262,7 @@ pub struct Course {
 }
 
 impl Course {
-    /// The course of a random program, whose way in takes 15,134 cycles.
+    /// Returns the course of a random program. Its entry code takes 15,134 cycles.
     pub fn of_program(
         chance: &mut Chance,
         clock: Clock,
@@ -299,8 +304,8 @@ impl<M: Stands> Tried<Course> for M {
     }
 }
 
-// Goes to a tick with both, and from there on with each by its own road. Whether both ask the same of the Tube, in the same order, and come to
-// the same.
+// Runs `near` fast to the tick `begun` and tick by tick from there, and `far` fast. Returns true if
+// both ask the Tube the same, in the same order, and are the same at both ticks of the course.
 fn come_to_the_same<M: Stands>(
     alloc: Global,
     far: &mut M,
@@ -314,7 +319,7 @@ fn come_to_the_same<M: Stands>(
     let mut near_tube = Tube::new(seed, course.from);
     let begun = course.begun.min(MOST);
     go_far(near, &mut past, begun, &mut near_tube, chance);
-    // Where it stops there, the instruction with which it goes on is done cycle by cycle.
+    // If `far` stops here too, its next instruction is done cycle by cycle.
     if chance.once_in(4) {
         go_far(far, &mut past, begun, &mut far_tube, chance);
     }

@@ -36,7 +36,7 @@ impl Stands for ParaMachine {
     }
 }
 
-/// Whether a program of a seed comes to the same by both roads.
+/// Returns true if both runs of a seed's program end the same.
 pub fn agrees(alloc: Global, seed: u64) -> Result<bool, NoMemory> {
     let mut chance = Chance::new(seed, 1);
     let clock = chance.clock();

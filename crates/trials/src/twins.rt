@@ -1,14 +1,14 @@
-//! What is tried: two of a kind, which are to come to the same by different roads.
+//! Two instances of a kind that must end the same after different runs.
 use crate::chance::Chance;
 use beeb_bits::NoMemory;
 use std::alloc::Global;
 
-/// A kind of which two are tried on a course `C`.
+/// A kind that is tried in two instances on a course `C`.
 pub trait Tried<C>: Drop {
-    /// One at the course's beginning.
+    /// Makes one at the course's beginning.
     fn make(alloc: Global, course: &C) -> Result<Self, NoMemory>;
 
-    /// Whether both come to the same on the course.
+    /// Returns true if both end the same on the course.
     fn agrees(
         &mut self,
         other: &mut Self,
@@ -18,8 +18,8 @@ pub trait Tried<C>: Drop {
     ) -> Result<bool, NoMemory>;
 }
 
-/// Whether two that are made for a course come to the same on it. Generic, since a proof that sees the fields of a machine follows each of them
-/// over each way out.
+/// Returns true if two that are made for a course end the same on it. Generic, since a proof that
+/// sees the fields of a machine follows each of them over each exit.
 pub fn agree<C, T: Tried<C>>(
     alloc: Global,
     course: &C,

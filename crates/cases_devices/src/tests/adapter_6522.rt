@@ -14,12 +14,12 @@ const HIGH: Pins = Pins {
     cb2: true,
 };
 
-/// A chip with what is put on its pins.
+/// A chip with the levels of its pins.
 #[derive(Drop)]
 struct Bench {
     via: Via,
     pins: Pins,
-    /// Steps are done one by one, and else at once.
+    /// Steps are done one by one if set, otherwise at once.
     single: bool,
 }
 
@@ -51,7 +51,7 @@ impl Bench {
         }
     }
 
-    /// Does one word of a program, and answers whether it holds.
+    /// Does one word of a program. Returns true if it holds.
     fn holds(&mut self, word: &[u8]) -> bool {
         match word {
             b"irq" => return self.via.irq(),
@@ -72,7 +72,7 @@ impl Bench {
         true
     }
 
-    /// Does a program, and answers whether all of it holds.
+    /// Does a program. Returns true if all of it holds.
     fn does(&mut self, program: &str) -> bool {
         let mut holds = true;
         for word in program.split(' ') {
@@ -98,7 +98,7 @@ fn registers_do_what_the_data_sheet_says(rt: HostRuntime) {
     }
 }
 
-/// What all registers have after a program.
+/// Returns all registers after a program.
 fn registers(single: bool, program: &str) -> Option<[u8; 16]> {
     let mut bench = power_on(single);
     let holds = bench.does(program);

@@ -13,7 +13,7 @@ use wd1770::{
     the_discs_turn,
 };
 
-/// A controller, and whether its steps are done one by one or else at once.
+/// A controller. Its steps are done one by one if `single` is set, otherwise at once.
 #[derive(Drop)]
 struct Bench {
     fdc: Fdc,
@@ -28,7 +28,7 @@ fn number(digits: &[u8]) -> u64 {
     n
 }
 
-/// A disc whose byte i of sector n of the image is n + i.
+/// Makes a disc. Byte i of sector n of its image is n + i.
 fn disc(alloc: Global, kind: Kind, len: usize) -> Result<Option<Disc>, Fail> {
     let mut bytes = vec![in alloc; 0; len]?;
     for (place, byte) in bytes.iter_mut().enumerate() {
@@ -37,7 +37,7 @@ fn disc(alloc: Global, kind: Kind, len: usize) -> Result<Option<Disc>, Fail> {
     Ok(Some(Disc::make(alloc, kind, bytes)?))
 }
 
-/// The controller with the discs that a program begins with.
+/// Makes the controller with the discs of a program's beginning.
 fn fdc(alloc: Global, program: &str) -> Result<Fdc, Fail> {
     Ok(match program.as_bytes() {
         [b'n', ..] => Fdc::new(None, None),
@@ -77,19 +77,19 @@ impl Bench {
         }
     }
 
-    /// A byte of the image in a drive.
+    /// Returns a byte of the image in a drive.
     fn image_byte(&self, drive: u8, place: u64) -> Option<u8> {
         let disc = self.fdc.disc(drive)?;
         disc.bytes().get(place as usize).copied()
     }
 
-    /// How long the image in a drive is.
+    /// Returns the length of the image in a drive.
     fn image_len(&self, drive: u8) -> Option<usize> {
         let disc = self.fdc.disc(drive)?;
         Some(disc.bytes().len())
     }
 
-    /// One word of a program.
+    /// Does one word of a program.
     fn act(&mut self, rt: &impl Abort, word: &[u8], program: &str) {
         match word {
             b"none" | b"empty" | b"ssd" | b"both" => {}

@@ -5,8 +5,8 @@ use adc7002::{
     a_conversion_goes_on_until_its_end,
 };
 
-/// Words: `R=VV` writes a register, `R?VV` reads one, `C<LLLL` puts a level on a channel, `+N` does N steps (decimal), and `high` and `low` are
-/// the line to CB1.
+/// Words: `R=VV` writes a register, `R?VV` reads one, `C<LLLL` sets the level of a channel, and
+/// `+N` does N steps (decimal). `high` and `low` are the line to CB1.
 const PROGRAMS: &str = "\
 0?40 1?00 2?00 3?FE high +0 +20000 0?40 high
 1<8000 0=01 0?81 +3999 0?81 high +1 0?61 1?80 2?00 low
@@ -33,7 +33,7 @@ const PROGRAMS: &str = "\
 struct Bench {
     adc: Adc,
     levels: [u16; 4],
-    /// Steps are done one by one, and else at once.
+    /// Steps are done one by one if set, otherwise at once.
     single: bool,
 }
 
@@ -52,7 +52,7 @@ impl Bench {
         self.levels[usize::from(channel % 4)] = u16::from_be_bytes([high, low]);
     }
 
-    /// Does one word of a program, and answers whether it holds.
+    /// Does one word of a program. Returns true if it holds.
     fn holds(&mut self, word: &[u8]) -> bool {
         match word {
             b"high" => return self.adc.cb1(),
@@ -69,7 +69,7 @@ impl Bench {
     }
 }
 
-/// Whether all of a program holds.
+/// Returns true if all of a program holds.
 fn does(program: &str, single: bool) -> bool {
     let mut bench = Bench {
         adc: Adc::new(),

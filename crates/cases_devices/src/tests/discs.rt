@@ -4,7 +4,7 @@ use std::alloc::Global;
 use std::test::Fail;
 use std::vec::Vec;
 
-// So many bytes, each the number of the sector of the image that it is in, plus 1, mod 251.
+// Makes an image of `len` bytes. Each is the number of its sector in the image, plus 1, mod 251.
 fn image(alloc: Global, len: usize) -> Result<Vec<u8>, Fail> {
     let mut bytes = vec![in alloc; 0; len]?;
     for (place, byte) in bytes.iter_mut().enumerate() {
@@ -36,7 +36,8 @@ fn images_above_the_largest_are_refused(rt: HostRuntime) -> Result<(), Fail> {
 #[test]
 fn sectors_stand_by_track_and_side(rt: HostRuntime) -> Result<(), Fail> {
     a_byte_put_is_read_back();
-    // The kind, how long the image is, the side, the track and the sector, and its first and last byte.
+    // The kind, the length of the image, the side, the track and the sector, and its first and last
+    // byte.
     let rows = [
         (Kind::Ssd, 204_800, 0, 0, 0, Some((1, 1))),
         (Kind::Ssd, 204_800, 0, 0, 9, Some((10, 10))),
@@ -71,7 +72,8 @@ fn sectors_stand_by_track_and_side(rt: HostRuntime) -> Result<(), Fail> {
 
 #[test]
 fn a_byte_put_makes_the_image_as_long_as_its_sectors_end(rt: HostRuntime) -> Result<(), Fail> {
-    // The kind, how long the image is, the side, the track, the sector and the byte, and where the byte is and how long the image then.
+    // The kind, the length of the image, the side, the track, the sector and the byte; and the
+    // byte's place in the image and the image's new length.
     let rows = [
         (Kind::Ssd, 0, 0, 0, 2, 0, Some((512, 768))),
         (Kind::Ssd, 0, 0, 0, 2, 255, Some((767, 768))),

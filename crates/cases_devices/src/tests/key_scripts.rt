@@ -18,7 +18,7 @@ fn push(text: &mut Vec<u8>, part: &[u8]) -> Result<(), Fail> {
     Ok(())
 }
 
-// A text of shots at tick 7, and a last part.
+// Makes a text of shots at tick 7, and a last part.
 fn shots(alloc: Global, count: u16, last: &str) -> Result<Vec<u8>, Fail> {
     let mut text = Vec::new(alloc);
     for _ in 0..count {
@@ -60,7 +60,8 @@ fn a_script_of_no_events_has_every_key_up(rt: HostRuntime) {
     assert!(rt; script.events().is_empty() && !script.is_down(0x41, Tick(1_000)));
 }
 
-// A line is what a text comes to, its count of events or the line that is out of form or order, and behind `@` the text, in which `|` ends a line.
+// A line is a text's result: its number of events, or the line that is out of form or order. After
+// `@` comes the text, in which `|` ends a line.
 const TEXTS: &str = "\
 events 0@
 events 1@at 0 shot|

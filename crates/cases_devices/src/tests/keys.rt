@@ -2,7 +2,7 @@
 use crate::tests::words::{byte, digit};
 use keyboard::{Keys, Latch};
 
-// The latch with the bits of a byte, bit 0 the lowest, by eight writes to port B.
+// Makes the latch with the bits of a byte, bit 0 the lowest, by eight writes to port B.
 fn latch(bits: u8) -> Latch {
     let mut latch = Latch::new();
     for n in 0..8u8 {
@@ -11,8 +11,9 @@ fn latch(bits: u8) -> Latch {
     latch
 }
 
-/// Does a word, and answers whether it holds. `41+` and `41-` put a key down and up, `41?` and `41!` say that it is down or not; `any` and `none` say
-/// whether any key counts, and `c1?` and `c0!` whether one does of a column.
+/// Does a word. Returns true if it holds. `41+` and `41-` press and release a key; `41?` and `41!`
+/// say that it is down or up. `any` and `none` say that a key, or none, counts; `c1?` and `c0!` say
+/// the same of a column.
 fn holds(keys: &mut Keys, word: &[u8]) -> bool {
     match word {
         b"any" => return keys.any(None),
@@ -52,7 +53,7 @@ const SHOWN: [(u8, u8, bool, bool); 8] = [
     (0x08, 0x40, false, true),
 ];
 
-/// Bit 7 of port A and CA2.
+/// Returns bit 7 of port A and CA2.
 fn shown(keys: &Keys, bits: u8, port_a: u8) -> (bool, bool) {
     let latch = latch(bits);
     (keys.port_a_bit_7(&latch, port_a), keys.ca2(&latch, port_a))

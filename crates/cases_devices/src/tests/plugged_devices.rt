@@ -1,4 +1,4 @@
-//! A device of the tests' own, by itself and in a box, and the two devices that there are.
+//! A device of the tests' own, by itself and in a box, and the two real devices.
 ghost use Rattle.std.specs.Prelude.{◌≤◌, IfSome};
 
 use beeb_bits::NoMemory;
@@ -45,7 +45,8 @@ impl BusDevice for Counter {
     }
 }
 
-// Addresses owned, and a write, two reads and a spill.
+// Returns true if the device owns its addresses, and a write, two reads and a spill do as `Counter`
+// does.
 fn is_counting<D: BusDevice>(device: &mut D, to: &mut Vec<u8>) -> bool {
     let owned = device.owns(0xfc00) && device.owns(0xfcff) && !device.owns(0xfd00);
     device.write(0xfc10, 0xff);
@@ -64,7 +65,7 @@ fn a_device_in_a_box_is_the_device(rt: HostRuntime) -> Result<(), Fail> {
     Ok(())
 }
 
-// An address on FRED or JIM.
+// Returns an address on FRED or JIM.
 fn address(digits: &str) -> Option<u16>
     ensures { IfSome result (λ at. (0xfc00 ≤ at) × (at ≤ 0xfdff)) }
 {
@@ -82,8 +83,8 @@ fn byte(digits: &str) -> Option<u8> {
     u8::from_str_radix(digits, 16).ok()
 }
 
-// Whether a word holds, once it is done: `AAAA=VV` writes a byte to an address, `AAAA?VV` reads it there, and `AAAA+` and `AAAA-` say whether the
-// address is the device's.
+// Does a word. Returns true if it holds. `AAAA=VV` writes a byte to an address, `AAAA?VV` reads it
+// there, and `AAAA+` and `AAAA-` say that the address is, or is not, the device's.
 fn holds<D: BusDevice>(device: &mut D, word: &str) -> Option<bool> {
     if let Some((at, v)) = word.split_once('=') {
         device.write(address(at)?, byte(v)?);
@@ -108,7 +109,7 @@ fn does<D: BusDevice>(device: &mut D, program: &str) -> bool {
     true
 }
 
-// Whether what a device spills comes behind the byte that was there, and has so many bytes with it, these among them.
+// Returns true if there are `len` bytes after a device's spill, with `places` among them.
 fn is_spilled<D: BusDevice>(
     device: &D,
     mut bytes: Vec<u8>,

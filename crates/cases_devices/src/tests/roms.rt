@@ -4,7 +4,7 @@ use std::alloc::Global;
 use std::test::Fail;
 use std::vec::Vec;
 
-// So many bytes: 251 that rise from the first on, again and again.
+// Makes `len` bytes: 251 rising ones from `first` on, repeated.
 fn image(alloc: Global, len: usize, first: u8) -> Result<Vec<u8>, Fail> {
     let mut bytes = vec![in alloc; 0; len]?;
     for (place, byte) in bytes.iter_mut().enumerate() {
@@ -13,7 +13,8 @@ fn image(alloc: Global, len: usize, first: u8) -> Result<Vec<u8>, Fail> {
     Ok(bytes)
 }
 
-// The refusal of images of these lengths: an operating system, the ROMs of the slots 15 and 3, and perhaps a font.
+// Returns the refusal of images of these lengths: an operating system, the ROMs of the slots 15 and
+// 3, and perhaps a font.
 fn refusal(
     alloc: Global,
     (os, first, second): (usize, usize, usize),
@@ -33,14 +34,15 @@ fn refusal(
 #[test]
 fn only_images_of_their_lengths_are_taken(rt: HostRuntime) -> Result<(), Fail> {
     let slot = |slot, len| Some(RomError::BadSlot { slot, len });
-    // The lengths of the operating system and of both ROMs, and what is refused, with a font of its length and without one.
+    // The lengths of the operating system and of both ROMs, and the refusal, with a font of the
+    // right length and without one.
     let rows = [
         (16_384, 8_192, 16_384, None),
         (16_384, 16_384, 8_192, None),
         (16_383, 8_192, 8_192, Some(RomError::BadOs { len: 16_383 })),
         (16_385, 1, 1, Some(RomError::BadOs { len: 16_385 })),
         (0, 16_384, 16_384, Some(RomError::BadOs { len: 0 })),
-        // The first in the order of the list, whatever its slot is.
+        // The first one of the list is refused, whatever its slot is.
         (16_384, 8_191, 0, slot(15, 8_191)),
         (16_384, 8_193, 16_384, slot(15, 8_193)),
         (16_384, 16_384, 16_383, slot(3, 16_383)),
@@ -52,7 +54,7 @@ fn only_images_of_their_lengths_are_taken(rt: HostRuntime) -> Result<(), Fail> {
         assert_eq!(rt; refusal(rt.alloc(), (os, first, second), Some(960))?, want);
     }
     let font = |len| Some(RomError::BadFont { len });
-    // The same with a font of another length, which is looked at last.
+    // The same with a font of another length, which is checked last.
     let rows = [
         (16_384, 8_192, 16_384, 959, font(959)),
         (16_384, 8_192, 16_384, 961, font(961)),
@@ -78,7 +80,7 @@ fn bytes_stand_by_slot_and_address(rt: HostRuntime) -> Result<(), Fail> {
     for (at, want) in [(0, 0), (250, 250), (251, 0), (8_192, 160), (16_383, 68)] {
         assert_eq!(rt; roms.os(at), want);
     }
-    // The slot, the address, and the byte: the ROM of 8,192 bytes stands twice.
+    // The slot, the address, and the byte. The ROM of 8,192 bytes is mapped twice.
     let rows = [
         (15, 0, 100),
         (15, 8_191, 3),
@@ -93,7 +95,7 @@ fn bytes_stand_by_slot_and_address(rt: HostRuntime) -> Result<(), Fail> {
     for (slot, at, want) in rows {
         assert_eq!(rt; roms.byte(slot, at), want, "slot {slot}, {at}");
     }
-    // Each ROM as it was handed in, and none where the slot is empty.
+    // Each ROM as it was given, and `None` for an empty slot.
     for (slot, want) in [(15, Some(8_192)), (3, Some(16_384)), (0, None)] {
         assert_eq!(rt; roms.rom(slot).map(|rom| rom.len()), want, "slot {slot}");
     }
@@ -106,8 +108,8 @@ fn shapes_stand_by_code_and_row(rt: HostRuntime) -> Result<(), Fail> {
     let alloc = rt.alloc();
     let os = image(alloc, 16_384, 0)?;
     let roms = RomSet::read(os, Vec::new(alloc), Some(image(alloc, 960, 5)?))?;
-    // The code, the row, and the byte. The shape of 21 begins at 10, that of 41 at 330, which is 79 above 251, and that of 7F at
-    // 950, which is 197 above three times 251.
+    // The code, the row, and the byte. The shape of 21 begins at 10, that of 41 at 330, which is 79
+    // above 251, and that of 7F at 950, which is 197 above three times 251.
     let rows = [
         (0x20, 0, 5),
         (0x20, 9, 14),

@@ -48,7 +48,7 @@ E0 F7 +448 =1634 0F =0 FE =326
 80 00 90 A0 00 B0 C0 00 D0 E0 F0 +448 =32764
 ";
 
-/// A chip that does its clocks one by one, or else at once.
+/// A chip. Its clocks are done one by one if `single` is set, otherwise at once.
 #[derive(Drop)]
 struct Bench {
     sound: Sound,
@@ -66,7 +66,7 @@ impl Bench {
         }
     }
 
-    /// One word of a program.
+    /// Does one word of a program.
     fn act(&mut self, rt: &impl Abort, word: &[u8], program: &str) {
         match word {
             [b'+', digits @ ..] => self.clocks(number(digits)),
@@ -148,7 +148,7 @@ fn expect_samples(
     Ok(())
 }
 
-// A write.
+// Makes a write.
 const fn at(moment: u64, byte: u8) -> SoundWrite
     ensures { result ≡ record { moment = moment; byte = byte } }
 {
@@ -164,7 +164,7 @@ fn samples_are_levels_after_the_writes(rt: HostRuntime) -> Result<(), Fail> {
     expect_samples(&rt, alloc, &[], 1, &[0])?;
     expect_samples(&rt, alloc, &[], 32, &[0])?;
     expect_samples(&rt, alloc, &[], 33, &[0, 0])?;
-    // Writes at one moment go in order, and before its sample.
+    // Writes at one moment take effect in order, and before its sample.
     expect_samples(&rt, alloc, &[at(0, 0x90), at(0, 0x9f)], 1, &[0])?;
     expect_samples(&rt, alloc, &[at(0, 0x9f), at(0, 0x90)], 1, &[8191])?;
     expect_samples(&rt, alloc, &[at(32, 0x90)], 64, &[0, 8191])?;
@@ -176,13 +176,13 @@ fn samples_are_levels_after_the_writes(rt: HostRuntime) -> Result<(), Fail> {
         96,
         &[0, 6506, 5168],
     )?;
-    // Writes that no sample follows, and that no step comes to.
+    // A write that no sample follows, and one after the last step.
     expect_samples(&rt, alloc, &[at(31, 0x90)], 32, &[0])?;
     expect_samples(&rt, alloc, &[at(0, 0x90), at(1_000, 0x9f)], 32, &[8191])?;
     Ok(())
 }
 
-// So many samples of silence.
+// Makes `n` samples of silence.
 fn silence(alloc: Global, n: usize) -> Result<Vec<i16>, Fail>
     ensures { IfOk result (λ samples. length samples.items ≡ n) }
 {

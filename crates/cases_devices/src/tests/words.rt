@@ -1,7 +1,7 @@
 //! Numbers in the words of a program.
 ghost use Rattle.std.specs.Prelude.{◌<◌};
 
-/// A hexadecimal digit.
+/// Returns the value of a hexadecimal digit.
 pub fn digit(b: u8) -> u8
     ensures { result < 16 }
 {
@@ -12,12 +12,12 @@ pub fn digit(b: u8) -> u8
     }
 }
 
-/// A byte of two hexadecimal digits.
+/// Returns the byte of two hexadecimal digits.
 pub fn byte(high: u8, low: u8) -> u8 {
     16 * digit(high) + digit(low)
 }
 
-/// A decimal number of up to six digits.
+/// Returns a decimal number of up to six digits.
 pub fn number(digits: &[u8]) -> u32
     ensures { result < 1000000 }
 {

@@ -1,4 +1,4 @@
-//! Whole frames, counted character by character, beside a computation from the registers.
+//! Whole frames, counted character by character, compared with a computation from the registers.
 use crtc6845::{
     Beam, Crtc, Finished, Windows, clocks_at_rest_are_alike, frames_have_their_clocks,
     lines_have_their_characters, no_sync_beyond_the_rows, shown_addresses_count,
@@ -9,9 +9,10 @@ use std::process::Abort;
 /// Registers R0 to R15.
 type Registers = [u8; 16];
 
-/// The BBC Micro's screens of 80 and of 40 characters and its teletext screen; lines of 5 characters and rows of one line; rows of 32
-/// lines with the sync row beyond the total; an odd last raster with interlace; 31 lines of adjust, horizontal sync beyond the line and
-/// 16 lines of vertical sync; and a frame with nothing shown.
+/// The BBC Micro's screens of 80 and of 40 characters and its teletext screen; lines of 5
+/// characters and rows of one line; rows of 32 lines with the sync row beyond the total; an odd
+/// last raster with interlace; 31 lines of vertical total adjust, horizontal sync beyond the line
+/// and 16 lines of vertical sync; and a frame with nothing shown.
 const SCREENS: [Registers; 8] = [
     [
         127, 80, 98, 0x28, 38, 0, 32, 34, 0x01, 7, 0x07, 8, 0x06, 0x00, 0x06, 0x51,
@@ -39,7 +40,7 @@ const SCREENS: [Registers; 8] = [
     ],
 ];
 
-/// What is counted in a frame.
+/// The counts of a frame.
 #[derive(Clone, Copy, Debug, PartialEq, Eq)]
 struct Counts {
     lines: u32,
@@ -47,9 +48,9 @@ struct Counts {
     row_ends: u32,
     restarts: u32,
     frame_ends: u32,
-    /// The line, from the frame's first on, in which vertical sync began.
+    /// The line, counted from the frame's first, of the beginning of vertical sync.
     sync_line: u32,
-    /// The lines in which vertical sync was on.
+    /// The number of lines with vertical sync.
     vsync_lines: u32,
     shown: u32,
     first: u16,
@@ -113,7 +114,8 @@ fn count(crtc: &mut Crtc, clocks: u32) -> Counts {
     counts
 }
 
-/// How many rasters of a row the cursor is on: those between its first and its last that the row has.
+/// Returns the number of a row's rasters with the cursor: those of the row between the cursor's
+/// first and last one.
 fn cursor_rasters(r: &Registers, step: usize, last: u8) -> u32 {
     let mut rasters: u32 = 0;
     for n in 0..32u8 {
@@ -123,7 +125,7 @@ fn cursor_rasters(r: &Registers, step: usize, last: u8) -> u32 {
     rasters
 }
 
-/// The counts and the clocks of a whole frame, from the registers.
+/// Computes the clocks and the counts of a whole frame from the registers.
 fn computed(r: &Registers) -> (u32, Counts) {
     let number = |n: usize| -> u32 { u32::from(r[n % 16]) };
     let interlaced = r[8] % 4 == 3;
@@ -209,7 +211,7 @@ fn at_power_on_a_black_frame_is_finished(rt: HostRuntime) {
     };
     assert_eq!(rt; crtc.clock(), first);
     assert!(rt; crtc.vsync());
-    // Vertical sync has sixteen lines of one character, and then begins anew.
+    // Vertical sync has sixteen lines of one character, and then begins again.
     for n in 2..34u32 {
         let beam = crtc.clock();
         assert_eq!(rt; beam.frame_end, n % 16 == 1, "{n}");
@@ -226,7 +228,7 @@ fn vertical_sync_stays_as_long_as_it_is_calm(rt: HostRuntime) {
             count(&mut crtc, clocks);
         }
         let width = u32::from(registers[0]) + 1;
-        // Where R7 is above R4 no sync comes, and `before` is 0.
+        // If R7 is above R4 no sync comes, and `before` is 0.
         let before = want.sync_line.wrapping_mul(width);
         assert!(rt; crtc.calm() >= u64::from(before), "{registers:?}");
         if want.frame_ends == 1 {
@@ -246,7 +248,8 @@ fn vertical_sync_stays_as_long_as_it_is_calm(rt: HostRuntime) {
 #[test]
 fn a_chip_at_rest_does_many_clocks_at_once(rt: HostRuntime) {
     clocks_at_rest_are_alike();
-    // Vertical sync has sixteen lines of one character, and the clock before these was the first of them.
+    // Vertical sync has sixteen lines of one character. The clock before these was the first of
+    // them.
     for n in [0, 1, 15, 16, 17, 31, 32, 100, 1_000_000_000_000u64] {
         let mut crtc = Crtc::new();
         crtc.clock();
@@ -260,7 +263,7 @@ fn a_chip_at_rest_does_many_clocks_at_once(rt: HostRuntime) {
             assert_eq!(rt; crtc.clock().frame_end, n % 16 == 15);
         }
     }
-    // With R7 above R4 it ends, and begins no more.
+    // If R7 is above R4, vertical sync ends, and does not begin again.
     let mut crtc = Crtc::new();
     crtc.select(7);
     crtc.clock();
@@ -281,7 +284,7 @@ fn a_chip_at_rest_does_many_clocks_at_once(rt: HostRuntime) {
     assert_eq!(rt; crtc.calm(), u64::MAX);
 }
 
-/// Does a line, and answers how long its spans are.
+/// Does a line. Returns the lengths of its spans.
 fn spans(crtc: &mut Crtc) -> [u16; 5] {
     let mut spans = [0; 5];
     crtc.clock();
@@ -298,8 +301,9 @@ fn spans(crtc: &mut Crtc) -> [u16; 5] {
 
 #[test]
 fn a_line_has_few_spans(rt: HostRuntime) {
-    // A screen of those above, how many lines come first, and the spans from the second character on: those that are shown, up to and from
-    // the cursor or the next 1,024 addresses, and those from there to the last but one, whether horizontal sync begins with one or not.
+    // A screen of those above, the number of lines before, and the spans from the second character
+    // on. A span is of shown characters, up to or from the cursor or the next 1,024 addresses, or
+    // of the others up to the last but one. The beginning of horizontal sync ends no span.
     let rows: [(usize, u32, [u16; 5]); 7] = [
         (0, 0, [79, 47, 0, 0, 0]),
         (0, 15, [79, 47, 0, 0, 0]),
@@ -327,7 +331,8 @@ fn a_line_has_few_spans(rt: HostRuntime) {
 
 #[test]
 fn a_frame_shows_its_rows(rt: HostRuntime) {
-    // Rows that are over, and what is left of the frame and what the next will show.
+    // The number of rows done, and the part of the frame, and of the next one, that is still to be
+    // shown.
     let rows = [(0, 0x0b00, 1_280), (5, 0x0bc8, 1_080), (32, 0x1000, 0)];
     for (over, base, count_now) in rows {
         let (clocks, _) = computed(&SCREENS[1]);
@@ -371,7 +376,7 @@ fn registers_have_their_bits(rt: HostRuntime) {
 
 #[test]
 fn the_cursor_blinks_by_the_fields(rt: HostRuntime) {
-    // R10, and a field for each bit from the lowest on in which the cursor is on.
+    // R10, and a bit for each field, the lowest first, which is set if the cursor is on.
     let rows: [(u8, u64); 4] = [
         (0x00, 0xffff_ffff_ffff_ffff),
         (0x20, 0x0000_0000_0000_0000),
@@ -380,7 +385,7 @@ fn the_cursor_blinks_by_the_fields(rt: HostRuntime) {
     ];
     for (start, want) in rows {
         let mut crtc = chip(&[1, 1, 0, 0x10, 0, 0, 1, 0, 0, 0, start, 0, 0, 5, 0, 5]);
-        // A frame of one line and two characters, shown once its start address is taken.
+        // A frame of one line and two characters. It is shown after its start address is taken.
         crtc.clock();
         crtc.clock();
         for n in 2..66u32 {

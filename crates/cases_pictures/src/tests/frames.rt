@@ -8,12 +8,14 @@ use std::alloc::Global;
 use std::process::Abort;
 use std::test::Fail;
 
-/// The screen of 40 characters of 16 dots: its first character is in the frame's first line and column.
+/// The screen of 40 characters of 16 dots. Its first character is in the frame's first line and
+/// column.
 const GRAPHICS: [u8; 16] = [
     0x3f, 0x28, 0x31, 0x24, 0x26, 0, 0x20, 0x22, 0, 7, 0, 0, 0x0b, 0, 0, 0,
 ];
 
-/// The teletext screen: its first character is in the frame's third line, and its rows have every other raster.
+/// The teletext screen. Its first character is in the frame's third line, and its rows have every
+/// other raster.
 const TELETEXT: [u8; 16] = [
     0x3f, 0x28, 0x33, 0x24, 0x1e, 2, 0x19, 0x1b, 0x93, 0x12, 0x72, 0x13, 0x28, 0, 0, 0,
 ];
@@ -23,13 +25,13 @@ const EIGHTY: [u8; 16] = [
     0x7f, 0x50, 0x62, 0x28, 0x26, 0, 0x20, 0x22, 1, 7, 2, 8, 6, 0, 6, 0x75,
 ];
 
-/// What is changed for rows of ten lines, the last two black.
+/// The changes for rows of ten lines, the last two black.
 const SPACED: [(usize, u8); 5] = [(4, 0x1e), (5, 2), (6, 0x19), (7, 0x1b), (9, 9)];
 
 /// The microseconds of three frames, or a little more.
 const FRAMES: u64 = 60_000;
 
-/// The registers, with some of them changed.
+/// Returns the registers, some of them changed.
 fn changed(registers: &[u8; 16], changes: &[(usize, u8)]) -> [u8; 16] {
     let mut changed = *registers;
     for (n, v) in changes {
@@ -51,7 +53,7 @@ fn screen_size(kilobytes: u8) -> u16
     }
 }
 
-/// What a test draws with.
+/// A raster with the RAM and the font that it needs.
 #[derive(Drop)]
 struct Scene {
     raster: Raster,
@@ -74,7 +76,7 @@ fn program(raster: &mut Raster, registers: &[u8; 16], control: u8) {
 }
 
 impl Scene {
-    /// A raster with these registers of the 6845 and this control byte, over a RAM of zeros.
+    /// Makes a raster with these registers of the 6845 and this control byte, over a RAM of zeros.
     fn make(alloc: Global, registers: &[u8; 16], control: u8) -> Result<Scene, Fail> {
         let letters = letters(alloc)?;
         let ram = vec![in alloc; 0; 32_768]?;
@@ -96,7 +98,7 @@ impl Scene {
         }
     }
 
-    /// Entries 0 to 7 of the palette are one colour, and the others another.
+    /// Sets entries 0 to 7 of the palette to one colour, and the others to another.
     fn two_colours(&mut self, low: u8, high: u8) {
         for entry in 0..16u8 {
             let colour = if entry < 8 { low } else { high };
@@ -108,7 +110,7 @@ impl Scene {
         self.raster.ula().control(v);
     }
 
-    /// Does microseconds with a screen of so many kilobytes.
+    /// Does `n` microseconds with a screen of `kilobytes` kilobytes.
     fn advance(&mut self, kilobytes: u8, n: u64) {
         if self.ram.len() == 32_768 {
             self.raster
@@ -123,7 +125,8 @@ impl Scene {
         }
     }
 
-    /// The finished frame has these colours, as digits, `step` dots from one to the next.
+    /// Returns true if the finished frame has these colours, as digits, `step` dots from one to the
+    /// next.
     fn shows_each(&self, at: usize, step: usize, want: &[u8]) -> bool {
         let colours = &self.raster.frame().colours;
         let mut place = at;
@@ -136,12 +139,12 @@ impl Scene {
         true
     }
 
-    /// They are side by side.
+    /// Returns true if it has them side by side.
     fn shows(&self, at: usize, want: &[u8]) -> bool {
         self.shows_each(at, 1, want)
     }
 
-    /// How many dots of the finished frame have a colour.
+    /// Returns the number of dots of the finished frame that have a colour.
     fn count(&self, colour: u8) -> u32 {
         count(self.raster.frame(), colour)
     }
@@ -171,7 +174,8 @@ fn a_byte_of_a_bit_mapped_screen_is_in_its_place(rt: HostRuntime) -> Result<(), 
     Ok(())
 }
 
-/// A screen that begins at this address, of so many kilobytes, shows the byte at this place first.
+/// Returns true if a screen of `kilobytes` kilobytes that begins at this address shows the byte at
+/// `at` first.
 fn shows_first(alloc: Global, high: u8, low: u8, kilobytes: u8, at: usize) -> Result<bool, Fail> {
     let registers = changed(&GRAPHICS, &[(12, high), (13, low)]);
     let mut scene = Scene::make(alloc, &registers, 0x08)?;
@@ -183,7 +187,8 @@ fn shows_first(alloc: Global, high: u8, low: u8, kilobytes: u8, at: usize) -> Re
 
 #[test]
 fn addresses_wrap_by_the_size_of_the_screen(rt: HostRuntime) -> Result<(), Fail> {
-    // The start address in R12 and R13, the kilobytes of the screen, and where its first byte is.
+    // The start address in R12 and R13, the kilobytes of the screen, and the address of its first
+    // byte.
     let rows = [
         (0x0f, 0xff, 16, 0x7ff8),
         (0x10, 0x00, 16, 0x4000),
@@ -205,7 +210,7 @@ fn addresses_wrap_by_the_size_of_the_screen(rt: HostRuntime) -> Result<(), Fail>
     Ok(())
 }
 
-/// A white screen with this control byte, R1, R2, R6 and R7.
+/// Draws a white screen with this control byte, R1, R2, R6 and R7.
 fn white(
     alloc: Global,
     control: u8,
@@ -221,7 +226,7 @@ fn white(
     Ok(scene)
 }
 
-/// So many dots of it are white, and the first of them is at this place.
+/// Returns true if `dots` dots of such a screen are white, the first of them at `first`.
 fn is_white(
     alloc: Global,
     control: u8,
@@ -237,8 +242,8 @@ fn is_white(
 
 #[test]
 fn dots_beyond_the_frame_are_not_drawn(rt: HostRuntime) -> Result<(), Fail> {
-    // The control byte, R1, R2, R6 and R7: what is shown of a line and where it begins, and the same of a frame; then how many dots are
-    // white, and the first of them.
+    // The control byte; R1 and R2, which set the shown part of a line and its beginning; R6 and R7,
+    // which set those of a frame; the number of white dots, and the first of them.
     let rows = [
         (0x00, [40, 49, 32, 34], 640 * 256, 0),
         (0x00, [1, 49, 32, 34], 16 * 256, 0),
@@ -253,7 +258,7 @@ fn dots_beyond_the_frame_are_not_drawn(rt: HostRuntime) -> Result<(), Fail> {
         // At 2 MHz characters are 8 dots wide.
         (0x10, [30, 34, 32, 34], 240 * 256, 0),
         (0x10, [2, 35, 32, 34], 8 * 256, 0),
-        // In teletext mode the frame's left edge is elsewhere; without a code it shows black.
+        // In teletext mode the frame's left edge differs. Without a code it shows black.
         (0x02, [40, 49, 32, 34], 0, 0),
     ];
     for (control, registers, dots, first) in rows {
@@ -265,7 +270,7 @@ fn dots_beyond_the_frame_are_not_drawn(rt: HostRuntime) -> Result<(), Fail> {
     Ok(())
 }
 
-/// In each line one character between sync and the first that is shown is 8 dots wide.
+/// Draws lines with one character of 8 dots between sync and the first shown character.
 fn draw_with_a_narrow_one(scene: &mut Scene) {
     for n in 0..60_000u32 {
         scene.control(if n % 64 == 60 { 0x10 } else { 0 });
@@ -287,7 +292,8 @@ fn half_a_character_is_drawn_at_either_edge(rt: HostRuntime) -> Result<(), Fail>
     Ok(())
 }
 
-/// A black screen of rows of 16 rasters, with this control byte and the cursor on the second character.
+/// Draws a black screen of rows of 16 rasters, with this control byte and the cursor on the second
+/// character.
 fn black_with_cursor(alloc: Global, control: u8) -> Result<Scene, Fail> {
     let registers = changed(
         &GRAPHICS,
@@ -309,19 +315,21 @@ fn black_with_cursor(alloc: Global, control: u8) -> Result<Scene, Fail> {
 
 #[test]
 fn the_cursor_marks_as_the_control_byte_says(rt: HostRuntime) -> Result<(), Fail> {
-    // The control byte's cursor bits, and the first five characters of raster 8: it is black, and the cursor is on the second one.
+    // The control byte's cursor bits, and the first five characters of raster 8: the screen is
+    // black, and the cursor is on the second character.
     let rows: [(u8, &[u8; 5]); 6] = [
         (0x00, b"00000"),
         (0x80, b"07000"),
         (0x40, b"00700"),
         (0x20, b"00077"),
         (0xe0, b"07777"),
-        // In teletext each of the bits marks the one that it is on alone. (There the first character shown is in the third column.)
+        // In teletext mode each of the bits marks only the cursor's character. The first shown
+        // character is in the third column there.
         (0x22, b"00070"),
     ];
     for (control, want) in rows {
         let scene = black_with_cursor(rt.alloc(), control)?;
-        // Raster 8 of the row is 56 lines below the beginning of sync, so line 16 of the frame.
+        // Raster 8 of the row is 56 lines after the beginning of sync, so line 16 of the frame.
         assert!(rt; scene.shows_each(640 * 16 + 8, 16, want), "{control}");
     }
     Ok(())
@@ -342,8 +350,9 @@ fn a_teletext_row_below_double_height_is_a_bottom_row(rt: HostRuntime) -> Result
         b"0000000000000000000000000000000000000000000000000001111100011111000111110001111100011111000111112222222222222222";
     let gap: &[u8; 112] =
         b"0000000000000000000000000000000000000000000000000000000000000000000000000000000000000000000000002222222222222222";
-    // Lines of the frame: the first row begins in line 2, and its lines are rasters 0, 2, 4 and so on. Lines 4 and 5 of the shape are a
-    // gap, shown at rasters 8 and 10, and so are lines 12 and 13, which a bottom row shows at rasters 4 and 6.
+    // Lines of the frame. The first row begins in line 2, and its lines are rasters 0, 2, 4 and so
+    // on. Lines 4 and 5 of the shape are a gap at rasters 8 and 10. Lines 12 and 13 are another,
+    // which a bottom row shows at rasters 4 and 6.
     let rows = [
         (2, dots),
         (4, dots),
@@ -364,8 +373,8 @@ fn a_teletext_row_below_double_height_is_a_bottom_row(rt: HostRuntime) -> Result
     Ok(())
 }
 
-/// Both do the same: one a microsecond at a time, and the other a character clock at a time, of which a microsecond has one or two. Vertical
-/// sync ends after two lines, and no later than in the same microsecond.
+/// Returns true if both have the same vertical sync at each microsecond. One does a microsecond at
+/// a time, and the other its one or two character clocks.
 fn agree(one: &mut Scene, other: &mut Scene, clocks: u8) -> bool {
     for _ in 0..20_000u32 {
         if one.raster.vsync() != other.raster.vsync() {
@@ -385,7 +394,7 @@ fn one_by_one(scene: &mut Scene, n: u32) {
     }
 }
 
-/// They do, too, after one has done 1,000 microseconds at once.
+/// Returns true if both agree after one has done 1,000 microseconds at once.
 fn agree_after(alloc: Global, control: u8, clocks: u8) -> Result<bool, Fail> {
     let mut one = Scene::make(alloc, &GRAPHICS, control)?;
     let mut other = Scene::make(alloc, &GRAPHICS, control)?;
@@ -402,7 +411,7 @@ fn microseconds_at_once_are_microseconds_one_by_one(rt: HostRuntime) -> Result<(
     Ok(())
 }
 
-/// A screen of all bytes in all colours.
+/// Makes a screen of all bytes in all colours.
 fn colourful(
     alloc: Global,
     registers: &[u8; 16],
@@ -419,7 +428,8 @@ fn colourful(
     Ok(scene)
 }
 
-/// Does so many microseconds, first one, then two at once, and so on: so that each stretch of characters is cut somewhere.
+/// Does `n` microseconds: one, then two at once, and so on, so that each stretch of characters is
+/// cut.
 fn more_and_more(scene: &mut Scene, kilobytes: u8, n: u64) {
     let mut left = n;
     for k in 1..1_000u64 {
@@ -429,7 +439,7 @@ fn more_and_more(scene: &mut Scene, kilobytes: u8, n: u64) {
     }
 }
 
-/// Does so many microseconds a character clock at a time.
+/// Does `n` microseconds, a character clock at a time.
 fn step_by_step(scene: &mut Scene, kilobytes: u8, control: u8, n: u64) {
     for _ in 0..n {
         scene.char_clock(kilobytes);
@@ -439,7 +449,8 @@ fn step_by_step(scene: &mut Scene, kilobytes: u8, control: u8, n: u64) {
     }
 }
 
-/// Two frames of this screen are the same clock by clock, and by more and more microseconds at once, and they have more than one colour.
+/// Returns true if two frames of this screen are the same clock by clock and by more and more
+/// microseconds at once, and have more than one colour.
 fn is_same(
     alloc: Global,
     (registers, changes, control, kilobytes): (&[u8; 16], &[(usize, u8)], u8, u8),
@@ -476,7 +487,8 @@ fn stretches_of_characters_are_drawn_as_each_by_itself(rt: HostRuntime) -> Resul
         (&EIGHTY, &[(2, 0x7b)], 0x9c, 20),
         (&GRAPHICS, &[(2, 0x29)], 0x88, 10),
         (&TELETEXT, &[(2, 0x3c), (7, 0x1e)], 0x4b, 16),
-        // Up to the end of the RAM and on from elsewhere, from bit-mapped addresses to those of teletext, and back.
+        // Up to the end of the RAM and from another address on; from bit-mapped addresses to those
+        // of teletext, and back.
         (&EIGHTY, &[(12, 0x0f), (13, 0xd7)], 0x9c, 20),
         (&GRAPHICS, &[(12, 0x1f), (13, 0xd7)], 0x88, 10),
         (&TELETEXT, &[(12, 0x3f), (13, 0xd7)], 0x4b, 8),
@@ -492,7 +504,8 @@ fn stretches_of_characters_are_drawn_as_each_by_itself(rt: HostRuntime) -> Resul
 
 #[test]
 fn vertical_sync_stays_as_long_as_it_is_calm(rt: HostRuntime) -> Result<(), Fail> {
-    // The control byte, and the microseconds before sync begins, while it is on, and before it begins again.
+    // The control byte, and the microseconds before sync begins, while it is on, and before it
+    // begins again.
     for (control, before, on, off) in [(0x00, 17_408, 127, 19_839), (0x10, 8_704, 63, 9_919)] {
         let mut scene = Scene::make(rt.alloc(), &GRAPHICS, control)?;
         assert_eq!(rt; scene.raster.calm(), before);
@@ -527,7 +540,7 @@ fn a_raster_at_rest_does_many_microseconds_at_once(rt: HostRuntime) -> Result<()
     scene.advance(16, 1_000_000_000_000);
     assert!(rt; scene.raster.vsync());
     assert_eq!(rt; scene.raster.calm(), u64::MAX);
-    // The picture of a program comes in its place then.
+    // Then the picture of a program comes in its place.
     program(&mut scene.raster, &GRAPHICS, 0x08);
     scene.two_colours(0, 7);
     scene.advance(16, FRAMES);
@@ -539,7 +552,8 @@ fn a_raster_at_rest_does_many_microseconds_at_once(rt: HostRuntime) -> Result<()
 fn nothing_below_the_lowest_byte_is_read(rt: HostRuntime) -> Result<(), Fail> {
     reads_go_on();
     stores_below_are_unseen();
-    // R12 and R13, the characters of a row, of which there are 32, the screen's kilobytes, and the lowest byte.
+    // R12 and R13, the characters of each of 32 rows, the screen's kilobytes, and the lowest byte's
+    // address.
     let rows: [(u8, u8, u8, u8, u16); 8] = [
         (0x0b, 0x00, 40, 10, 0x5800),
         // Scrolled by a row, so that the last row wraps.

@@ -5,8 +5,9 @@ use std::alloc::Global;
 use std::test::Fail;
 use std::vec::Vec;
 
-// A line is a code and the rows of its shape. 41 is full, 42 has its upper rows and 43 its lower ones; 44 has two dots of a diagonal to the left, and 45
-// one to the right; 46 one dot above another; 47 has its corners. The other codes are blank. Bits 6 and 7 of a row have no meaning.
+// A line is a code and the rows of its shape. 41 is full, 42 has its upper rows and 43 its lower
+// ones; 44 has two dots of a diagonal to the left, and 45 one to the right; 46 one dot above
+// another; 47 has its corners. The other codes are blank. Bits 6 and 7 of a row have no meaning.
 const SHAPES: &str = "\
 41 3F 3F 3F 3F 3F 3F 3F 3F 3F 3F
 42 3F 3F 3F 3F 3F C0 C0 C0 C0 C0
@@ -45,7 +46,7 @@ fn letters(alloc: Global, font: Option<Vec<u8>>) -> Result<Letters, Fail> {
     Ok(Letters::make(alloc, roms)?)
 }
 
-// A line of a row: the scan line, whether it is of a bottom row, and the number of fields.
+// A line of a row: the scan line, true for a bottom row, and the number of fields.
 #[derive(Clone, Copy)]
 struct Line {
     ra: u8,
@@ -53,7 +54,7 @@ struct Line {
     fields: u32,
 }
 
-// The colours of eight cells that have one colour each, or 9 for one that has more.
+// Returns the colours of eight cells, or 9 for a cell of more than one colour.
 fn colours(font: &Letters, codes: [u8; 8], line: Line) -> [u8; 8] {
     let mut row = RowState::start();
     let mut colours = [9; 8];
@@ -75,7 +76,8 @@ fn colours(font: &Letters, codes: [u8; 8], line: Line) -> [u8; 8] {
     colours
 }
 
-// The pixels of the last of three cells that are not black, the leftmost as the highest bit.
+// Returns the pixels of the last of three cells that are not black, the leftmost as the highest
+// bit.
 fn lit(font: &Letters, codes: [u8; 3], ra: u8, bottom: bool) -> u16 {
     let mut row = RowState::start();
     let mut cell = [0; 16];
@@ -89,7 +91,7 @@ fn lit(font: &Letters, codes: [u8; 3], ra: u8, bottom: bool) -> u16 {
     lit
 }
 
-// The colours of the cells of these codes, as digits, in one line of a row.
+// Returns true if the cells of these codes have these colours, as digits, in one line of a row.
 fn are_cells(font: &Letters, codes: &[u8], ra: u8, cells: &str) -> bool {
     let mut row = RowState::start();
     for (code, digits) in codes.iter().zip(cells.split(' ')) {
@@ -123,7 +125,8 @@ fn held_and_separated_graphics_of_double_height(rt: HostRuntime) -> Result<(), F
     Ok(())
 }
 
-// A line is the scan line, whether the row is a bottom row, the number of fields, the codes, and the colours of their cells.
+// A line is the scan line, the kind of the row, the number of fields, the codes, and the colours of
+// their cells.
 const CELLS: &str = "\
 # Letters in a colour, after the code.
 0 top 16 41 01 41 02 41 03 41 04 70102030
@@ -160,7 +163,7 @@ const CELLS: &str = "\
 0 top 16 11 1E 7F 0F 10 1B 7F 41 00111111
 ";
 
-// Whether cells have the colours of their line.
+// Returns true if cells have the colours of their line.
 fn are_coloured(font: &Letters, line: &str) -> Option<bool> {
     let mut words = line.split(' ');
     let line = Line {
@@ -193,8 +196,9 @@ fn each_control_code_has_its_effect(rt: HostRuntime) -> Result<(), Fail> {
     Ok(())
 }
 
-// A line is the codes, of which the last is drawn, the scan line, whether the row is a bottom row, and the pixels that are lit. The half dots 0 to 11 are
-// the pixels 0 1, 2, 3, 4 5, 6, 7, 8 9, 10, 11, 12 13, 14 and 15.
+// A line is the codes, of which the last is drawn, the scan line, the kind of the row, and the
+// pixels that are lit. The half dots 0 to 11 are the pixels 0 1, 2, 3, 4 5, 6, 7, 8 9, 10, 11, 12
+// 13, 14 and 15.
 const DRAWN: &str = "\
 # Dot 3 above dot 2: half dot 5 joins the dot above, and half dot 6 that below.
 20 20 44 0 top 0000000011100000
@@ -250,7 +254,7 @@ const DRAWN: &str = "\
 11 1A 22 0 top 0000000000011111
 ";
 
-// Whether a shape is drawn as its line says.
+// Returns true if a shape is drawn as its line says.
 fn is_drawn(font: &Letters, line: &str) -> Option<bool> {
     let mut words = line.split(' ');
     let codes = [

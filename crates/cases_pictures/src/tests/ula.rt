@@ -4,7 +4,8 @@ use video_ula::Ula;
 /// A full stop, as a digit.
 const DOT: u8 = 254;
 
-/// A line is the control byte, a byte, whether the cursor marks it, and the colours of its dots as digits. Entry n of the palette has the value n.
+/// A line is the control byte, a byte, `cursor` if the cursor marks it, and the colours of its dots
+/// as digits. Entry n of the palette has the value n.
 const ROWS: &str = "\
 00 1B - 3333333355555555
 00 E4 cursor 3333333355555555
@@ -40,7 +41,7 @@ fn number(digits: &str) -> Option<u8> {
     u8::from_str_radix(digits, 16).ok()
 }
 
-// Whether the dots are these digits.
+// Returns true if the dots are these digits.
 fn are(dots: &[u8; 16], digits: &str) -> bool {
     for (dot, digit) in dots.iter().zip(digits.as_bytes()) {
         if dot.wrapping_add(b'0') != *digit {
@@ -50,14 +51,14 @@ fn are(dots: &[u8; 16], digits: &str) -> bool {
     digits.len() == 16
 }
 
-// Whether a byte has the colours of its line.
+// Returns true if a byte has the colours of its line.
 fn is_right(ula: &mut Ula, line: &str) -> Option<bool> {
     let mut words = line.split(' ');
     let control = number(words.next()?)?;
     let byte = number(words.next()?)?;
     let is_marked = words.next()? == "cursor";
     ula.control(control);
-    // What is not written stays a full stop.
+    // Dots that are not written stay full stops.
     let mut to = [DOT; 16];
     let count = ula.pixels(byte, is_marked, &mut to);
     let want = if control & 0x10 == 0 { 16 } else { 8 };

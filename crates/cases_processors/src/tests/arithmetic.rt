@@ -1,4 +1,5 @@
-//! Sums, shifts, addresses and flags, against a calculation digit by digit and the manual.
+//! Sums, shifts, addresses and flags, compared with a calculation digit by digit and with the
+//! manual.
 use super::words::byte;
 use cpu_alu::{
     BusUse, Regs, Sum, adc, asl, bus_use, compare, crosses_page, has_flag, in_zero_page, lsr, rol,
@@ -7,7 +8,8 @@ use cpu_alu::{
 use digits::two_digits;
 use op_table::{Mnemonic, Mode, Part};
 
-/// A sum in decimal mode, digit by digit: the byte, C, V and N1, which is N on the NMOS part.
+/// Returns a sum in decimal mode, digit by digit: the byte, C, V and N1, which is N on the NMOS
+/// part.
 fn sum_by_digits(a: u8, m: u8, c: bool) -> (u8, bool, bool, bool) {
     let low = a % 16 + m % 16 + c as u8;
     let (low, half) = if low > 9 {
@@ -26,7 +28,7 @@ fn sum_by_digits(a: u8, m: u8, c: bool) -> (u8, bool, bool, bool) {
     (high * 16 + low, c, v, n)
 }
 
-/// One digit of a difference in decimal mode, and what it borrows.
+/// Returns one digit of a difference in decimal mode, and its borrow.
 fn digit_less(a: u8, m: u8, borrow: u8) -> (u8, u8) {
     let less = a.wrapping_sub(m).wrapping_sub(borrow);
     if less < 16 {
@@ -36,7 +38,8 @@ fn digit_less(a: u8, m: u8, borrow: u8) -> (u8, u8) {
     }
 }
 
-/// The byte of a difference in decimal mode: the NMOS part sets its digits right one by one, the 65C02 the whole byte.
+/// Returns the byte of a difference in decimal mode. The NMOS part corrects its digits one by one,
+/// the 65C02 the whole byte.
 fn difference_by_digits(part: Part, a: u8, m: u8, c: bool) -> u8 {
     let borrow = !c as u8;
     let (low, half) = digit_less(a % 16, m % 16, borrow);
@@ -54,7 +57,8 @@ fn difference_by_digits(part: Part, a: u8, m: u8, c: bool) -> u8 {
     }
 }
 
-/// Whether the sum and the difference in decimal mode are those that come digit by digit.
+/// Returns true if the sum and the difference in decimal mode are those of the calculation digit by
+/// digit.
 fn goes_by_digits(part: Part, a: u8, m: u8, carry: bool) -> bool {
     let binary = a as u16 + m as u16 + carry as u16;
     let (value, c, v, n1) = sum_by_digits(a, m, carry);
@@ -88,8 +92,8 @@ fn decimal_mode_goes_digit_by_digit(rt: HostRuntime) {
     }
 }
 
-// A line is an operation, A or the register, m, and which of the carry and D are set; and, for the NMOS part and for the 65C02, the value and which of C, Z, V
-// and N are set.
+// A line is an operation, A or the register, m, and the set ones of the carry and D; then, for the
+// NMOS part and for the 65C02, the value and the set ones of C, Z, V and N.
 const SUMS: &str = "\
 # The signed sums of the MCS6500 Programming Manual, section 2.2: 5 + 7, 127 + 2, 5 - 3, 5 - 7, -5 - 7, -66 - 65.
 adc 05 07 -- 0C ---- 0C ----
@@ -134,7 +138,7 @@ cmp 30 50 -- E0 ---N E0 ---N
 cmp 80 01 -- 7F C--- 7F C---
 ";
 
-// An operation on a part.
+// Does an operation on a part.
 fn sum_of(part: Part, operation: [u8; 3], a: u8, m: u8, [carry, decimal]: [bool; 2]) -> Sum {
     match &operation {
         b"adc" => adc(part, decimal, a, m, carry),
@@ -147,12 +151,12 @@ fn sum_of(part: Part, operation: [u8; 3], a: u8, m: u8, [carry, decimal]: [bool;
     }
 }
 
-// A flag as it is written.
+// Returns a flag as a line has it.
 fn flag(letter: u8, set: bool) -> u8 {
     if set { letter } else { b'-' }
 }
 
-// The value and the flags of a sum, as they are written.
+// Returns the value and the flags of a sum as a line has them.
 fn told(sum: Sum) -> [u8; 7] {
     let [high, low] = two_digits(sum.value);
     [
@@ -166,7 +170,7 @@ fn told(sum: Sum) -> [u8; 7] {
     ]
 }
 
-// Whether an operation comes to what its line says, on each part.
+// Returns true if an operation has its line's result, on each part.
 fn is_right(line: &[u8]) -> bool {
     let [o, p, q, b' ', a, b, b' ', m, n, b' ', c, d, b' ', want @ ..] = line else {
         return false;
@@ -215,7 +219,7 @@ fn addresses_wrap(rt: HostRuntime) {
     ];
     assert!(rt; words == [0x1234, 0x0001, 0x0001]);
     assert!(rt; [crosses_page(0xFF, 1), crosses_page(0xFE, 1)] == [true, false]);
-    // The target is two bytes on from FFFE, and then 16 back.
+    // The target is two bytes after FFFE, and then 16 before.
     let places = [
         regs.place(2),
         regs.stack(0),

@@ -6,8 +6,9 @@ use op_table::{Mode, Row, documented};
 use std::alloc::{AllocError, Global};
 use std::test::Fail;
 
-// A line is a case: the part and what a source text comes to, and behind `@` the text, in which `|` ends a line. It comes to its origin
-// and its bytes, or to its first offending line. Where nothing stands before `@`, it is what stands there above.
+// A line is a case: the part and a source text's result, and after `@` the text, in which `|` ends
+// a line. The result is the origin and the bytes, or the first offending line. If it is missing, it
+// is that of the line above.
 const TEXTS: &str = "\
 6502 C000 A9 41 8D 70 00 D0 F9@org &C000|start: LDA #&41|STA &0070|BNE start
 65C02 0000 B2 12@LDA (&12)|
@@ -111,8 +112,9 @@ const TEXTS: &str = "\
 6502 line 2: out of range@byte q,256|org 1
 ";
 
-// A line is a text that fills the memory, in which `|` ends a line: its beginning, a piece and how often it stands, and its end; then
-// what is too much, and what that comes to.
+// A line is a text that fills the memory, in which `|` ends a line: its beginning, a piece and the
+// number of its repetitions, and its end. Then come the text that is too much, and the result with
+// it.
 const FULL: &str = "\
 @LDA &1234,X|@21845@NOP|@NOP@line 21847: past the end of memory
 @byte 1,2,3,4, 5,6,7,8 ; eight bytes|@8192@|@NOP@line 8194: past the end of memory
@@ -132,7 +134,7 @@ fn add(text: &mut Vec<u8>, piece: &str) -> Result<(), AllocError> {
     Ok(())
 }
 
-// Whether these are the bytes, each behind a space.
+// Returns true if the list is the bytes, each after a space.
 fn are_listed(bytes: &[u8], list: &[u8]) -> bool {
     let mut list = list;
     for byte in bytes {
@@ -147,7 +149,7 @@ fn are_listed(bytes: &[u8], list: &[u8]) -> bool {
     list.is_empty()
 }
 
-// Whether an image is its origin and its bytes.
+// Returns true if an image has the origin and the bytes.
 fn is_image(image: &Image, want: &[u8]) -> bool {
     let [a, b, c, d, list @ ..] = want else {
         return false;
@@ -155,12 +157,12 @@ fn is_image(image: &Image, want: &[u8]) -> bool {
     ([*a, *b, *c, *d] == four_digits(image.origin)) & are_listed(&image.bytes, list)
 }
 
-// Whether a refusal is told so.
+// Returns true if the text of an error is `want`.
 fn is_told(alloc: Global, error: AsmError, want: &str) -> Result<bool, Fail> {
     Ok(format!(in alloc; "{error}")?.as_str() == want)
 }
 
-// Whether a source text comes to this.
+// Returns true if the result of a source text is `want`.
 fn comes_to(alloc: Global, part: Part, text: &[u8], want: &str) -> Result<bool, Fail> {
     match assemble(alloc, part, text) {
         Ok(image) => Ok(is_image(&image, want.as_bytes())),
@@ -168,7 +170,7 @@ fn comes_to(alloc: Global, part: Part, text: &[u8], want: &str) -> Result<bool, 
     }
 }
 
-// Whether a text comes to what stands before it.
+// Returns true if a text has the result before it.
 fn holds(alloc: Global, case: &str, source: &str) -> Result<bool, Fail> {
     let (part, want) = case.split_once(' ').unwrap_or((case, ""));
     let part = if part == "65C02" { Cmos } else { Nmos };
@@ -194,7 +196,7 @@ fn texts_come_to_their_bytes_or_to_their_first_offending_line(rt: HostRuntime) -
     Ok(())
 }
 
-// The operand that stands for a mode in a source text, and its bytes at address 0.
+// Returns an operand of a mode in a source text, and its bytes at address 0.
 fn operand_of(mode: Mode) -> (&'static str, &'static [u8]) {
     match mode {
         Mode::Imp | Mode::Spare => ("", &[]),
@@ -215,7 +217,7 @@ fn operand_of(mode: Mode) -> (&'static str, &'static [u8]) {
     }
 }
 
-// Whether the image is these bytes alone.
+// Returns true if the image is these bytes only.
 fn are(image: &Image, op: u8, operand: &[u8]) -> bool {
     match image.bytes.as_slice() {
         [first, rest @ ..] => (*first == op) & (rest == operand),
@@ -223,7 +225,7 @@ fn are(image: &Image, op: u8, operand: &[u8]) -> bool {
     }
 }
 
-// Whether a row's form has its opcode.
+// Returns true if a row's form has its opcode.
 fn has_opcode(alloc: Global, part: Part, op: u8, row: Row) -> Result<bool, Fail> {
     let (operand, bytes) = operand_of(row.mode);
     let mut text = Vec::from_array(alloc, row.mnemonic.name())?;
@@ -245,13 +247,14 @@ fn each_documented_form_has_its_opcode(rt: HostRuntime) -> Result<(), Fail> {
     Ok(())
 }
 
-// Whether a text fills the memory.
+// Returns true if a text fills the memory.
 fn fills(alloc: Global, part: Part, text: &[u8]) -> Result<bool, Fail> {
     let image = assemble(alloc, part, text)?;
     Ok(image.bytes.len() == 65_536)
 }
 
-// Whether the text of a line fills the memory, and with a little more comes to what the line says.
+// Returns true if the text of a line fills the memory, and has the line's result with a little
+// more.
 fn fills_it(alloc: Global, line: &str) -> Result<bool, Fail> {
     let mut fields = line.split('@');
     let mut text = Vec::new(alloc);

@@ -1,8 +1,8 @@
-//! Bits, the order of accesses, and want of memory.
+//! Bits, the order of accesses, and a lack of memory.
 use beeb_bits::{NoMemory, Side, Tick, before, bit};
 use std::test::Fail;
 
-/// A byte, a place, and whether that bit is set.
+/// A byte, the number of a bit, and true if that bit is set.
 const BITS: [(u8, u8, bool); 5] = [
     (0x01, 0, true),
     (0x01, 1, false),
@@ -18,7 +18,7 @@ fn bits_count_from_the_lowest(rt: HostRuntime) {
     }
 }
 
-/// Two moments, and whether the first is before the other.
+/// Two moments, and true if the first is before the other.
 const MOMENTS: [(u64, Side, u64, Side, bool); 7] = [
     (5, Side::Host, 6, Side::Host, true),
     (6, Side::Host, 5, Side::Para, false),

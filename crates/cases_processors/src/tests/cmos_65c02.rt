@@ -1,4 +1,5 @@
-//! The 65C02, by its data sheet: each instruction, its accesses, and what comes between instructions.
+//! The 65C02, by its data sheet: each instruction, its accesses, and the sequences between
+//! instructions.
 mod rows;
 
 use super::words::{are, before, byte, leaves, registers};
@@ -18,7 +19,7 @@ struct Memory {
 }
 
 impl Memory {
-    /// All bytes are 0.
+    /// Makes a memory of zeroes.
     fn empty() -> Self {
         Memory {
             bytes: [0u8; 65536],
@@ -27,7 +28,7 @@ impl Memory {
         }
     }
 
-    /// Each byte tells its address apart from those near it.
+    /// Makes a memory in which each byte differs from those near it.
     fn filled() -> Self {
         let mut memory = Memory::empty();
         for i in 0..65536usize {
@@ -59,7 +60,7 @@ impl Memory {
     }
 }
 
-/// A sequence that was done: the registers after it, its first accesses, and how many cycles it took.
+/// A finished sequence: the registers after it, its first accesses, and the number of its cycles.
 #[derive(Clone, Copy)]
 struct Sequence {
     after: Regs,
@@ -67,7 +68,7 @@ struct Sequence {
     cycles: usize,
 }
 
-/// Whether a word is this access: a read's address, or a write's, `=` and the byte.
+/// Returns true if a word is this access: a read's address, or a write's, `=` and the byte.
 fn is_access(word: &[u8], access: Cycle) -> bool {
     match access {
         Read(at) => word == four_digits(at).as_slice(),
@@ -81,7 +82,7 @@ fn is_access(word: &[u8], access: Cycle) -> bool {
 }
 
 impl Sequence {
-    /// Whether it made these accesses.
+    /// Returns true if the sequence made these accesses.
     fn made(&self, list: &str) -> bool {
         let mut words = list.split(' ');
         for access in self.accesses.iter().take(self.cycles) {
@@ -96,7 +97,7 @@ impl Sequence {
         words.next().is_none()
     }
 
-    /// Whether it made these writes, each an address and a byte.
+    /// Returns true if the sequence made these writes, each an address and a byte.
     fn wrote(&self, list: &[u8]) -> bool {
         let mut list = list;
         for access in self.accesses.iter().take(self.cycles) {
@@ -113,7 +114,7 @@ impl Sequence {
         list.is_empty()
     }
 
-    /// Whether it took so many cycles, left these registers and made these writes.
+    /// Returns true if the sequence took these cycles, left these registers and made these writes.
     fn came_to(&self, before: Regs, want: &[u8]) -> bool {
         let [cycles, b' ', rest @ ..] = want else {
             return false;
@@ -128,7 +129,7 @@ impl Sequence {
     }
 }
 
-/// Does what is left of a sequence.
+/// Does the rest of a sequence.
 fn finish(cpu: &mut Cpu, memory: &mut Memory) {
     memory.cycles = 0;
     for _ in 0..9u8 {
@@ -148,7 +149,7 @@ fn next(cpu: &mut Cpu, memory: &mut Memory, nmi: bool, irq: bool) {
     finish(cpu, memory);
 }
 
-/// The last sequence, once it has ended.
+/// Returns the last sequence, if it has ended.
 fn done(cpu: &Cpu, memory: &Memory) -> Option<Sequence> {
     if cpu.last() {
         Some(Sequence {
@@ -161,7 +162,7 @@ fn done(cpu: &Cpu, memory: &Memory) -> Option<Sequence> {
     }
 }
 
-/// Starts at 0400, and comes to 040D with these registers.
+/// Starts at 0400, and reaches 040D with these registers.
 fn set_up(memory: &mut Memory, before: Regs) -> Cpu {
     let Regs { a, x, y, s, p, .. } = before;
     memory.place(0xFFFC, &[0x00, 0x04]);
@@ -176,7 +177,8 @@ fn set_up(memory: &mut Memory, before: Regs) -> Cpu {
     cpu
 }
 
-/// Does an instruction, of three bytes at 040D, with these registers before it, which it really has.
+/// Does an instruction of three bytes at 040D. Returns `None` if the registers before it are not
+/// `before`.
 fn run(code: &[u8], before: Regs) -> Option<Sequence> {
     let mut memory = Memory::filled();
     memory.place(0x040D, code);
@@ -186,7 +188,8 @@ fn run(code: &[u8], before: Regs) -> Option<Sequence> {
     if is_before { done(&cpu, &memory) } else { None }
 }
 
-/// Does the instruction of a line's beginning: its bytes, and the registers before it, which it gives too.
+/// Does the instruction of a line's beginning: its bytes and the registers before it. Returns these
+/// registers too.
 fn done_of(head: &str) -> Option<(Regs, Sequence)> {
     let (code, name) = head.rsplit_once(' ')?;
     let code = match code.as_bytes() {
@@ -199,7 +202,8 @@ fn done_of(head: &str) -> Option<(Regs, Sequence)> {
     Some((before, run(&code, before)?))
 }
 
-/// Whether an instruction ends as its line says, with these cycles, registers and writes or, where so asked, with these accesses.
+/// Returns true if an instruction ends as its line says: with these cycles, registers and writes,
+/// or, if `by_access` is set, with these accesses.
 fn ends_so(line: &str, by_access: bool) -> bool {
     let Some((head, want)) = line.split_once('@') else {
         return false;
@@ -218,7 +222,8 @@ fn documented_instructions_do_what_the_data_sheet_says(rt: HostRuntime) {
     }
 }
 
-/// A line is an instruction, its bytes but 00 at the end and the registers before it, and behind `@` its accesses, a write with its byte.
+/// A line is an instruction: its bytes without 00 at the end, and the registers before it. After
+/// `@` come its accesses, a write with its byte.
 const ACCESSES: &str = "\
 # LDA zp,X
 B5 42 LOW@040D 040E 040E 0065
@@ -268,7 +273,7 @@ fn accesses_come_in_their_order(rt: HostRuntime) {
     }
 }
 
-/// Whether an opcode does nothing in so many bytes and cycles.
+/// Returns true if an opcode does nothing in `bytes` bytes and `cycles` cycles.
 fn is_spare(op: u8, bytes: u16, cycles: usize) -> bool {
     let before = registers(0xC3, 0x23, 0xE4, 0x00, 0xC7);
     let Some(done) = run(&[op, 0, 0], before) else {
@@ -285,7 +290,7 @@ fn is_spare(op: u8, bytes: u16, cycles: usize) -> bool {
     (done.after == after) & (done.cycles == cycles) & !writes
 }
 
-/// The opcodes that do nothing, but those of the columns 3, 7, B and F: opcode, bytes, cycles.
+/// The opcodes that do nothing, except those of the columns 3, 7, B and F: opcode, bytes, cycles.
 const SPARE: [(u8, u16, usize); 14] = [
     (0x02, 2, 2),
     (0x22, 2, 2),
@@ -325,7 +330,7 @@ const JUMP_AND_SUM: [&str; 5] = [
     "3 563A 00 00 00 FD 0F",
 ];
 
-/// Whether the next instruction begins at a look, and comes to this.
+/// Returns true if the next instruction begins at a look, and ends as `want` says.
 fn comes_to(cpu: &mut Cpu, memory: &mut Memory, want: &str) -> bool {
     if !cpu.last() {
         return false;
@@ -355,8 +360,9 @@ fn an_indirect_jump_crosses_a_page_and_a_decimal_sum_takes_a_cycle_more(rt: Host
     }
 }
 
-/// A line is what the lines ask at a look; behind `@` the accesses of the sequence that begins, a write with its byte, and behind another PC, A, X, Y, S and P
-/// after it. SED, CLI and BRK stand at 1234, and RTI at 5678.
+/// A line is the interrupts that are asked for at a look; after `@` the accesses of the sequence
+/// that begins, a write with its byte; and after another `@` PC, A, X, Y, S and P after it. SED,
+/// CLI and BRK are at 1234, and RTI is at 5678.
 const LOOKS: &str = "\
 # NMI comes before IRQ, and whatever I is.
 nmi irq@C000 C000 01FD=C0 01FC=00 01FB=24 FFFA FFFB@1234 00 00 00 FA 04
@@ -386,7 +392,7 @@ fn begin(cpu: &mut Cpu, memory: &mut Memory, head: &str) {
     }
 }
 
-/// Whether the last sequence was one of these accesses and left these registers.
+/// Returns true if the last sequence made these accesses and left these registers.
 fn was(cpu: &Cpu, memory: &Memory, want: &str) -> bool {
     let (accesses, after) = want.split_once('@').unwrap_or(("", ""));
     match done(cpu, memory) {
@@ -395,7 +401,7 @@ fn was(cpu: &Cpu, memory: &Memory, want: &str) -> bool {
     }
 }
 
-/// Whether a line of looks holds. One that begins with `#` is none.
+/// Returns true if a line of looks holds, or begins with `#`.
 fn holds(cpu: &mut Cpu, memory: &mut Memory, line: &str) -> bool {
     match line.split_once('@') {
         Some((head, want)) => {

@@ -1,4 +1,5 @@
-//! The pair of three seeds, beside a plain generator and images that were assembled by hand.
+//! The pairs of three seeds, compared with a plain generator and images that were assembled by
+//! hand.
 use demo_gen::{Demo, pair};
 use std::alloc::Global;
 use std::test::Fail;
@@ -30,7 +31,7 @@ impl Plain {
     }
 }
 
-// The bytes at F900 to F9FF are the low bytes of the plain generator's words.
+// Returns true if the bytes at F900 to F9FF are the low bytes of the plain generator's words.
 fn holds_plain_bytes(demo: &Demo, seed: u64) -> bool {
     let mut plain = Plain::of(seed);
     let drawn = demo.tube.get(256..512).unwrap_or(&[]);
@@ -42,7 +43,8 @@ fn holds_plain_bytes(demo: &Demo, seed: u64) -> bool {
     drawn.len() == 256
 }
 
-// The code, 00 up to the vectors but for the drawn bytes, and the vectors.
+// Returns true if the image is the code, zeroes up to the vectors except for the drawn bytes, and
+// the vectors.
 fn is_image(image: &[u8], code: &[u8], vectors: &[u8], len: usize) -> bool {
     let mut at = 0usize;
     for byte in image {
@@ -61,7 +63,7 @@ const OS: &[u8] =
 const TUBE: &[u8] =
     b"\xa2\x00\xbd\x00\xf8\x9d\x00\xf8\xbd\x00\xf9\x9d\x00\xf9\xe8\xd0\xf1\xa0\x10\x2c\xf8\xfe\x50\xfb\xbd\x00\xf9\x8d\xf9\xfe\xe8\xd0\xf2\x88\xd0\xef\x4c\x24\xf8";
 
-// The four first bytes that PCG's reference code gives for these seeds.
+// Returns the first four bytes of PCG's reference code for a seed.
 fn first_bytes(seed: u64) -> &'static [u8] {
     match seed {
         0 => b"\x88\x16\xbb\xe0",
@@ -70,7 +72,7 @@ fn first_bytes(seed: u64) -> &'static [u8] {
     }
 }
 
-// Whether this is the pair of a seed.
+// Returns true if this is the pair of a seed.
 fn is_pair(demo: &Demo, seed: u64) -> bool {
     is_image(&demo.os, OS, b"\x00\xc0\x00\xc0\x00\xc0", 16_384)
         & is_image(&demo.tube, TUBE, b"\x00\xf8\x00\xf8\x00\xf8", 2_048)

@@ -4,10 +4,10 @@ use op_table::Part::{self, Cmos, Nmos};
 use std::alloc::Global;
 use std::test::Fail;
 
-// A part, an origin, bytes from there on, and the lines behind `org`.
+// A part, an origin, bytes from there on, and the lines after `org`.
 type Row = (Part, u16, &'static [u8], &'static str);
 
-// Whether bytes come to their text.
+// Returns true if bytes have their text.
 fn is_right(alloc: Global, (part, origin, bytes, lines): Row) -> Result<bool, Fail> {
     if usize::from(origin) + bytes.len() > 65_536 {
         return Ok(false);

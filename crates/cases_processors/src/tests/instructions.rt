@@ -109,7 +109,7 @@ const CMOS_ROWS: [Entry; 47] = [
     (0xFC, Nop, Spare, 3, 4),
 ];
 
-/// Whether the row of an opcode is that of a manual, and has the bytes of its mode.
+/// Returns true if the row of an opcode is that of a manual, and has the bytes of its mode.
 fn is_row(part: Part, (op, mnemonic, mode, bytes, cycles): Entry) -> bool {
     let row = Row {
         mnemonic,
@@ -124,7 +124,7 @@ fn is_row(part: Part, (op, mnemonic, mode, bytes, cycles): Entry) -> bool {
     (found == Some(row)) & (mode == Spare || mode.length() == bytes)
 }
 
-/// The first opcode whose row is another.
+/// Returns the first opcode whose row differs.
 fn first_other(part: Part, rows: &[Entry]) -> Option<u8> {
     for row in rows {
         if !is_row(part, *row) {
@@ -140,12 +140,13 @@ fn rows_are_those_of_the_manuals(rt: HostRuntime) {
     assert_eq!(rt; first_other(Part::Cmos, &CMOS_ROWS), None);
 }
 
-/// Whether a documented row is found by its mnemonic and mode, and has the bytes of its mode.
+/// Returns true if a documented row is found by its mnemonic and mode, and has the bytes of its
+/// mode.
 fn leads_back(part: Part, op: u8, row: Row) -> bool {
     (find(part, row.mnemonic, row.mode) == Some(op)) & (row.mode.length() == row.bytes)
 }
 
-/// How many opcodes of a part are documented, and how many of them lead back.
+/// Returns the number of documented opcodes of a part, and the number of those that lead back.
 fn counts(part: Part) -> (u16, u16) {
     let mut counts = (0u16, 0u16);
     for op in 0..=255u8 {
@@ -180,7 +181,7 @@ fn documented_instructions_are_those_of_the_manuals(rt: HostRuntime) {
     assert_eq!(rt; missing, [None; 6]);
 }
 
-/// The first opcode whose mnemonic is not found by its name.
+/// Returns the first opcode whose mnemonic is not found by its name.
 fn first_lost() -> Option<u8> {
     for op in 0..=255u8 {
         let mnemonic = cmos(op).mnemonic;
@@ -191,7 +192,7 @@ fn first_lost() -> Option<u8> {
     None
 }
 
-/// Names in either case, and what is none.
+/// Names in either case, and others that are no names.
 const NAMES: [(&str, Option<Mnemonic>); 9] = [
     ("LDA", Some(Lda)),
     ("lda", Some(Lda)),

@@ -1,4 +1,5 @@
-//! The NMOS 6502, by its manuals: each instruction's accesses, and what comes between instructions.
+//! The NMOS 6502, by its manuals: each instruction's accesses, and the sequences between
+//! instructions.
 mod rows;
 
 use super::words::{are, before, byte, leaves};
@@ -9,7 +10,7 @@ use digits::{four_digits, two_digits};
 use op_table::{Part, nmos};
 use rows::ROWS;
 
-/// Gives it these bytes, one a cycle, and looks at the lines between, where none asks.
+/// Gives the processor these bytes, one a cycle. It looks at the lines between, and none asks.
 fn feed(cpu: &mut Cpu, bytes: &[u8]) {
     for byte in bytes {
         if cpu.last() {
@@ -21,7 +22,7 @@ fn feed(cpu: &mut Cpu, bytes: &[u8]) {
     }
 }
 
-/// A processor that has come to 040D with these registers, or none.
+/// Returns a processor that has reached 040D with these registers, or `None`.
 fn set_up(before: Regs) -> Option<Cpu> {
     let Regs { a, x, y, s, p, .. } = before;
     let mut cpu = Cpu::new();
@@ -38,7 +39,8 @@ fn set_up(before: Regs) -> Option<Cpu> {
     }
 }
 
-/// Whether the next access is this one: a read, whose byte it gets, or a write. Without an address it is a read of this one.
+/// Returns true if the next access is this one: a write, or a read, which gets the byte. An access
+/// without an address is a read at `code`.
 fn accesses(cpu: &mut Cpu, code: u16, access: &[u8]) -> bool {
     let (kind, address, high, low) = match access {
         [b'=', high, low] => (b'r', four_digits(code), *high, *low),
@@ -58,7 +60,7 @@ fn accesses(cpu: &mut Cpu, code: u16, access: &[u8]) -> bool {
     is_wanted
 }
 
-/// Whether the next accesses are these.
+/// Returns true if the next accesses are these.
 fn makes(cpu: &mut Cpu, list: &str) -> bool {
     let mut code = 0x040Du16;
     for access in list.split(' ') {
@@ -70,7 +72,8 @@ fn makes(cpu: &mut Cpu, list: &str) -> bool {
     true
 }
 
-/// Whether the sequence that began makes these accesses and no more, and leaves these registers.
+/// Returns true if the sequence that began makes these accesses and no more, and leaves these
+/// registers.
 fn goes(cpu: &mut Cpu, before: Regs, after: &str, list: &str) -> bool {
     let is_made = makes(cpu, list);
     if cpu.last() {
@@ -80,7 +83,7 @@ fn goes(cpu: &mut Cpu, before: Regs, after: &str, list: &str) -> bool {
     }
 }
 
-/// Whether an instruction that begins with these registers goes so.
+/// Returns true if an instruction that begins with these registers does this.
 fn goes_from(before: Regs, after: &str, list: &str) -> bool {
     let Some(mut cpu) = set_up(before) else {
         return false;
@@ -92,7 +95,7 @@ fn goes_from(before: Regs, after: &str, list: &str) -> bool {
     goes(&mut cpu, before, after, list) & starts
 }
 
-/// Whether an instruction goes as its line says.
+/// Returns true if an instruction does what its line says.
 fn is_right(line: &str) -> Option<bool> {
     let (name, rest) = line.split_once('@')?;
     let (after, list) = rest.split_once('@')?;
@@ -106,7 +109,7 @@ fn instructions_make_the_accesses_of_the_manual(rt: HostRuntime) {
     }
 }
 
-/// Whether an opcode is read again and again, and nothing else done, until a reset.
+/// Returns true if an opcode is read again and again, with no other access, until a reset.
 fn halts(op: u8) -> bool {
     let Some(low) = before("LOW") else {
         return false;
@@ -134,7 +137,7 @@ fn halts(op: u8) -> bool {
     is_right && !cpu.halted()
 }
 
-/// How many opcodes have no row, and how many of them halt.
+/// Returns the number of opcodes without a row, and the number of those that halt.
 fn counts() -> (u16, u16) {
     let mut counts = (0u16, 0u16);
     for op in 0..=255u8 {
@@ -154,7 +157,8 @@ fn all_other_opcodes_halt(rt: HostRuntime) {
     assert_eq!(rt; counts(), (105, 105));
 }
 
-/// A line is what the lines ask at a look; behind `@` PC, A, X, Y, S and P after the sequence that begins, and behind another its accesses.
+/// A line is the interrupts that are asked for at a look; after `@` PC, A, X, Y, S and P after the
+/// sequence that begins; and after another `@` its accesses.
 const LOOKS: &str = "\
 # NMI comes before IRQ, and whatever I is.
 nmi irq@1234 00 00 00 FA 04@rC000=00 rC000=00 w01FD=C0 w01FC=00 w01FB=24 rFFFA=34 rFFFB=12
@@ -189,7 +193,7 @@ fn begin(cpu: &mut Cpu, head: &str) {
     }
 }
 
-/// Whether a line of looks holds. One that begins with `#` is none.
+/// Returns true if a line of looks holds, or begins with `#`.
 fn holds(cpu: &mut Cpu, line: &str) -> Option<bool> {
     if line.starts_with('#') {
         return Some(true);

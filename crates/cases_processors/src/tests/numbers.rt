@@ -20,7 +20,7 @@ fn digits_are_upper_case_and_read_in_either_case(rt: HostRuntime) {
     assert!(rt; are == [false, true, false]);
 }
 
-/// A text, a most, and the number.
+/// A text, the largest allowed number, and the number.
 const NUMBERS: [(&str, u64, Option<u64>); 10] = [
     ("0", 0, Some(0)),
     ("7", 6, None),

@@ -1,4 +1,5 @@
-//! The answers of the memory forms call by call, the working folder, crews, and the texts of the errors.
+//! The answers of the memory forms call by call, the working folder, crews, and the texts of the
+//! errors.
 ghost use Rattle.std.specs.Prelude.{◌≡◌, ◌+◌, ◌<◌, IfOk, string_bytes};
 ghost use Rattle.beeb_files.specs.Memory.{NamesDiffer};
 
@@ -25,7 +26,7 @@ fn two_files(alloc: Global) -> Result<Vec<(String, Vec<u8>)>, AllocError>
     Ok(vec![in alloc; program, empty]?)
 }
 
-// The answer, to be compared with one that is written out.
+// Returns the answer in a form that can be compared with a literal.
 fn in_slices(answer: &Result<Vec<u8>, ShelfError>) -> Result<&[u8], ShelfError> {
     match answer {
         Ok(bytes) => Ok(bytes.as_slice()),
@@ -33,14 +34,14 @@ fn in_slices(answer: &Result<Vec<u8>, ShelfError>) -> Result<&[u8], ShelfError> 
     }
 }
 
-// A call of a shelf: the name, the most bytes, and the answer.
+// A call of a shelf: the name, the largest allowed number of bytes, and the answer.
 type Call = (&'static str, u64, Result<&'static [u8], ShelfError>);
 
 fn is_answer<S: Shelf>(shelf: &mut S, alloc: Global, (name, cap, want): Call) -> bool {
     in_slices(&shelf.get(alloc, name, cap)) == want
 }
 
-// How many calls in turn have their answers, from the first on.
+// Returns the number of successive calls, from the first on, that have their answers.
 fn answers<S: Shelf>(shelf: &mut S, alloc: Global, calls: &[Call]) -> usize {
     for (n, call) in calls.iter().enumerate() {
         if !is_answer(shelf, alloc, *call) {
@@ -50,7 +51,7 @@ fn answers<S: Shelf>(shelf: &mut S, alloc: Global, calls: &[Call]) -> usize {
     calls.len()
 }
 
-// Calls 3 and 4 count too: else call 6 would not be the one that fails.
+// Calls 3 and 4 count too, so that call 6 is the one that fails.
 const GETS: [Call; 9] = [
     ("PROGRAM", 8, Ok(b"10 PRINT")),
     ("PROGRAM", 8, Err(ShelfError::Failed)),
@@ -72,7 +73,8 @@ fn a_memory_shelf_fails_at_the_listed_calls(rt: HostRuntime) -> Result<(), Fail>
     Ok(())
 }
 
-// The name that is put, or none where the bytes are said; the bytes; the answer; and then the bytes of OUT and the bytes said.
+// The name that is put, or `None` for bytes that are said; the bytes; the answer; and then the
+// bytes of OUT and the bytes said.
 type Put = (
     Option<&'static str>,
     &'static [u8],
@@ -98,7 +100,7 @@ fn puts<O: Outlet>(outlet: &mut O, name: Option<&str>, bytes: &[u8]) -> Result<(
     }
 }
 
-// Whether OUT has these bytes, and these were said.
+// Returns true if OUT has these bytes, and these were said.
 fn holds(outlet: &MemOutlet, held: &[u8], said: &[u8]) -> bool {
     (outlet.file("OUT") == Some(held)) & (outlet.said() == said)
 }
@@ -117,7 +119,7 @@ fn a_memory_outlet_fails_at_the_listed_calls(rt: HostRuntime) -> Result<(), Fail
     Ok(())
 }
 
-// The file that the test writes in the folder where it runs, and removes.
+// The file that the test writes in its working folder, and removes.
 const WRITTEN: &str = "written_by_a_test_of_beeb_files";
 
 const READS: [Call; 4] = [

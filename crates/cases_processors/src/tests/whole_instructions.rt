@@ -1,9 +1,10 @@
-//! Which instructions are done whole: of every opcode of both parts, and where an access is not of plain memory.
+//! The instructions that are done whole: each opcode of both parts, and those with an access that
+//! is not of plain memory.
 use cpu_alu::{DECIMAL, Regs};
 use cpu_whole::{Plain, whole};
 use op_table::{Mnemonic, Mode, Part, Row, cmos, nmos};
 
-/// Nothing is noted.
+/// A context without notes.
 #[derive(Drop)]
 struct Unnoted;
 
@@ -81,7 +82,8 @@ fn row_at(part: Part, op: u8) -> Option<Row> {
     }
 }
 
-/// Whether an instruction is left to the cycles: it sets or takes I, is a sum in decimal mode, or does nothing.
+/// Returns true if an instruction is left to single cycles: it may change I, is a sum in decimal
+/// mode, or does nothing.
 fn is_left(part: Part, op: u8, p: u8) -> bool {
     let Some(row) = row_at(part, op) else {
         return true;
@@ -93,7 +95,7 @@ fn is_left(part: Part, op: u8, p: u8) -> bool {
     }
 }
 
-/// The registers of each row, with these flags.
+/// Returns the registers of each row, with these flags.
 fn registers(p: u8) -> Regs {
     Regs {
         pc: 0x040D,
@@ -105,7 +107,7 @@ fn registers(p: u8) -> Regs {
     }
 }
 
-/// Whether an opcode is done whole or left as it is to be, with these flags.
+/// Returns true if an opcode is done whole, or left to single cycles, as expected with these flags.
 fn is_as_listed(ram: &mut Ram, part: Part, op: u8, p: u8) -> bool {
     ram.place(0x040D, &[op, 0x10, 0x32]);
     let mut now = registers(p);
@@ -113,7 +115,7 @@ fn is_as_listed(ram: &mut Ram, part: Part, op: u8, p: u8) -> bool {
     (cycles == 0) == is_left(part, op, p)
 }
 
-/// The first opcode that is not, of a part.
+/// Returns the first opcode of a part that is not as listed.
 fn first_other(ram: &mut Ram, part: Part) -> Option<u8> {
     for op in 0..=255u8 {
         if !is_as_listed(ram, part, op, 0) | !is_as_listed(ram, part, op, DECIMAL) {
@@ -123,19 +125,20 @@ fn first_other(ram: &mut Ram, part: Part) -> Option<u8> {
     None
 }
 
-/// Below this address memory is plain: a row is three bytes of code with X 1, Y 1, and the cycles at once, or 0 where an access is not plain.
+/// Below address FC00 memory is plain. A row is three bytes of code with X 1 and Y 1, and the
+/// cycles at once, or 0 if an access is not plain.
 const WALLED: [(u8, u8, u8, u64); 12] = [
-    // LDA and STA at the last plain address, and behind it
+    // LDA and STA at the last plain address, and at the next one
     (0xAD, 0xFF, 0xFB, 4),
     (0xAD, 0x00, 0xFC, 0),
     (0x8D, 0xFF, 0xFB, 4),
     (0x8D, 0x00, 0xFC, 0),
-    // LDA and INC abs,X that come there by the index
+    // LDA and INC abs,X that reach it by the index
     (0xBD, 0xFE, 0xFB, 4),
     (0xBD, 0xFF, 0xFB, 0),
     (0xFE, 0xFE, 0xFB, 7),
     (0xFE, 0xFF, 0xFB, 0),
-    // STA abs,X that reads there before it writes elsewhere
+    // STA abs,X that reads there before it writes to another address
     (0x9D, 0xFF, 0xFF, 0),
     // JMP through a pointer whose second byte is there, and one to there
     (0x6C, 0xFE, 0xFB, 5),
@@ -143,7 +146,7 @@ const WALLED: [(u8, u8, u8, u64); 12] = [
     (0x4C, 0x00, 0xFC, 3),
 ];
 
-/// The cycles of an instruction of three bytes, which keeps PC where it is not done.
+/// Returns the cycles of an instruction of three bytes. If it is not done, PC stays.
 fn cycles_of(ram: &mut Ram, code: &[u8]) -> Option<u64> {
     let mut now = registers(0);
     ram.place(0x040D, code);

@@ -4,7 +4,7 @@ ghost use Rattle.std.specs.Prelude.{◌<◌};
 use cpu_alu::Regs;
 use digits::{four_digits, two_digits};
 
-/// A hexadecimal digit.
+/// Returns the value of a hexadecimal digit.
 fn digit(b: u8) -> u8
     ensures { result < 16 }
 {
@@ -15,12 +15,12 @@ fn digit(b: u8) -> u8
     }
 }
 
-/// A byte of two hexadecimal digits.
+/// Returns the byte of two hexadecimal digits.
 pub(super) fn byte(high: u8, low: u8) -> u8 {
     16 * digit(high) + digit(low)
 }
 
-/// Whether a text is PC, A, X, Y, S and P.
+/// Returns true if a text is PC, A, X, Y, S and P.
 pub(super) fn are(text: &[u8], regs: Regs) -> bool {
     let [i, j, k, l] = four_digits(regs.pc);
     let [a, b] = two_digits(regs.a);
@@ -34,7 +34,7 @@ pub(super) fn are(text: &[u8], regs: Regs) -> bool {
     .as_slice()
 }
 
-/// Whether the registers are these, where X, Y and S are told, or stay as they were.
+/// Returns true if the registers are these. If the text has no X, Y and S, they stay as they were.
 pub(super) fn leaves(before: Regs, text: &[u8], after: Regs) -> bool {
     let [x, m] = two_digits(before.x);
     let [y, n] = two_digits(before.y);
@@ -50,14 +50,15 @@ pub(super) fn leaves(before: Regs, text: &[u8], after: Regs) -> bool {
     }
 }
 
-/// The registers at 040D.
+/// Returns the registers at 040D.
 pub(super) fn registers(a: u8, x: u8, y: u8, s: u8, p: u8) -> Regs {
     let pc = 0x040D;
     Regs { pc, a, x, y, s, p }
 }
 
-/// The registers before an instruction. LOW: no indexed address crosses a page, and all flags are clear. HIGH: indexed addresses cross pages, the
-/// stack wraps at a push, and all flags but D are set. TOP: addresses wrap, and the stack wraps at a pull. DECIMAL: D and C are set.
+/// Returns the registers before an instruction. LOW: no indexed address crosses a page, and all
+/// flags are clear. HIGH: indexed addresses cross pages, the stack wraps at a push, and all flags
+/// except D are set. TOP: addresses wrap, and the stack wraps at a pull. DECIMAL: D and C are set.
 pub(super) fn before(name: &str) -> Option<Regs> {
     match name {
         "LOW" => Some(registers(0x5A, 0x23, 0x14, 0xFD, 0x00)),

@@ -41,7 +41,7 @@ fn a_rise_of_the_nmi_condition_counts(rt: HostRuntime) {
 fn the_counts_rise_with_their_conditions(rt: HostRuntime) {
     let mut chip = Chip::new();
     let rows = [
-        // M set: register 3 to the host holds its byte of power-on, so that N does not hold.
+        // M is set. Register 3 to the host holds its byte of power-on, so N does not hold.
         (Side::Host, Op::Write(0, 0x88), 0, 0),
         // The host empties it: N.
         (Side::Host, Op::Read(5), 1, 0),
@@ -144,7 +144,8 @@ fn each_line_follows_its_flag_and_register(rt: HostRuntime) {
     }
 }
 
-// A chip with so many bytes in register 1 to the host and, where they are not 0, so many in register 3 both ways, and these counts.
+// Makes a chip with `queue` bytes in register 1 to the host, `third` bytes in register 3 in both
+// directions unless it is 0, and these counts.
 fn filled(queue: u8, third: u8, counts: u64) -> Option<Chip> {
     let mut chip = Chip::new();
     chip.apply(Side::Host, Op::Write(0, 0x90));
@@ -175,7 +176,7 @@ fn a_reset_breaks_a_transfer_off(rt: HostRuntime) {
         (Side::Para, Op::Write(1, 0x32), 0x00, 1, 0),
         (Side::Host, Op::Write(7, 0x44), 0x00, 1, 0),
         (Side::Host, Op::Read(1), 0x31, 1, 0),
-        // P is set, and the reset counts all the same.
+        // P is set, and the reset counts too.
         (Side::Host, Op::Write(0, 0xa0), 0x00, 1, 1),
         (Side::Host, Op::Reset, 0x00, 1, 2),
         (Side::Host, Op::Read(0), 0x40, 1, 2),
@@ -183,7 +184,7 @@ fn a_reset_breaks_a_transfer_off(rt: HostRuntime) {
         (Side::Para, Op::Read(6), 0x7f, 1, 2),
         (Side::Para, Op::Read(7), 0x00, 1, 2),
         (Side::Para, Op::Read(4), 0x3f, 1, 2),
-        // The byte 00 in register 3 to the host: with it gone N holds, but M is clear.
+        // The byte 00 in register 3 to the host. After its read N holds, but M is clear.
         (Side::Host, Op::Read(4), 0xff, 1, 2),
         (Side::Host, Op::Read(5), 0x00, 1, 2),
         (Side::Host, Op::Read(4), 0x7f, 1, 2),
@@ -206,7 +207,7 @@ fn a_reset_breaks_a_transfer_off(rt: HostRuntime) {
     assert_eq!(rt; chip.pack(), [7, 0, 0, 0, 0x10_0000, 0]);
 }
 
-// Whether a chip that was read back from the words of another goes on as that does.
+// Returns true if a chip that was read back from the words of another continues as that one does.
 fn goes_on_as(again: &mut Chip, chip: &mut Chip) -> bool {
     if again.pack() != chip.pack() || again.lines() != chip.lines() {
         return false;
@@ -222,7 +223,8 @@ fn goes_on_as(again: &mut Chip, chip: &mut Chip) -> bool {
     true
 }
 
-// Whether a chip of these fills and counts is read back, after a write of any byte to the status.
+// Returns true if a chip of these contents and counts is read back, after a write of each byte to
+// the status.
 fn is_read_back(queue: u8, third: u8, counts: u64) -> Option<bool> {
     for byte in 0..=255u8 {
         let mut chip = filled(queue, third, counts)?;
@@ -258,19 +260,21 @@ fn the_words_are_as_described(rt: HostRuntime) {
     let host = 0x71_70_00_20_09_10;
     let para = 0x55_91_90_00_00_60;
     assert_eq!(rt; chip.pack(), [counts, front, 0xe8, 0, host, para]);
-    // Words 2, 4 and 5, of which one is in place of what the chip has.
+    // Words 2, 4 and 5. In each row one differs from the chip's.
     let strangers = [
-        // 25 bytes in register 1 to the host, or a byte behind its ninth.
+        // 25 bytes in register 1 to the host, or a byte after its ninth.
         (0xe8, 0x71_70_00_20_19_10, para),
         (0xe7e8, host, para),
-        // A seventh flag, three bytes in register 3, two in register 2, a count for register 1, a byte too many.
+        // A seventh flag, three bytes in register 3, two in register 2, a count for register 1, a
+        // byte too many.
         (0xe8, 0x71_70_00_20_09_50, para),
         (0xe8, 0x71_70_00_30_09_10, para),
         (0xe8, 0x71_70_00_28_09_10, para),
         (0xe8, 0x71_70_00_21_09_10, para),
         (0xe8, 0x01_00_71_70_00_20_09_10, para),
         (0xe8, host, 0x01_55_91_90_00_00_60),
-        // A byte remembered beside a list that is not empty: two places where one byte is held.
+        // A byte remembered beside a list that is not empty: two places for the one byte of a
+        // register.
         (0xe8, 0x71_70_00_10_09_10, para),
         (0xe8, host, 0x55_91_90_00_00_50),
     ];

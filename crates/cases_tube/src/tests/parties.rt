@@ -1,4 +1,5 @@
-//! A party of two kinds of step, against traces that fit it and traces that don't, and beside another at one chip.
+//! A party of two kinds of step, compared with traces that fit it and traces that don't, and beside
+//! another at one chip.
 
 ghost use Rattle.std.specs.Prelude.{◌≡◌, All, IfOk};
 ghost use Rattle.tube_chip.specs.Events.{Rises};
@@ -21,7 +22,7 @@ use tube_trace::{Entry, read};
 pub struct Probe {
     pub(crate) due: u64,
     looks: bool,
-    // How far it is closed, in ticks before the next step.
+    // The ticks from its closed part to the next step.
     pub(crate) lag: u64,
     last: Option<Answer>,
 }
@@ -90,8 +91,8 @@ pub(crate) fn at_power_on() -> Probe
     }
 }
 
-// A line is the ticks of a replay, the line of the place at which it differs, or `-`, and the tick of the read that the party does there, or `-`;
-// the tick of the step at which it stands; and behind `@` the trace.
+// A line is the ticks of a replay; the line of the first difference, or `-`; the tick of the
+// party's read there, or `-`; and the tick of the party's next step. After `@` comes the trace.
 const REPLAYS: &str = "\
 # Each read fits.
 30 - - 30@~0A P R 0 01;~14 P R 0 02;
@@ -112,7 +113,7 @@ const REPLAYS: &str = "\
 15 3 - 15@~03 H W 0 01;~0A P R 0 01;~0B P R 0 02;
 ";
 
-/// The entries of a trace, in which `;` ends a line and `~` stands for eight zeros.
+/// Returns the entries of a trace, in which `;` ends a line and `~` is eight zeros.
 pub(crate) fn entries_of(alloc: Global, trace: &str) -> Result<Vec<Entry>, Fail>
     ensures entries { IfOk result (λ e. All IsEntry e.items) }
     ensures rises { IfOk result (λ e. Rises (events_of e.items)) }
@@ -130,7 +131,7 @@ fn read_at(digits: &str) -> Option<Doing> {
     })
 }
 
-// The ticks of a line's replay, its place, and where the party stands.
+// Returns the ticks of a line's replay, its difference, and the tick of the party's next step.
 fn replay_of(head: &str) -> Option<(u16, Option<(u64, Option<Doing>)>, u64)> {
     let mut words = head.split(' ');
     let ticks = words.next()?.parse().ok()?;
@@ -156,12 +157,12 @@ fn the_first_place_that_differs_is_told(rt: HostRuntime) -> Result<(), Fail> {
 
 #[test]
 fn a_look_sees_the_entries_before_it(rt: HostRuntime) -> Result<(), Fail> {
-    // The side of the party, the trace, the place of its side's first entry, which the party has not made, the resets and the host's
-    // IRQ line that the look at tick 5 sees.
+    // The side of the party, the trace, the line of its side's first entry, which the party has not
+    // made, and the resets and the host's IRQ line that the look at tick 5 sees.
     let rows: [(Side, &str, Option<u64>, u32, bool); 10] = [
         (Side::Para, "", None, 0, false),
-        // P is set and cleared again: one reset. What the host does at the tick of the look comes before it, and what it does later
-        // doesn't.
+        // P is set and cleared again: one reset. An access of the host at the tick of the look
+        // comes before the look, and a later one doesn't.
         (Side::Para, "~04 H W 0 A0;~05 H W 0 20;", None, 1, false),
         (Side::Para, "~05 H W 0 A0;", None, 1, false),
         (Side::Para, "~06 H W 0 A0;", None, 0, false),
@@ -172,7 +173,7 @@ fn a_look_sees_the_entries_before_it(rt: HostRuntime) -> Result<(), Fail> {
             2,
             false,
         ),
-        // Entries of its own side that it has not made are seen too: those before the look, and no others.
+        // The look also sees entries of its own side before it that the party has not made.
         (Side::Para, "~01 H W 0 81;~04 P W 7 41;", Some(2), 0, true),
         (Side::Para, "~01 H W 0 81;~05 P W 7 41;", Some(2), 0, false),
         (
@@ -202,7 +203,8 @@ fn a_look_sees_the_entries_before_it(rt: HostRuntime) -> Result<(), Fail> {
 
 #[test]
 fn looks_below_a_tick_see_these_lines(rt: HostRuntime) -> Result<(), Fail> {
-    // The end of the run, the tick below which looks are sure, what is asked, and whether the look at tick 5 saw the lines.
+    // The end of the run, the tick below which looks are answered, the question, and true if the
+    // look at tick 5 saw the lines.
     let rows: [(u8, u8, Ask, bool); 6] = [
         (30, 5, Ask::Look(Tick(5)), false),
         (30, 0, Ask::Look(Tick(5)), false),
@@ -237,7 +239,7 @@ fn looks_below_a_tick_see_these_lines(rt: HostRuntime) -> Result<(), Fail> {
 pub struct Writer {
     pub(crate) due: u64,
     pub(crate) byte: u8,
-    // How far it is closed, in ticks before the next step.
+    // The ticks from its closed part to the next step.
     pub(crate) lag: u64,
 }
 
@@ -293,8 +295,9 @@ impl Party for Writer {
 
 #[test]
 fn two_parties_share_one_chip(rt: HostRuntime) -> Result<(), Fail> {
-    // The tick of the writer's first write, the ticks of the run, how many accesses are kept, those of each side as a trace, and their
-    // whole numbers. The probe reads the status of register 1 at ticks 10, 20 and 30; bit 7 says that a byte came.
+    // The tick of the writer's first write, the ticks of the run, the number of accesses to keep,
+    // those of each side as a trace, and their total numbers. The probe reads the status of
+    // register 1 at ticks 10, 20 and 30; bit 7 says that a byte came.
     let rows: [(u16, u16, u32, &str, &str, u8, u8); 6] = [
         // At equal ticks the host's write comes first.
         (

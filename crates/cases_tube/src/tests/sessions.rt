@@ -1,4 +1,5 @@
-//! Session files, whole, damaged and cut; and two parties that go on from the accesses of a session.
+//! Session files, whole, damaged and cut; and two parties that continue from the accesses of a
+//! session.
 ghost use Rattle.std.specs.Prelude.{◌≡◌, ◌<◌, All, true};
 ghost use Rattle.tube_chip.specs.Events.{Rises};
 ghost use Rattle.tube_trace.specs.Entries.{IsEntry, events_of};
@@ -18,18 +19,20 @@ use tube_party::{
 };
 use tube_trace::{Entry, first_wrong};
 
-/// Where the fields begin behind both ROMs: the lengths of the sixteen slots, of the font, of a disc with its kind and its bytes, of the other,
-/// of the key script with its bytes, the number of the accesses, three of them, and the end.
+/// The offsets of the fields after both ROMs: the lengths of the sixteen slots, of the font, of a
+/// disc with its kind and its bytes, of the other, of the key script with its bytes, the number of
+/// the accesses, three of them, and the end.
 const TAIL: [usize; 29] = [
     18451, 18455, 18459, 18463, 18467, 18471, 18475, 18479, 18483, 18487, 18491, 18495, 18499,
     18503, 18507, 18511, 18515, 18519, 18523, 18524, 18527, 18531, 18532, 18533, 18537, 18539,
     18543, 18550, 18557,
 ];
 
-/// How many bytes the file has.
+/// The number of bytes of the file.
 const LENGTH: usize = 18564;
 
-/// The beginning of a file of speed 03: its tick's low bytes and its devices, ROMs of these bytes, and so many parts that are not there.
+/// Makes the beginning of a file of speed 03: its tick's low bytes and its devices, ROMs of these
+/// bytes, and `missing` missing parts.
 fn beginning(
     alloc: Global,
     [high, low, devices]: [u8; 3],
@@ -53,7 +56,8 @@ fn beginning(
     Ok(file)
 }
 
-/// A file by hand: speed 03, tick 1000, two devices, both ROMs, a DSD of three bytes, an SSD of one, a script of two, and three accesses.
+/// Makes a file by hand: speed 03, tick 1000, two devices, both ROMs, a DSD of three bytes, an SSD
+/// of one, a script of two, and three accesses.
 fn file(alloc: Global) -> Result<Vec<u8>, AllocError> {
     let mut file = beginning(alloc, [0x03, 0xe8, 2], 0xa5, 0x5a, 17)?;
     file.extend_from_slice(&[0, 0, 0, 3, 1, 7, 8, 9])?;
@@ -66,7 +70,7 @@ fn file(alloc: Global) -> Result<Vec<u8>, AllocError> {
     Ok(file)
 }
 
-/// The file with these bytes from an offset on.
+/// Makes the file with these bytes from an offset on.
 fn damaged(alloc: Global, at: usize, bytes: &[u8]) -> Result<Vec<u8>, AllocError> {
     let mut other = Vec::new(alloc);
     for (place, byte) in file(alloc)?.iter().enumerate() {
@@ -81,7 +85,7 @@ fn damaged(alloc: Global, at: usize, bytes: &[u8]) -> Result<Vec<u8>, AllocError
     Ok(other)
 }
 
-/// The offset of the fault, if there is one.
+/// Returns the offset of the fault, if there is one.
 fn fault(alloc: Global, bytes: &[u8]) -> Option<u64> {
     match decode(alloc, bytes) {
         Ok(_) | Err(StateError::NoMemory) => None,
@@ -164,7 +168,8 @@ fn the_first_field_at_fault_is_told(rt: HostRuntime) -> Result<(), Fail> {
         (18515, &[0, 0, 3, 0xbf], Some(18515)),
         (18519, &[0, 6, 0x40, 1], Some(18519)),
         (18523, &[2], Some(18523)),
-        // An SSD has at most 204,800 bytes: past that the kind is at fault, below it the file ends.
+        // An SSD has at most 204,800 bytes: above that the kind is at fault, otherwise the file
+        // ends.
         (18527, &[0, 3, 0x20, 1, 0], Some(18531)),
         (18527, &[0, 3, 0x20, 1, 1], Some(18564)),
         (18527, &[0, 3, 0x20, 0, 0], Some(18564)),
@@ -214,7 +219,7 @@ fn a_file_that_ends_early_or_late(rt: HostRuntime) -> Result<(), Fail> {
     Ok(())
 }
 
-/// A file of both ROMs and 49 accesses, of which the last is the host's at 3FC.
+/// Makes a file of both ROMs and 49 accesses, the last the host's at 3FC.
 fn file_of_letters(alloc: Global) -> Result<Vec<u8>, AllocError> {
     let mut file = beginning(alloc, [0x07, 0xd0, 0], 0, 0, 20)?;
     file.extend_from_slice(&[0, 0, 0, 49])?;
@@ -253,7 +258,7 @@ fn the_parts_of_a_session_are_handed_on(rt: HostRuntime) -> Result<(), Fail> {
     Ok(())
 }
 
-/// The entries lie below a tick.
+/// Returns true if the entries are before a tick.
 fn are_below(entries: &[Entry], at: Tick) -> bool
     ensures { result ≡ true → All (λ e. (e.tick).0 < at.0) entries.now }
 {
@@ -265,7 +270,7 @@ fn are_below(entries: &[Entry], at: Tick) -> bool
     true
 }
 
-/// They lie below it, and the chip gives their answers.
+/// Returns true if they are before it, and the chip gives their answers.
 fn is_legal(entries: &[Entry], at: Tick) -> bool
     requires each { All IsEntry entries.now }
     requires rises { Rises (events_of entries.now) }
@@ -280,7 +285,7 @@ fn is_legal(entries: &[Entry], at: Tick) -> bool
     }
 }
 
-/// The writer of a session, which writes 1 to register 1 at tick 10.
+/// Makes the writer of a session, which writes 1 to register 1 at tick 10.
 fn writer() -> Writer
     ensures { (result.due ≡ 10) × (result.lag ≡ 10) }
 {
@@ -291,7 +296,7 @@ fn writer() -> Writer
     }
 }
 
-/// A probe that is never rolled back.
+/// Makes a probe that is never rolled back.
 fn forward() -> Forward<Probe>
     ensures { (result.party.due ≡ 5) × (result.party.lag ≡ 5) }
 {
@@ -300,7 +305,7 @@ fn forward() -> Forward<Probe>
     }
 }
 
-/// Two runs ended alike.
+/// Returns true if two runs ended the same.
 fn same_end(one: &Done<Writer, Forward<Probe>>, other: &Done<Writer, Forward<Probe>>) -> bool {
     let parties = one.host.due == other.host.due
         && one.host.byte == other.host.byte
@@ -317,10 +322,10 @@ fn same_end(one: &Done<Writer, Forward<Probe>>, other: &Done<Writer, Forward<Pro
 
 #[test]
 fn a_session_goes_on_as_the_whole_run(rt: HostRuntime) -> Result<(), Fail> {
-    // The accesses of the session, its tick, the ticks of the run, how many accesses are kept, those of each side as a trace, and their
-    // whole number on either side.
+    // The accesses of the session, its tick, the ticks of the run, the number of accesses to keep,
+    // those of each side as a trace, and their total number on either side.
     let rows: [(&str, u16, u16, u32, &str, &str, u8); 9] = [
-        // Nothing was done before, since there were no ticks, or none with an access.
+        // Nothing was done before, because there were no ticks, or none with an access.
         (
             "",
             0,
@@ -351,7 +356,7 @@ fn a_session_goes_on_as_the_whole_run(rt: HostRuntime) -> Result<(), Fail> {
             "~0A P R 0 C0;~14 P R 0 C0;",
             3,
         ),
-        // As many or fewer are kept than the session has.
+        // As many are kept as the session has, or fewer.
         (
             "~0A H W 1 01;~0A P R 0 C0;~14 H W 1 02;~14 P R 0 C0;",
             21,
@@ -404,8 +409,8 @@ fn a_session_goes_on_as_the_whole_run(rt: HostRuntime) -> Result<(), Fail> {
 
 #[test]
 fn two_parties_go_on_behind_others(rt: HostRuntime) -> Result<(), Fail> {
-    // Accesses of other parties, whose byte the parasite's machine finds at its first read, how many are kept, those of each side as a trace, and their
-    // whole numbers.
+    // Accesses of other parties, the number of accesses to keep, those of each side as a trace, and
+    // their total numbers. The parasite's machine finds the other parties' byte at its first read.
     let rows: [(&str, u32, &str, &str, u8, u8); 3] = [
         ("", 9, "", "~0A P R 0 40;", 0, 1),
         (
@@ -453,16 +458,17 @@ fn done_at(tick: u64, side: Side, op: Op) -> Option<Doing> {
 
 #[test]
 fn the_first_difference_of_a_session_is_told(rt: HostRuntime) -> Result<(), Fail> {
-    // The accesses of the session, its tick, the line where a party differs, and what it does there.
+    // The accesses of the session, its tick, the line at which a party differs, and its access
+    // there.
     let rows: [(&str, u16, u64, Option<Doing>); 6] = [
-        // The host's difference comes first, also where the parasite's stands before it.
+        // The host's difference comes first, even if the parasite's is on an earlier line.
         (
             "~04 P R 0 40;~0A H W 1 02;",
             20,
             2,
             done_at(10, Side::Host, Op::Write(1, 1)),
         ),
-        // The parasite's, where the host has none.
+        // The parasite's, if the host has none.
         (
             "~04 P R 0 40;~0A H W 1 01;",
             20,
@@ -472,7 +478,7 @@ fn the_first_difference_of_a_session_is_told(rt: HostRuntime) -> Result<(), Fail
         // No access of the side is left: one past the list.
         ("~0A H W 1 01;", 20, 2, done_at(10, Side::Para, Op::Read(0))),
         ("", 11, 1, done_at(10, Side::Host, Op::Write(1, 1))),
-        // One is left, where the party does nothing more.
+        // One is left, and the party does nothing more.
         ("~0A H W 1 01;~0A P R 0 C0;~0E H W 1 02;", 15, 3, None),
         ("~0A H W 1 01;~0A P R 0 C0;~0E P R 0 C0;", 15, 3, None),
     ];

@@ -39,7 +39,7 @@ fn horizons_are_raised_and_learnt(rt: HostRuntime) {
     assert_eq!(rt; cell.join(&rt, host, para).lines(), IDLE);
 }
 
-// The other side's horizon admits a side at this tick.
+// Returns true if the other side's horizon admits a side at this tick.
 fn is_admitted(side: Side, horizon: u64, tick: u64) -> bool
     ensures { result ≡ admits side horizon tick }
 {
@@ -49,7 +49,7 @@ fn is_admitted(side: Side, horizon: u64, tick: u64) -> bool
     }
 }
 
-// The access at t where it is admitted, else a horizon raised to t.
+// Does the access at tick `t` if it is admitted, otherwise raises the horizon to `t`.
 fn attempt<R: Wait>(rt: &R, cell: &TubeCell, pass: &mut Pass, t: u64, op: Op) -> Option<u8>
     requires cell { pass.old.cell ≡ cell.now }
     requires published { (pass.old.ahead ≡ []) × (pass.old.trusted ≡ []) }
@@ -67,7 +67,7 @@ fn attempt<R: Wait>(rt: &R, cell: &TubeCell, pass: &mut Pass, t: u64, op: Op) ->
     None
 }
 
-// An access at t, before which the other side raises its horizon.
+// Raises the other side's horizon, and does an access at tick `t`.
 fn turn<R: Wait>(
     rt: &R,
     cell: &TubeCell,
@@ -90,7 +90,7 @@ fn turn<R: Wait>(
     attempt(rt, cell, mine, t, op)
 }
 
-// The accesses of the test below, with their answers.
+// Returns the accesses of the test below, with their answers.
 fn row(k: u64) -> (Side, Op, u8)
     ensures { MayDo result.0 result.1 }
 {
@@ -127,7 +127,7 @@ fn turns_at_the_cell_are_answered_as_by_the_chip(rt: HostRuntime) {
 
 const ACCESSES: u64 = 250;
 
-// A side that is not admitted after so many tries gives up, and the test fails.
+// The number of tries after which a side that is not admitted gives up, and the test fails.
 const TRIES: u64 = 1_000_000_000;
 
 #[derive(Drop)]
@@ -139,7 +139,7 @@ struct Entry {
     answer: u8,
 }
 
-/// An access to the register of this number, taken modulo 8.
+/// Returns an access to the register of this number, taken modulo 8.
 pub(super) fn op_of(number: u8, byte: u8, is_write: bool) -> Op
     ensures host { MayDo Host result }
     ensures para { MayDo Para result }
@@ -151,7 +151,7 @@ pub(super) fn op_of(number: u8, byte: u8, is_write: bool) -> Op
     }
 }
 
-// The access at t once it is admitted.
+// Does the access at tick `t` as soon as it is admitted.
 fn access<R: Wait>(rt: &R, cell: &TubeCell, pass: &mut Pass, t: u64, op: Op) -> Option<u8>
     requires cell { pass.old.cell ≡ cell.now }
     requires published { (pass.old.ahead ≡ []) × (pass.old.trusted ≡ []) }
@@ -171,7 +171,7 @@ fn access<R: Wait>(rt: &R, cell: &TubeCell, pass: &mut Pass, t: u64, op: Op) -> 
     None
 }
 
-/// The own horizon past all ticks, so that the other side gets on.
+/// Raises the own horizon past all ticks, so that the other side can continue.
 pub(super) fn end<R: Wait>(rt: &R, cell: &TubeCell, pass: &mut Pass)
     requires cell { pass.old.cell ≡ cell.now }
     requires published { (pass.old.ahead ≡ []) × (pass.old.trusted ≡ []) }
@@ -185,7 +185,7 @@ pub(super) fn end<R: Wait>(rt: &R, cell: &TubeCell, pass: &mut Pass)
     }
 }
 
-// Accesses of one side at seeded ticks, with their answers.
+// Does accesses of one side at seeded ticks. Returns them with their answers.
 fn work<R: Wait>(
     rt: &R,
     alloc: Global,
@@ -206,7 +206,7 @@ fn work<R: Wait>(
         random = random
             .wrapping_mul(6_364_136_223_846_793_005)
             .wrapping_add(1_442_695_040_888_963_407);
-        // Runs of accesses, and gaps in which the other side does not have to wait.
+        // Runs of accesses, and gaps, so that the other side does not always have to wait.
         if (random >> 59) == 0 {
             tick += (random >> 48) % 1000;
         }
@@ -228,7 +228,7 @@ fn work<R: Wait>(
     Some((pass, list))
 }
 
-// Both sides in threads of their own: their accesses, and the chip at the end.
+// Runs both sides in threads of their own. Returns their accesses, and the chip at the end.
 fn pair<R: Threads + Wait + Sync>(
     rt: &R,
     alloc: Global,
@@ -259,7 +259,7 @@ fn pair<R: Threads + Wait + Sync>(
     Some((host_list, para_list, cell.join(rt, host, para)))
 }
 
-// The line of an access of a side, in a trace.
+// Adds the line of a side's access in a trace.
 fn push_line(alloc: Global, text: &mut Vec<u8>, side: char, entry: &Entry) -> Option<()> {
     let (kind, byte) = if entry.is_write {
         ('W', entry.byte)
@@ -271,7 +271,7 @@ fn push_line(alloc: Global, text: &mut Vec<u8>, side: char, entry: &Entry) -> Op
     text.extend_from_slice(line.as_bytes()).ok()
 }
 
-// The trace of both sides' accesses: by tick, and at one tick the host's first.
+// Returns the trace of both sides' accesses: by tick, and at one tick the host's first.
 fn trace_text(alloc: Global, host: &[Entry], para: &[Entry]) -> Option<Vec<u8>> {
     let mut text = Vec::new(alloc);
     let mut mine = host;
@@ -305,7 +305,7 @@ fn two_threads_make_a_legal_history(rt: HostRuntime) {
             "both get on",
         );
         let text = trace_text(rt.alloc(), &host, &para).expect(&rt, "ample memory");
-        // What is read rises as the trace of a Tube does.
+        // The entries of a text that is read rise, as `first_wrong` requires.
         let entries = read(rt.alloc(), &text).expect(&rt, "a trace").entries;
         assert_eq!(rt; entries.len(), 500);
         assert_eq!(rt; first_wrong(&entries), None, "{seed}");

@@ -1,4 +1,4 @@
-//! Two parties of accesses alone, each of which must be asked how far ahead it is quiet.
+//! Two parties with accesses only. Each must be asked for the tick up to which it is quiet.
 ghost use Rattle.std.specs.Prelude.{◌≡◌};
 
 use beeb_bits::Tick;
@@ -18,11 +18,12 @@ pub fn flag(alloc: Global) -> Result<Flag, AllocError> {
     Ok(Arc::new(alloc, AtomicBool::new(false))?)
 }
 
-/// Reads register 1 at tick `due` and every six ticks. Asked how far it is quiet, it sets its flag.
+/// Reads register 1 at tick `due` and every six ticks. Sets its flag when it is asked for its quiet
+/// tick.
 #[derive(Drop)]
 pub struct Steady {
     due: u64,
-    // How far it is closed, in ticks before the next step.
+    // The ticks from its closed part to the next step.
     lag: u64,
     asked: Flag,
 }

@@ -1,4 +1,5 @@
-//! How often the second processor tells of its way ahead: once for each stride, however many reads of status registers are on it.
+//! The second processor publishes its speculation once for each stride, for any number of reads of
+//! status registers in it.
 ghost use Rattle.std.specs.Prelude.{◌≡◌, ◌≤◌, ◌^◌, []};
 ghost use Rattle.beeb_bits.specs.declared.Side.TheVariants.{Para};
 ghost use Rattle.tube_cell.specs.Passes.{own_horizon};
@@ -27,7 +28,7 @@ const DOUBLING: Strides = Strides {
     span: 65_536,
 };
 
-// A side that has waited for so many turns gives up, and the test fails.
+// The number of turns after which a waiting side gives up, and the test fails.
 const TURNS: u64 = 10_000_000;
 
 type Count = Arc<AtomicU64, Global>;
@@ -36,19 +37,21 @@ fn count(alloc: Global) -> Result<Count, AllocError> {
     Ok(Arc::new(alloc, AtomicU64::new(0))?)
 }
 
-/// Reads its first status register at tick `due` and every two ticks, behind so many looks. Before each step it waits until the other side has looked.
+/// Reads its first status register at tick `due` and every two ticks, after `looks` looks. Before
+/// each step it waits until the other side has looked at the cell.
 #[derive(Drop)]
 pub struct Poller {
     due: u64,
-    // How far it is closed, in ticks before the next step.
+    // The ticks from its closed part to the next step.
     lag: u64,
     looks: u64,
-    // How many steps it has come to, and up to which of them the other side has looked.
+    // The number of steps that it has reached, and the number of those after which the other side
+    // has looked.
     steps: Count,
     seen: Count,
 }
 
-/// Where it was when it began to note.
+/// The poller's state when it began to note.
 #[derive(Drop)]
 pub struct Begun {
     due: u64,
@@ -170,7 +173,8 @@ impl Rewinds for Poller {
     }
 }
 
-// Looks at the trust after each of the other side's steps, until it is at the end of the run. How often it was another than before.
+// Looks at the speculative horizon after each of the other side's steps, until it is at the end of
+// the run. Returns the number of its changes.
 fn changes<R: Wait>(rt: &R, cell: &TubeCell, pass: &mut Pass, steps: &Count, seen: &Count) -> u32
     requires cell { pass.old.cell ≡ cell.now }
     requires published { (pass.old.ahead ≡ []) × (pass.old.trusted ≡ []) }
@@ -198,7 +202,8 @@ fn changes<R: Wait>(rt: &R, cell: &TubeCell, pass: &mut Pass, steps: &Count, see
     changes
 }
 
-// The host's side: it looks, and lets the other go on at last.
+// Runs the host's side: it looks, and at last lets the other continue. Returns the number of
+// changes.
 fn look_on<R: Wait>(rt: &R, cell: &TubeCell, pass: Pass, steps: Count, seen: Count) -> u32
     requires cell { pass.cell ≡ cell.now }
     requires published { (pass.ahead ≡ []) × (pass.trusted ≡ []) }
@@ -210,7 +215,7 @@ fn look_on<R: Wait>(rt: &R, cell: &TubeCell, pass: Pass, steps: Count, seen: Cou
     changes
 }
 
-// The parasite's side: how many accesses it did.
+// Runs the parasite's side. Returns the number of its accesses.
 fn go_ahead<R: Wait>(
     rt: &R,
     alloc: Global,
@@ -244,7 +249,8 @@ fn go_ahead<R: Wait>(
     Ok(half.log.count)
 }
 
-// Both sides in threads of their own: how often the trust changed, and how many reads there were.
+// Runs both sides in threads of their own. Returns the number of changes of the speculative
+// horizon, and of reads.
 fn pair<R: Threads + Wait + Sync>(
     rt: &R,
     alloc: Global,

@@ -121,8 +121,8 @@ fn an_access_that_asks_has_no_byte_to_read(rt: HostRuntime) -> Result<(), Fail> 
     Ok(())
 }
 
-// A line is what a text comes to, its clock and its count of entries or the line that is out of form or order, and behind `@` the text, in which `|`
-// ends a line.
+// A line is a text's result: its clock and the number of its entries, or the line that is out of
+// form or order. After `@` comes the text, in which `|` ends a line.
 const TEXTS: &str = "\
 three 0@
 three 2@0000000006 H W 3 5A|0000000006 P R 2 FF|
@@ -181,7 +181,7 @@ fn wanted(outcome: &str) -> Option<Result<(Clock, usize), TraceError>> {
     }
 }
 
-// What a text comes to, in which `|` ends a line.
+// Returns the result of a text, in which `|` ends a line.
 fn outcome(alloc: Global, source: &str) -> Result<Result<(Clock, usize), TraceError>, AllocError> {
     let mut text = source.as_bytes().to_vec(alloc)?;
     for byte in text.iter_mut() {
@@ -220,7 +220,7 @@ fn the_first_wrong_answer_is_told(rt: HostRuntime) -> Result<(), Fail> {
             "0000000000 H W 0 9F\n0000000003 H R 0 5F\n0000000006 H X 0 00\n0000000009 H R 0 40\n",
             None,
         ),
-        // What was on its way to the parasite is gone with the reset.
+        // The reset discards the byte that the parasite has not read yet.
         (
             "0000000000 H W 3 77\n0000000006 H X 0 00\n0000000006 P R 2 7F\n0000000009 P R 3 77\n",
             Some((3, 0x00)),

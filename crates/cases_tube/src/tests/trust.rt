@@ -1,4 +1,5 @@
-//! What the parasite puts on trust and the host takes back, by the calls of the cell, with both passes in one hand.
+//! What the parasite speculates and the host takes back, by the calls of the cell, with both passes
+//! in one test.
 ghost use Rattle.std.specs.Prelude.{◌≡◌, ◌≤◌};
 ghost use Rattle.beeb_bits.specs.declared.Side.TheVariants.{Host, Para};
 ghost use Rattle.tube_chip.specs.Act.{MayDo};
@@ -14,7 +15,7 @@ use std::test::Fail;
 use tube_cell::{Pass, TubeCell};
 use tube_chip::Op;
 
-/// What a side does at the cell.
+/// An act of a side at the cell.
 #[derive(Clone, Copy, Debug)]
 enum Deed {
     Learn,
@@ -23,9 +24,9 @@ enum Deed {
     Write(u16, u8, u8),
     /// The host's reset at this tick.
     Reset(u16),
-    /// Its events, with this horizon.
+    /// Its events are published, with this horizon.
     Publish(u16),
-    /// No look, up to this tick.
+    /// It speculates that it does no look up to this tick.
     Entrust(u16),
     PublishAndEntrust(u16, u16),
 }
@@ -36,11 +37,13 @@ const HOST: Side = Side::Host;
 
 const PARA: Side = Side::Para;
 
-/// The side and what it does; the byte of an access, or 0, where it is done; and then the host's bound of the parasite, and the trust as the host
-/// and as the parasite know it.
+/// The side and its act; the byte of an access, or 0 for another act, or `None` if it is not done;
+/// and then the host's bound of the parasite, and the speculative horizon as the host and as the
+/// parasite know it.
 type Row = (Side, Deed, Option<u8>, [u16; 3]);
 
-/// A side's pass; a tick that none of its events and not its own word are past; and whether it surely has nothing unpublished.
+/// A side's pass; a tick that none of its events and not its own word are past; and true if it is
+/// guaranteed to have nothing unpublished.
 #[derive(Drop)]
 pub struct Hand {
     pass: Pass,
@@ -48,7 +51,7 @@ pub struct Hand {
     is_bare: bool,
 }
 
-// The earliest tick of its next event, as far as it may be known here.
+// Returns a lower bound of the tick of its next event.
 fn earliest(cell: &TubeCell, hand: &Hand) -> u64
     requires { IsFit cell.now hand.now.pass hand.now.at hand.now.is_bare }
     ensures { own_horizon hand.now.pass ≤ result }
@@ -59,7 +62,7 @@ fn earliest(cell: &TubeCell, hand: &Hand) -> u64
     }
 }
 
-// An access, where it is admitted and not too early.
+// Does an access, if it is admitted and not too early.
 fn act<R: Wait>(rt: &R, cell: &TubeCell, hand: &mut Hand, t: u16, op: Op) -> Option<u8>
     requires fit { IsFit cell.now hand.old.pass hand.old.at hand.old.is_bare }
     requires operation { MayDo hand.old.pass.side op }
@@ -76,7 +79,7 @@ fn act<R: Wait>(rt: &R, cell: &TubeCell, hand: &mut Hand, t: u16, op: Op) -> Opt
     Some(byte)
 }
 
-// A reset, which is the host's.
+// Does a reset, if the side is the host.
 fn reset<R: Wait>(rt: &R, cell: &TubeCell, hand: &mut Hand, t: u16) -> Option<u8>
     requires fit { IsFit cell.now hand.old.pass hand.old.at hand.old.is_bare }
     ensures fit { IsFit cell.now hand.new.pass hand.new.at hand.new.is_bare }
@@ -146,7 +149,7 @@ fn publish_and_entrust<R: Wait>(
     Some(0)
 }
 
-// Does what a row says, and answers what comes of it.
+// Does a row's act. Returns its result.
 fn done<R: Wait>(rt: &R, cell: &TubeCell, hand: &mut Hand, deed: Deed) -> Option<u8>
     requires fit { IsFit cell.now hand.old.pass hand.old.at hand.old.is_bare }
     ensures fit { IsFit cell.now hand.new.pass hand.new.at hand.new.is_bare }
@@ -166,7 +169,7 @@ fn done<R: Wait>(rt: &R, cell: &TubeCell, hand: &mut Hand, deed: Deed) -> Option
     }
 }
 
-// The first row that does not hold, and what came of it.
+// Returns the first row that does not hold, and its result.
 fn first_wrong_row<R: Wait>(
     rt: &R,
     alloc: Global,
@@ -205,8 +208,9 @@ fn first_wrong_row<R: Wait>(
 
 #[test]
 fn trust_is_taken_back_where_readings_change(rt: HostRuntime) -> Result<(), Fail> {
-    // A byte in register 1 to the parasite shows in its status, and a second one in its place in nothing; I raises its interrupt then. A0 and
-    // 20 to register 0 raise and drop its reset.
+    // A byte in register 1 to the parasite shows in its status. A second one after it changes no
+    // reading, and I then raises the interrupt. A0 and 20 to register 0 assert and release the
+    // reset.
     let scenes: [&[Row]; 9] = [
         &[
             (HOST, Write(0, 1, 0x40), Some(0), [0, 0, 0]),
@@ -222,7 +226,7 @@ fn trust_is_taken_back_where_readings_change(rt: HostRuntime) -> Result<(), Fail
             (PARA, Learn, Some(0), [60, 100, 100]),
             (HOST, Publish(61), Some(0), [60, 60, 100]),
             (PARA, Learn, Some(0), [60, 60, 60]),
-            // What is asked at 60 now sees the host's byte.
+            // An access at 60 now sees the host's byte.
             (PARA, Read(61, 1), None, [60, 60, 60]),
             (PARA, Read(60, 1), Some(0x41), [60, 60, 60]),
             (PARA, Publish(61), Some(0), [60, 60, 60]),
@@ -237,7 +241,7 @@ fn trust_is_taken_back_where_readings_change(rt: HostRuntime) -> Result<(), Fail
             (PARA, Learn, Some(0), [50, 50, 50]),
             (PARA, Read(50, 2), Some(0xff), [50, 50, 50]),
         ],
-        // A reset shows in the count of resets, also where nothing is there to be cleared.
+        // A reset shows in the count of resets, even if there is nothing to clear.
         &[
             (PARA, Entrust(100), Some(0), [0, 0, 100]),
             (HOST, Learn, Some(0), [100, 100, 100]),
@@ -246,7 +250,7 @@ fn trust_is_taken_back_where_readings_change(rt: HostRuntime) -> Result<(), Fail
             (PARA, Learn, Some(0), [50, 50, 50]),
             (PARA, Read(50, 0), Some(0x40), [50, 50, 50]),
         ],
-        // At the very tick of the trust nothing is left to be taken back.
+        // At the tick of the speculative horizon itself there is nothing to take back.
         &[
             (PARA, Entrust(100), Some(0), [0, 0, 100]),
             (HOST, Learn, Some(0), [100, 100, 100]),
@@ -256,7 +260,7 @@ fn trust_is_taken_back_where_readings_change(rt: HostRuntime) -> Result<(), Fail
             (PARA, Entrust(200), None, [100, 100, 100]),
             (PARA, Write(100, 1, 0x42), Some(0), [100, 100, 100]),
         ],
-        // At its first tick all of it.
+        // At its first tick all of it is taken back.
         &[
             (PARA, PublishAndEntrust(40, 100), Some(0), [0, 0, 100]),
             (HOST, Learn, Some(0), [100, 100, 100]),
@@ -266,7 +270,7 @@ fn trust_is_taken_back_where_readings_change(rt: HostRuntime) -> Result<(), Fail
             (PARA, PublishAndEntrust(40, 50), Some(0), [40, 40, 50]),
             (HOST, Learn, Some(0), [50, 50, 50]),
         ],
-        // And twice.
+        // It is taken back twice.
         &[
             (PARA, Entrust(100), Some(0), [0, 0, 100]),
             (HOST, Learn, Some(0), [100, 100, 100]),
@@ -280,7 +284,7 @@ fn trust_is_taken_back_where_readings_change(rt: HostRuntime) -> Result<(), Fail
             (HOST, Publish(71), Some(0), [70, 70, 200]),
             (PARA, Learn, Some(0), [70, 70, 70]),
         ],
-        // It rises between the host's access and its exchange.
+        // The horizon rises between the host's access and its exchange.
         &[
             (PARA, Entrust(100), Some(0), [0, 0, 100]),
             (HOST, Learn, Some(0), [100, 100, 100]),
@@ -290,7 +294,7 @@ fn trust_is_taken_back_where_readings_change(rt: HostRuntime) -> Result<(), Fail
             (HOST, Publish(61), Some(0), [60, 60, 200]),
             (PARA, Learn, Some(0), [60, 60, 60]),
         ],
-        // Below the parasite's horizon the host goes on.
+        // Below the parasite's horizon the host continues.
         &[
             (PARA, PublishAndEntrust(80, 100), Some(0), [0, 0, 100]),
             (HOST, Learn, Some(0), [100, 100, 100]),
@@ -301,7 +305,7 @@ fn trust_is_taken_back_where_readings_change(rt: HostRuntime) -> Result<(), Fail
             (PARA, Entrust(120), Some(0), [80, 60, 120]),
             (HOST, Learn, Some(0), [120, 120, 120]),
         ],
-        // What the parasite did is published with what it puts on trust.
+        // The parasite's events are published together with its speculative horizon.
         &[
             (HOST, Publish(60), Some(0), [0, 0, 0]),
             (PARA, Learn, Some(0), [0, 0, 0]),

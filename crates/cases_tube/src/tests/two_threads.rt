@@ -1,4 +1,4 @@
-//! Two parties beside each other, and what they do on one thread.
+//! Two parties in two threads, compared with the same parties on one thread.
 ghost use Rattle.std.specs.Prelude.{◌≡◌, ◌≤◌};
 ghost use Rattle.tube_party.specs.Moves.{GoesHearing, shown_lines};
 ghost use Rattle.cases_tube.specs.Talking.{heard_lines};
@@ -15,13 +15,13 @@ use std::test::Fail;
 use tube_chip::{Lines, Op};
 use tube_party::{Answer, Ask, Desk, Done, MOST, Party, Rewinds, solo};
 
-/// A talker's next step: a look, or an access to a register that all answers so far decide.
+/// A talker's next step: a look, or an access. All answers before decide its register.
 #[derive(Clone, Copy, Debug, Drop, PartialEq, Eq)]
 pub struct Talk {
     due: u64,
-    // How far it is closed, in ticks before the next step.
+    // The ticks from its closed part to the next step.
     lag: u64,
-    // So many looks come before the next access, and after that so many again.
+    // The looks before the next access, and those between later ones.
     looks: u64,
     rest: u64,
     // It reads a status register at each access.
@@ -30,23 +30,24 @@ pub struct Talk {
     heard: u8,
 }
 
-/// Looks so often and does an access in turn, one to four ticks apart, all by what it heard. The first time that it is advanced it may wait for another.
+/// Does looks and an access in turn, one to four ticks apart, all decided by what it heard. Its
+/// first advance may wait for another talker.
 #[derive(Drop)]
 pub struct Talker {
     talk: Talk,
-    // It can note so many ticks, or any number.
+    // The number of ticks that its notes hold, or `None` for any number.
     room: Option<u64>,
     meeting: Option<Meeting>,
 }
 
-/// Where a talker was when it began to note, and the tick at which its notes are full.
+/// The talker's state when it began to note, and the tick at which its notes are full.
 #[derive(Drop)]
 pub struct Notes {
     talk: Talk,
     full: u64,
 }
 
-// What a look heard.
+// Returns what a look hears.
 fn heard(lines: Lines) -> u8
     ensures { result ≡ heard_lines lines }
 {
@@ -142,7 +143,8 @@ impl Party for Talker {
     }
 }
 
-// Goes on with what the desk answers, and with looks below tick `sure`, which see these lines; both as long as they are below tick `full`.
+// Advances with the port's answers, and with looks that are safe and see these lines, both while
+// they are below tick `full`.
 fn go_below<M: Party, D: Desk>(
     machine: &mut M,
     until: Tick,
@@ -171,7 +173,7 @@ fn go_below<M: Party, D: Desk>(
     }
 }
 
-// It goes ahead until its notes are full, and is rolled back by a copy of what it was.
+// It advances until its notes are full, and is rolled back by a copy of its state.
 impl Rewinds for Talker {
     type Past = Notes;
 
@@ -217,7 +219,7 @@ impl Rewinds for Talker {
     }
 }
 
-/// Two meet where each sets its flag and sees the other's.
+/// A meeting of two: each sets its flag and waits for the other's.
 #[derive(Drop)]
 pub struct Meeting {
     own: Flag,
@@ -238,7 +240,7 @@ impl Meeting {
     }
 }
 
-// A first step at this tick, before which nothing is closed.
+// Returns a first step at this tick. Nothing is closed before it.
 fn first_talk(due: u8, heard: u8, rest: u32) -> Talk
     ensures { result.lag ≡ result.due }
 {
@@ -253,10 +255,11 @@ fn first_talk(due: u8, heard: u8, rest: u32) -> Talk
     }
 }
 
-/// How a talker begins: the tick of its first step, what it heard before, how many looks come between two accesses, and how many ticks it can note.
+/// A talker's beginning: the tick of its first step, what it heard before, the number of looks
+/// between two accesses, and the number of ticks that it can note.
 type Start = (u8, u8, u32, Option<u8>);
 
-// A talker that begins so.
+// Makes a talker with this beginning.
 fn at_start(start: Start, polls: bool, meeting: Option<Meeting>) -> Talker
     ensures { result.talk.lag ≡ result.talk.due }
 {
@@ -296,7 +299,7 @@ fn two_parties_meet(rt: HostRuntime) -> Result<(), Fail> {
     Ok(())
 }
 
-// Both did the same, and as many accesses are kept as were done, up to `keep`.
+// Returns true if both did the same, and as many accesses are kept as were done, up to `keep`.
 fn is_same(one: &Done<Talker, Talker>, two: &Done<Talker, Talker>, keep: u32) -> bool {
     let is_all_kept = two.host_list.len() as u64 == two.host_count.min(keep as u64);
     one.host.talk == two.host.talk
@@ -308,7 +311,7 @@ fn is_same(one: &Done<Talker, Talker>, two: &Done<Talker, Talker>, keep: u32) ->
         && is_all_kept
 }
 
-// Strides in which much is told, and much rolled back.
+// Strides with many publications and many rollbacks.
 const TINY: Strides = Strides {
     first: 3,
     fewest: 1,
@@ -316,13 +319,14 @@ const TINY: Strides = Strides {
     span: 40,
 };
 
-// A rest in which no access comes.
+// A number of looks after which no access comes in the run.
 const LONG: u32 = 1_000_000;
 
 #[test]
 fn two_threads_do_what_one_does(rt: HostRuntime) -> Result<(), Fail> {
     let alloc = rt.alloc();
-    // How each side starts, whether the parasite polls, the ticks of the run, and how many accesses are kept.
+    // The beginning of each side, true if the parasite polls, the ticks of the run, and the number
+    // of accesses to keep.
     let rows: [(Start, Start, bool, u16, u32); 26] = [
         ((0, 0, 1, None), (0, 0, 1, None), false, 0, 9),
         ((0, 0, 1, None), (0, 0, 1, None), false, 1, 9),
@@ -332,11 +336,11 @@ fn two_threads_do_what_one_does(rt: HostRuntime) -> Result<(), Fail> {
         ((9, 128, 1, None), (0, 129, 1, None), false, 800, 1),
         ((0, 255, 1, None), (250, 31, 1, None), false, 1_200, 100),
         ((250, 6, 1, None), (0, 11, 1, None), false, 4_000, 100_000),
-        // The host does accesses alone, and the parasite looks most of the time.
+        // The host does accesses only, and the parasite looks most of the time.
         ((0, 3, 0, None), (0, 9, 20, None), false, 601, 10_000),
         ((1, 40, 0, None), (0, 5, 200, None), false, 1_203, 10_000),
         ((0, 21, 3, None), (4, 250, 200, None), false, 800, 20),
-        // And the other way round.
+        // The reverse.
         ((0, 3, 20, None), (0, 9, 0, None), false, 601, 10_000),
         ((1, 40, 200, None), (0, 5, 0, None), false, 1_203, 10_000),
         // Neither does much.
@@ -352,10 +356,11 @@ fn two_threads_do_what_one_does(rt: HostRuntime) -> Result<(), Fail> {
             10_000,
         ),
         ((0, 60, 20, None), (0, 7, 200, Some(0)), false, 700, 10_000),
-        // After its first access it looks alone, and the run ends within a stride.
+        // After its first access it only looks, and the run ends within a stride.
         ((0, 200, 200, None), (0, 1, LONG, None), false, 9_173, 100),
         ((0, 8, LONG, None), (0, 100, LONG, None), false, 20_001, 100),
-        // The parasite polls, while the host does an access now and then, or often, or none after its first.
+        // The parasite polls, while the host does an access now and then, or often, or none after
+        // its first.
         ((0, 60, 20, None), (0, 7, 0, None), true, 1_200, 10_000),
         ((0, 60, 200, None), (1, 8, 3, None), true, 1_201, 1_000),
         ((3, 60, 0, None), (0, 9, 1, None), true, 601, 10_000),

@@ -1,11 +1,13 @@
-//! The programs. `4=05` writes 05 to register 4, `D?40` reads 40 from register D, `+6` does six steps (the number is hexadecimal, as all),
-//! `CA1-` and `CA1+` put that line down and up, `a<3C` puts 3C on port A's pins, `a>F5` has its output bits, `irq` and `calm` say whether
-//! the interrupt is asked for. All pins are high at first.
+//! The programs. `4=05` writes 05 to register 4, `D?40` reads 40 from register D, and `+6` does six
+//! steps. All numbers are hexadecimal. `CA1-` and `CA1+` drive that line low and high. `a<3C` puts
+//! 3C on port A's pins, and `a>F5` says that port A's output bits are F5. `irq` and `calm` say that
+//! the interrupt is, or is not, asked for. All pins are high at first.
 pub(crate) const PROGRAMS: [&str; 96] = [
     // Power-on.
     "0?FF 1?FF 2?00 3?00 4?00 5?00 6?00 7?00 8?00 9?00 A?00 B?00 C?00 D?00 E?80 F?FF a>FF b>FF calm",
     "+1 4?FF 5?FF 8?FF 9?FF D?00",
-    // Timer 1, once: the flag comes v + 2 steps after the write, and is cleared by a read of the low byte.
+    // Timer 1, once: the flag comes v + 2 steps after the write, and a read of the low byte clears
+    // it.
     "4=05 5=00 +6 D?00 +1 D?40",
     "4=05 5=00 +7 4?FF D?00",
     "4=05 5=00 +7 5?FF D?40",
@@ -15,7 +17,7 @@ pub(crate) const PROGRAMS: [&str; 96] = [
     "4=00 5=00 +1 4?00 D?00 +1 D?40",
     "4=00 5=01 +101 D?00 4?00 5?00 +1 D?40",
     "6=22 5=11 4?22 5?11 +1 4?22 5?11 +1 4?21 5?11",
-    // An access just before it runs out, and just behind it.
+    // An access just before the timer runs out, and just after.
     "4=05 5=00 +6 4?00 D?00 +1 D?40",
     "4=05 5=00 +6 5=00 +6 D?00 +1 D?40",
     "4=05 5=00 +7 5=00 D?00 +6 D?00 +1 D?40",
@@ -53,7 +55,7 @@ pub(crate) const PROGRAMS: [&str; 96] = [
     "8=01 9=00 +3 D?20 9=00 D?00 +2 D?00 +1 D?20",
     "8=01 9=00 +3 8=55 D?20 8?FF D?00",
     "B=40 8=05 9=00 +7 D?60 8?FF D?40 +10000 D?40",
-    // Timer 2, standing still where it is to count pulses.
+    // Timer 2, which does not count steps while it counts pulses.
     "B=20 8=05 9=00 +FF 8?05 9?00 D?00",
     "B=20 8=05 9=00 +3 B=00 +1 8?05 +5 D?00 +1 D?20",
     "8=05 9=00 +3 B=20 +9 8?03 B=00 +3 D?00 +1 D?20",

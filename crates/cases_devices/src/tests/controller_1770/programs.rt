@@ -1,10 +1,13 @@
-//! The programs. The first word is the discs in the drives: `none`; `empty`, an SSD of no byte in drive 0; `ssd`, a whole one in drive 0;
-//! `both`, a whole SSD in drive 0 and a whole DSD in drive 1. Byte i of sector n of an image is n + i.
+//! The programs. The first word is the discs in the drives: `none`; `empty`, an SSD without bytes
+//! in drive 0; `ssd`, a whole one in drive 0; `both`, a whole SSD in drive 0 and a whole DSD in
+//! drive 1. Byte i of sector n of an image is n + i.
 //!
-//! `L=29` writes the latch, `3=05` writes 05 to register 3, `0?83` reads 83 from register 0, `+64` does 64 steps (the number is decimal),
-//! `drq`, `no-drq`, `int` and `no-int` say what DRQ and INTRQ are, `n2` that their line rose twice. `d0:5A@512` says that byte 512 of the
-//! image in drive 0 is 5A, and `d0#768` that it is 768 bytes long. `r01` reads 256 bytes that rise from 01, and `w56` writes 255 that rise
-//! from 56, a byte each 64 steps. A program begins before step 0, so `+1` does step 0, at angle 0.
+//! `L=29` writes the latch, `3=05` writes 05 to register 3, `0?83` reads 83 from register 0, and
+//! `+64` does 64 steps (decimal). `drq`, `no-drq`, `int` and `no-int` give DRQ and INTRQ, and `n2`
+//! says that the NMI line rose twice. `d0:5A@512` says that byte 512 of the image in drive 0 is 5A,
+//! and `d0#768` that the image is 768 bytes long. `r01` reads 256 bytes that rise from 01, and
+//! `w56` writes 255 that rise from 56, a byte each 64 steps. A program begins before step 0, so
+//! `+1` does step 0, at angle 0.
 pub(crate) const PROGRAMS: &str = "\
 # Power-on, and the index.
 none 0?06 1?00 2?00 3?00 n0 no-drq no-int +1 0?06 +3999 0?06 +1 0?04 +195999 0?04 +1 0?06

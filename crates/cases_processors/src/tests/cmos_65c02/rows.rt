@@ -1,7 +1,8 @@
-//! What each documented instruction does, by the 65C02's data sheet.
+//! The effects of each documented instruction, by the 65C02's data sheet.
 
-/// A line is an instruction: its bytes, of three, but 00 at the end, and the registers before it; behind `@` the cycles, PC, A, X, Y, S and P after it, or
-/// PC, A and P where the others stay, and each write's address and byte.
+/// A line is an instruction: its three bytes without 00 at the end, and the registers before it.
+/// After `@` come the cycles; PC, A, X, Y, S and P, or PC, A and P if the others stay; and each
+/// write's address and byte.
 pub(super) const ROWS: &str = "\
 00 LOW@7 D5B0 5A 23 14 FA 04 01FD 04 01FC 0F 01FB 30
 00 HIGH@7 D5B0 C3 23 E4 FD C7 0100 04 01FF 0F 01FE F7

@@ -1,7 +1,8 @@
-//! What each of the 151 instructions does, by the MCS6500 Hardware and Programming Manuals.
+//! The effects of each of the 151 instructions, by the MCS6500 Hardware and Programming Manuals.
 
-/// A line is an instruction: the registers before it; behind `@` PC, A, X, Y, S and P after it, or PC, A and P where the others stay, and behind another
-/// its reads and writes, each with its address and byte, where `=` and a byte is the read of the next byte from 040D on.
+/// A line is an instruction: the registers before it; after `@` PC, A, X, Y, S and P, or PC, A and
+/// P if the others stay; and after another `@` its reads and writes, each with its address and
+/// byte. `=` and a byte is the read of the next byte from 040D on.
 pub(super) const ROWS: &str = "\
 LOW@D5B0 5A 23 14 FA 04@=00 =00 w01FD=04 w01FC=0F w01FB=30 rFFFE=B0 rFFFF=D5
 HIGH@D5B0 C3 23 E4 FD C7@=00 =00 w0100=04 w01FF=0F w01FE=F7 rFFFE=B0 rFFFF=D5
