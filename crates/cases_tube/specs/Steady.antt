@@ -1,7 +1,7 @@
 -- The state, in contracts, of a party that does an access every six ticks.
 use Rattle.std.specs.Prelude.{ℕ}
 
-pub record Station : Type 0 where
+pub record SideAndLog : Type 0 where
   pub due : ℕ
   -- the ticks from its closed part to the next step
   pub lag : ℕ

@@ -8,7 +8,7 @@ use Rattle.tube_chip.specs.declared.Answer.TheVariants.{Byte, Seen}
 use Rattle.tube_chip.specs.declared.Lines.{Lines}
 use Rattle.beeb_bits.specs.Bits.{weight}
 use Rattle.tube_chip.specs.Act.{Query, access, look}
-use Rattle.tube_party.specs.Moves.{MayAsk}
+use Rattle.tube_party.specs.Transitions.{MayAsk}
 
 -- A look, as long as looks are left, or an access. What the talker heard picks the register. A
 -- talker that polls reads a status register.

@@ -6,5 +6,5 @@ mod shared_cell;
 mod steady;
 mod strides;
 mod traces;
-mod trust;
+mod spec_horizon;
 mod two_threads;

@@ -11,10 +11,10 @@ use Rattle.tube_trace.specs.declared.Entry.{Entry}
 use Rattle.tube_trace.specs.Entries.{accesses}
 use Rattle.host_mach.specs.declared.machine.HostMachine.{HostMachine}
 use Rattle.host_mach.specs.State.{HostState}
-use Rattle.host_mach.specs.Step.{host_moves}
+use Rattle.host_mach.specs.Step.{host_transitions}
 use Rattle.host_mach.specs.View.{host_seen}
 use Rattle.para_mach.specs.State.{ParaState}
-use Rattle.para_mach.specs.Step.{para_moves}
+use Rattle.para_mach.specs.Step.{para_transitions}
 use Rattle.save_state.specs.Saved.{Session}
 use Rattle.cmd_outcome.specs.Left.{Kept}
 use Rattle.cmd_ended.specs.Kept.{kept_of, saved_file}
@@ -23,7 +23,7 @@ use Rattle.cmd_ended.specs.Kept.{kept_of, saved_file}
 -- accesses of each side were kept.
 abbrev pub IsRun : {D : Type 0} → (D → Plug) → HostState → ParaState → ℕ → ℕ → Done (HostMachine D) ParaState → Type 0
 IsRun plug s t n keep d =
-    IsPlayed (reference host_moves para_moves s t n) keep (played_of (host_seen plug) (λ m. m) d)
+    IsPlayed (reference host_transitions para_transitions s t n) keep (played_of (host_seen plug) (λ m. m) d)
 
 -- The accesses in a list of events are a trace below the tick n of a run. host and para are the
 -- first accesses of each side.

@@ -4,8 +4,8 @@ ghost use Rattle.tube_chip.specs.Events.{Event};
 ghost use Rattle.tube_trace.specs.Entries.{accesses};
 ghost use Rattle.tube_trace.specs.Text.{text_of};
 ghost use Rattle.tube_party.specs.Reference.{reference};
-ghost use Rattle.host_mach.specs.Step.{host_moves};
-ghost use Rattle.para_mach.specs.Step.{para_moves};
+ghost use Rattle.host_mach.specs.Step.{host_transitions};
+ghost use Rattle.para_mach.specs.Step.{para_transitions};
 ghost use Rattle.save_state.specs.Saved.{session};
 ghost use Rattle.save_state.specs.File.{IsSession};
 ghost use Rattle.cmd_outcome.specs.View.{items, kept_seen, names_seen, verdict_of};
@@ -148,7 +148,7 @@ pub fn kept_outcome<'a, D: BusDevice>(
     requires run { (s : HostState) × (t : ParaState) × IsRun D.plug s t ticks keep done }
     ensures { let verdict = kept_verdict clock (option_map session begun) ticks keep (names_seen names.entry) in
         IfOk result (λ outcome. (s : HostState) (t : ParaState) → IsRun D.plug s t ticks keep done →
-        verdict_of D.plug outcome ≡ verdict (reference host_moves para_moves s t ticks)) }
+        verdict_of D.plug outcome ≡ verdict (reference host_transitions para_transitions s t ticks)) }
 {
     reference_is_trace::<HostMachine<D>, ParaMachine>();
     let parts = ended(alloc, clock, begun, done, Tick(ticks), keep)?;

@@ -9,7 +9,7 @@ use Rattle.op_table.specs.declared.names.Part.TheVariants.{Nmos, Cmos}
 use Rattle.tube_trace.specs.declared.Entry.{Entry}
 use Rattle.tube_trace.specs.FirstWrong.{wrong}
 use Rattle.tube_party.specs.declared.Doing.{Doing}
-use Rattle.tube_party.specs.Moves.{Moves}
+use Rattle.tube_party.specs.Transitions.{Transitions}
 use Rattle.tube_party.specs.Replay.{replay_of}
 use Rattle.follow.specs.declared.Choice.{Choice}
 use Rattle.follow.specs.declared.PointsError.{PointsError}
@@ -19,9 +19,9 @@ use Rattle.follow.specs.Sight.{Sight}
 use Rattle.follow.specs.Machines.{host_sight, para_sight}
 use Rattle.follow.specs.Listing.{ListingState, replay_listing}
 use Rattle.host_mach.specs.State.{HostState}
-use Rattle.host_mach.specs.Step.{host_moves}
+use Rattle.host_mach.specs.Step.{host_transitions}
 use Rattle.para_mach.specs.State.{ParaState}
-use Rattle.para_mach.specs.Step.{para_moves}
+use Rattle.para_mach.specs.Step.{para_transitions}
 use Rattle.cmd_stages.specs.Plan.{Verdict, ◌>>=◌}
 use Rattle.cmd_stages.specs.declared.stop.Refusal.{Refusal}
 use Rattle.cmd_stages.specs.declared.stop.Refusal.TheVariants as refusals
@@ -50,7 +50,7 @@ listed_by out place listing = verdict_of_place (λ (l : ListingState). listed_ve
 
 -- the verdict of a machine and the entries that were read with it: the trace's answers are checked
 -- first
-abbrev pub listed_ended : {S : Type 0} → Moves S → (S → Sight) → Part → Side → ℕ → Choice → List ℕ → List Entry × S → Verdict Ending
+abbrev pub listed_ended : {S : Type 0} → Transitions S → (S → Sight) → Part → Side → ℕ → Choice → List ℕ → List Entry × S → Verdict Ending
 listed_ended m sights part side ticks choice out x =
     unless_wrong (wrong x.0) (listed_by out (replay_of m side x.0 ticks x.1).place (replay_listing m sights part side x.0 ticks choice x.1))
 
@@ -83,10 +83,10 @@ verdict_of_choice stage verdict = stage >>= λ chosen. Ok (verdict chosen)
 -- the verdict of a side's machine with its entries and a choice, or the first refusal: first the
 -- machine's, then the choice's
 abbrev pub host_verdict : Result (List Entry × HostState) (Refusal Cause) → Result Choice (Refusal Cause) → ℕ → List ℕ → Result (Verdict Ending) (Refusal Cause)
-host_verdict made stage ticks out = made >>= λ m. verdict_of_choice stage (λ c. listed_ended host_moves host_sight Nmos Host ticks c out m)
+host_verdict made stage ticks out = made >>= λ m. verdict_of_choice stage (λ c. listed_ended host_transitions host_sight Nmos Host ticks c out m)
 
 abbrev pub para_verdict : Result (List Entry × ParaState) (Refusal Cause) → Result Choice (Refusal Cause) → ℕ → List ℕ → Result (Verdict Ending) (Refusal Cause)
-para_verdict made stage ticks out = made >>= λ m. verdict_of_choice stage (λ c. listed_ended para_moves para_sight Cmos Para ticks c out m)
+para_verdict made stage ticks out = made >>= λ m. verdict_of_choice stage (λ c. listed_ended para_transitions para_sight Cmos Para ticks c out m)
 
 -- The inputs and the refusals are those of `replay`. The file of addresses is refused after them,
 -- and before the trace's answers are checked.

@@ -56,7 +56,7 @@ fn listed<'a, D: BusDevice, M: Seen>(
     requires ticks { ticks ≤ MOST }
     requires plays { IsTrue (M.plays side) }
     requires trace { All IsEntry trace.now }
-    ensures { let place = (replay_of M.moves side trace.now ticks (M.state machine)).place in
+    ensures { let place = (replay_of M.transitions side trace.now ticks (M.state machine)).place in
         let there = replay_listing M.steps M.sights part side trace.now ticks choice (M.inside machine) in
         let ended = listed_by out.now place there in
         IfOk result (λ outcome. verdict_of D.plug outcome ≡ unless_wrong (wrong trace.now) ended) }
@@ -149,7 +149,7 @@ fn listed_if<'a, D: BusDevice, M: Seen>(
     requires plays { IsTrue (M.plays side) }
     requires trace { All IsEntry trace.now }
     ensures { (stage : Result Choice (Refusal Cause)) → Gives (λ (c : Choice). c) chosen stage →
-        let place = (replay_of M.moves side trace.now ticks (M.state machine)).place in
+        let place = (replay_of M.transitions side trace.now ticks (M.state machine)).place in
         let there = replay_listing M.steps M.sights part side trace.now ticks in
         Gives (verdict_of D.plug) result (verdict_of_choice stage (λ c. unless_wrong (wrong trace.now) (listed_by out.now place (there c (M.inside machine))))) }
 {

@@ -1,9 +1,9 @@
 //! Both machines at power-on, made from what a command read.
 ghost use Rattle.std.specs.Prelude.{◌≡◌, ◌<◌, All, Ok, Err, List, ℕ, map, IfOk, MatchResult};
-ghost use Rattle.host_mach.specs.Step.{host_moves};
+ghost use Rattle.host_mach.specs.Step.{host_transitions};
 ghost use Rattle.host_mach.specs.View.{host_seen};
 ghost use Rattle.para_mach.specs.State.{power_on};
-ghost use Rattle.para_mach.specs.Step.{para_moves};
+ghost use Rattle.para_mach.specs.Step.{para_transitions};
 ghost use Rattle.cmd_stages.specs.View.{Gives};
 ghost use Rattle.cmd_machines.specs.Machines.{rom_of, os_of, machines_of};
 ghost use Rattle.cmd_machines.specs.View.{seen_inputs, seen_setup};
@@ -66,8 +66,8 @@ pub fn machines_of<D: BusDevice>(
     requires { All (λ slot. slot.0 < 16) inputs.roms.items }
     ensures machines { let made = machines_of (seen_setup D.plug setup) (seen_inputs inputs) in
         Gives (λ m. (host_seen D.plug m.0, m.1)) result made }
-    ensures host_starts { IfOk result (λ m. host_moves.closed (host_seen D.plug m.0) ≡ 0) }
-    ensures para_starts { IfOk result (λ m. para_moves.closed m.1 ≡ 0) }
+    ensures host_starts { IfOk result (λ m. host_transitions.closed (host_seen D.plug m.0) ≡ 0) }
+    ensures para_starts { IfOk result (λ m. para_transitions.closed m.1 ≡ 0) }
 {
     let Setup {
         clock,

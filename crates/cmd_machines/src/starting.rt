@@ -1,8 +1,8 @@
 //! Both machines at power-on, and the beginning of their run.
 ghost use Rattle.std.specs.Prelude.{◌≡◌, ◌<◌, ◌≤◌, All, IfOk, IfSome, length, option_copied, option_map};
-ghost use Rattle.host_mach.specs.Step.{host_moves};
+ghost use Rattle.host_mach.specs.Step.{host_transitions};
 ghost use Rattle.host_mach.specs.View.{host_seen};
-ghost use Rattle.para_mach.specs.Step.{para_moves};
+ghost use Rattle.para_mach.specs.Step.{para_transitions};
 ghost use Rattle.cmd_stages.specs.View.{Gives};
 ghost use Rattle.save_state.specs.Saved.{session};
 ghost use Rattle.save_state.specs.File.{IsSession};
@@ -38,8 +38,8 @@ pub fn started<D: BusDevice>(
     ensures begun { let there = begun_if (option_copied save.entry) (seen_setup D.plug setup) (seen_inputs inputs) in
         IfOk result (λ m. option_map session m.0 ≡ there) }
     ensures keeps { IfOk result (λ m. IfSome m.0 (λ b. IsSession (session b))) }
-    ensures host_starts { IfOk result (λ m. host_moves.closed (host_seen D.plug m.1) ≡ 0) }
-    ensures para_starts { IfOk result (λ m. para_moves.closed m.2 ≡ 0) }
+    ensures host_starts { IfOk result (λ m. host_transitions.closed (host_seen D.plug m.1) ≡ 0) }
+    ensures para_starts { IfOk result (λ m. para_transitions.closed m.2 ≡ 0) }
 {
     begun_is_session();
     let begun = begun_if(alloc, save, &setup, &inputs)?;

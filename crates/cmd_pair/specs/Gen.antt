@@ -10,8 +10,8 @@ use Rattle.tube_party.specs.Reference.{reference}
 use Rattle.beeb_bits.specs.declared.clock.Clock.TheVariants.{Three}
 use Rattle.disc_image.specs.declared.Kind.TheVariants.{Ssd}
 use Rattle.host_mach.specs.State.{HostState}
-use Rattle.host_mach.specs.Step.{host_moves}
-use Rattle.para_mach.specs.Step.{para_moves}
+use Rattle.host_mach.specs.Step.{host_transitions}
+use Rattle.para_mach.specs.Step.{para_transitions}
 use Rattle.cmd_stages.specs.Plan.{Verdict, ◌>>=◌, or_refusal}
 use Rattle.cmd_stages.specs.declared.stop.Refusal.{Refusal}
 use Rattle.cmd_stages.specs.declared.stop.Refusal.TheVariants as refusals
@@ -61,4 +61,4 @@ gen_after seed =
     or_refusal no_image (image_of (source Nmos host_text))
     >>= λ os. or_refusal no_image (image_holding (drawn_bytes seed) (source Cmos tube_text))
     >>= λ tube. machines_of gen_setup (pair_inputs os tube)
-    >>= λ m. Ok (gen_verdict seed (reference host_moves para_moves m.0 m.1 gen_ticks).host)
+    >>= λ m. Ok (gen_verdict seed (reference host_transitions para_transitions m.0 m.1 gen_ticks).host)

@@ -18,8 +18,8 @@ pub(crate) fn run_alone<H: Party, P: Rewinds>(
 ) -> Result<Done<H, P>, AllocError>
     requires ticks { n.0 ≤ MOST }
     requires sides { TakeSides H.plays P.plays }
-    requires closed { AreClosedWithin H.moves P.moves (H.state host) (P.state para) n.0 }
-    ensures { let w = reference H.moves P.moves (H.state host) (P.state para) n.0 in
+    requires closed { AreClosedWithin H.transitions P.transitions (H.state host) (P.state para) n.0 }
+    ensures { let w = reference H.transitions P.transitions (H.state host) (P.state para) n.0 in
         IfOk result (λ d. IsPlayed w keep (played_of H.state P.state d)) }
 {
     match solo(alloc, host, para, n, keep) {

@@ -39,8 +39,8 @@ where
     P::Past: Send,
     requires ticks { n.0 ≤ MOST }
     requires sides { TakeSides H.plays P.Party.plays }
-    requires closed { AreClosedWithin H.moves P.Party.moves (H.state host) (P.Party.state para) n.0 }
-    ensures played { let w = reference H.moves P.Party.moves (H.state host) (P.Party.state para) n.0 in
+    requires closed { AreClosedWithin H.transitions P.Party.transitions (H.state host) (P.Party.state para) n.0 }
+    ensures played { let w = reference H.transitions P.Party.transitions (H.state host) (P.Party.state para) n.0 in
         IfOk result (λ d. IsPlayed w keep (played_of H.state P.Party.state d)) }
     // The result is a run of any content, or no thread could be started, or memory ran out.
     ensures works { Works nothing true (C.counts crew.old) (C.counts crew.new) result (Ok tt) }

@@ -6,7 +6,7 @@ use Rattle.beeb_bits.specs.declared.Side.{Side}
 use Rattle.tube_trace.specs.declared.Entry.{Entry}
 use Rattle.tube_trace.specs.FirstWrong.{wrong}
 use Rattle.tube_party.specs.declared.Doing.{Doing}
-use Rattle.tube_party.specs.Moves.{Moves}
+use Rattle.tube_party.specs.Transitions.{Transitions}
 use Rattle.tube_party.specs.Replay.{replay_of}
 use Rattle.cmd_status.specs.declared.status.Ending.TheVariants.{Differs}
 use Rattle.host_mach.specs.State.{HostState}
@@ -18,19 +18,19 @@ use Rattle.cmd_outcome.specs.Verdicts.{machine_verdict, said_verdict}
 use Rattle.cmd_replay.specs.Replay.{left_of, replayed, side_count}
 use Rattle.cmd_replayed.specs.Replay.{differs_text}
 
-module _ {S : Type 0} (moves : Moves S) (side : Side) (ticks : ℕ) (left : ℕ → S → Left) (entries : List Entry) (s : S) where
-  pub done_is : (l : Left) (tube : ℕ) (last : S) → wrong entries ≡ None → (replay_of moves side entries ticks s).place ≡ None →
-      last ≡ (replay_of moves side entries ticks s).machine → tube ≡ side_count side ticks entries → l ≡ left tube last →
-      machine_verdict l ≡ replayed moves side ticks left (entries, s)
+module _ {S : Type 0} (transitions : Transitions S) (side : Side) (ticks : ℕ) (left : ℕ → S → Left) (entries : List Entry) (s : S) where
+  pub done_is : (l : Left) (tube : ℕ) (last : S) → wrong entries ≡ None → (replay_of transitions side entries ticks s).place ≡ None →
+      last ≡ (replay_of transitions side entries ticks s).machine → tube ≡ side_count side ticks entries → l ≡ left tube last →
+      machine_verdict l ≡ replayed transitions side ticks left (entries, s)
   unfolding replayed
   done_is l tube last right none same counted is = rw (right, none, is, same, counted)
 
-  pub differs_is : (line : ℕ) (doing : Option Doing) → wrong entries ≡ None → (replay_of moves side entries ticks s).place ≡ Some (line, doing) →
-      said_verdict (Differs line doing) (differs_text line doing) ≡ replayed moves side ticks left (entries, s)
+  pub differs_is : (line : ℕ) (doing : Option Doing) → wrong entries ≡ None → (replay_of transitions side entries ticks s).place ≡ Some (line, doing) →
+      said_verdict (Differs line doing) (differs_text line doing) ≡ replayed transitions side ticks left (entries, s)
   unfolding replayed
   differs_is line doing right some = rw (right, some)
 
-  pub wrong_is : (at byte : ℕ) → wrong entries ≡ Some (at, byte) → wrong_verdict (at + 1) byte ≡ replayed moves side ticks left (entries, s)
+  pub wrong_is : (at byte : ℕ) → wrong entries ≡ Some (at, byte) → wrong_verdict (at + 1) byte ≡ replayed transitions side ticks left (entries, s)
   unfolding replayed
   wrong_is at byte is = rw is
 

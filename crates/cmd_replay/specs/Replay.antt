@@ -6,12 +6,12 @@ use Rattle.beeb_bits.specs.declared.Side.TheVariants.{Host, Para}
 use Rattle.tube_chip.specs.Events.{is_side}
 use Rattle.tube_trace.specs.declared.Entry.{Entry}
 use Rattle.tube_trace.specs.FirstWrong.{wrong}
-use Rattle.tube_party.specs.Moves.{Moves}
+use Rattle.tube_party.specs.Transitions.{Transitions}
 use Rattle.tube_party.specs.Replay.{Ended, replay_of}
 use Rattle.host_mach.specs.State.{HostState}
-use Rattle.host_mach.specs.Step.{host_moves}
+use Rattle.host_mach.specs.Step.{host_transitions}
 use Rattle.para_mach.specs.State.{ParaState}
-use Rattle.para_mach.specs.Step.{para_moves}
+use Rattle.para_mach.specs.Step.{para_transitions}
 use Rattle.cmd_stages.specs.Plan.{Verdict, ◌>>=◌}
 use Rattle.cmd_stages.specs.declared.stop.Refusal.{Refusal}
 use Rattle.cmd_status.specs.declared.status.Ending.{Ending}
@@ -34,13 +34,13 @@ verdict_of_end done e = verdict_of_place done e.machine e.place
 
 -- The verdict of a machine and the entries that were read with it. left makes the final state from
 -- the number of accesses and the machine. The trace's answers are checked before the machine runs.
-unfoldable pub replayed : {S : Type 0} → Moves S → Side → ℕ → (ℕ → S → Left) → List Entry × S → Verdict Ending
-replayed moves side ticks left m =
-    unless_wrong (wrong m.0) (verdict_of_end (λ s. machine_verdict (left (side_count side ticks m.0) s)) (replay_of moves side m.0 ticks m.1))
+unfoldable pub replayed : {S : Type 0} → Transitions S → Side → ℕ → (ℕ → S → Left) → List Entry × S → Verdict Ending
+replayed transitions side ticks left m =
+    unless_wrong (wrong m.0) (verdict_of_end (λ s. machine_verdict (left (side_count side ticks m.0) s)) (replay_of transitions side m.0 ticks m.1))
 
 unfoldable pub replay_after : Setup → Side → ℕ → Names → Inputs → Result (Verdict Ending) (Refusal Cause)
-replay_after set Host ticks names i = host_of set i >>= λ m. Ok (replayed host_moves Host ticks (λ tube. host_left set.clock ticks tube names) m)
-replay_after set Para ticks names i = para_of set.clock i >>= λ m. Ok (replayed para_moves Para ticks (λ tube. para_left set.clock ticks tube names) m)
+replay_after set Host ticks names i = host_of set i >>= λ m. Ok (replayed host_transitions Host ticks (λ tube. host_left set.clock ticks tube names) m)
+replay_after set Para ticks names i = para_of set.clock i >>= λ m. Ok (replayed para_transitions Para ticks (λ tube. para_left set.clock ticks tube names) m)
 
 -- the final state of a replay with its machine
 abbrev pub left_of : Clock → ℕ → ℕ → Names → Option HostState × Option ParaState → Left

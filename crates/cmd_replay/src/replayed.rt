@@ -36,7 +36,7 @@ fn replayed<'a, D: BusDevice, M: Parts<D>>(
     requires entries { All IsEntry entries.now }
     ensures { (left : ℕ → M.State → lefts.Left) →
         ((tube : ℕ) (m : M) → left_of clock ticks tube (names_seen names.entry) (M.shown m) ≡ left tube (M.state m)) →
-        IfOk result (λ outcome. verdict_of D.plug outcome ≡ replayed M.moves side ticks left (entries.now, M.state machine)) }
+        IfOk result (λ outcome. verdict_of D.plug outcome ≡ replayed M.transitions side ticks left (entries.now, M.state machine)) }
 {
     if let Some((at, byte)) = first_wrong(entries) {
         return wrong_outcome(alloc, at as u64 + 1, byte);

@@ -7,10 +7,10 @@ use Rattle.tube_trace.specs.FirstWrong.{wrong}
 use Rattle.tube_party.specs.Reference.{reference}
 use Rattle.host_mach.specs.declared.machine.HostMachine.{HostMachine}
 use Rattle.host_mach.specs.State.{HostState}
-use Rattle.host_mach.specs.Step.{host_moves}
+use Rattle.host_mach.specs.Step.{host_transitions}
 use Rattle.host_mach.specs.View.{host_seen}
 use Rattle.para_mach.specs.State.{ParaState}
-use Rattle.para_mach.specs.Step.{para_moves}
+use Rattle.para_mach.specs.Step.{para_transitions}
 use Rattle.save_state.specs.Saved.{Session}
 use Rattle.save_state.specs.File.{IsSession}
 use Rattle.cmd_machines.specs.Inputs.{Inputs}
@@ -30,7 +30,7 @@ use Rattle.cmd_session.specs.Comes.{Went, Comes}
 
 module _ {D : Type 0} (plug : D → Plug) (clock : Clock) (begun : Option Session) (n keep : ℕ) (names : Names) (s : HostState) (t : ParaState) (entries : List Entry) (moment : ℕ) where
   abbrev GoesSo : Back (HostMachine D) ParaState → Type 0
-  GoesSo there = Goes (host_seen plug) (λ m. m) host_moves para_moves s t entries moment n keep there
+  GoesSo there = Goes (host_seen plug) (λ m. m) host_transitions para_transitions s t entries moment n keep there
 
   pub went_so : (there : Back (HostMachine D) ParaState) → GoesSo there → Went plug n keep there
   went_so (On done) goes = (s, t, goes.2)
@@ -38,7 +38,7 @@ module _ {D : Type 0} (plug : D → Plug) (clock : Clock) (begun : Option Sessio
 
   pub comes_so : (there : Back (HostMachine D) ParaState) (v : Verdict Ending) → GoesSo there → Comes plug clock begun n keep names there v →
       unless_wrong (wrong entries)
-      (verdict_of_place (kept_verdict clock begun n keep names) (reference host_moves para_moves s t n) (place_of host_moves para_moves entries moment n s t)) ≡ v
+      (verdict_of_place (kept_verdict clock begun n keep names) (reference host_transitions para_transitions s t n) (place_of host_transitions para_transitions entries moment n s t)) ≡ v
   comes_so (On done) v goes comes = rw (goes.0, goes.1) (sym (comes s t goes.2))
   comes_so (Wrong line byte) v goes comes = rw (goes.1, sym goes.2) (sym comes)
   comes_so (Differs line doing) v goes comes = rw (goes.0, goes.1) (sym comes)
@@ -52,7 +52,7 @@ pub session_gives : (plugs : List Plug) (ticks keep : ℕ) (names : Names) (i ma
     (entries : List Entry) (v : Verdict Ending) → bytes ≡ i.state → state_of bytes ≡ Ok s → set ≡ setup_in s plugs → made ≡ inputs_in s → machines_of set made ≡ Ok m →
     begun ≡ begun_if names.save set made → entries ≡ s.entries →
     unless_wrong (wrong entries)
-    (verdict_of_place (kept_verdict s.clock begun ticks keep names) (reference host_moves para_moves m.0 m.1 ticks) (place_of host_moves para_moves entries s.ticks ticks m.0 m.1))
+    (verdict_of_place (kept_verdict s.clock begun ticks keep names) (reference host_transitions para_transitions m.0 m.1 ticks) (place_of host_transitions para_transitions entries s.ticks ticks m.0 m.1))
     ≡ v → session_after plugs ticks keep names i ≡ Ok v
 unfolding session_after session_ended
 session_gives plugs ticks keep names i made bytes s set m begun entries v read told setup parts machines saved listed is =

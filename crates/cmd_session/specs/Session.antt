@@ -6,9 +6,9 @@ use Rattle.tube_party.specs.declared.Doing.{Doing}
 use Rattle.tube_party.specs.Reference.{reference}
 use Rattle.tube_party.specs.GoingOn.{entries_below}
 use Rattle.host_mach.specs.State.{HostState}
-use Rattle.host_mach.specs.Step.{host_moves}
+use Rattle.host_mach.specs.Step.{host_transitions}
 use Rattle.para_mach.specs.State.{ParaState}
-use Rattle.para_mach.specs.Step.{para_moves}
+use Rattle.para_mach.specs.Step.{para_transitions}
 use Rattle.save_state.specs.declared.StateError.{StateError}
 use Rattle.save_state.specs.declared.StateError.TheVariants as state_errors
 use Rattle.save_state.specs.Saved.{Session}
@@ -39,14 +39,14 @@ state_of bytes = or_refusal state_refusal (file bytes)
 -- The first difference between both machines from power-on and the accesses of a session below its
 -- moment and the end of the run.
 abbrev pub place_of : Session → ℕ → HostState × ParaState → Option (ℕ × Option Doing)
-place_of s ticks m = first_difference host_moves para_moves (entries_below (min s.ticks ticks) s.entries) (min s.ticks ticks) m.0 m.1
+place_of s ticks m = first_difference host_transitions para_transitions (entries_below (min s.ticks ticks) s.entries) (min s.ticks ticks) m.0 m.1
 
 -- The reference run of both machines from power-on, if they and the accesses of the session do not
 -- differ.
 unfoldable pub session_ended : List Plug → ℕ → ℕ → Names → Session → HostState × ParaState → Verdict Ending
 session_ended plugs ticks keep names s m =
     verdict_of_place (kept_verdict s.clock (begun_if names.save (setup_in s plugs) (inputs_in s)) ticks keep names)
-    (reference host_moves para_moves m.0 m.1 ticks) (place_of s ticks m)
+    (reference host_transitions para_transitions m.0 m.1 ticks) (place_of s ticks m)
 
 -- A session's machines are made from its parts. The form of the file is refused first, then that of
 -- the script. The answers of all its accesses are checked before the machines run.

@@ -45,9 +45,9 @@ pub(crate) fn bring_back<H: Party, P: Rewinds>(
     requires ticks { n.0 ≤ MOST }
     requires entries { AreAccesses moment.0 entries.now }
     requires sides { TakeSides H.plays P.plays }
-    requires closed { AreClosedWithin H.moves P.moves (H.state host) (P.state para) 0 }
+    requires closed { AreClosedWithin H.transitions P.transitions (H.state host) (P.state para) 0 }
     ensures { let s = H.state host in let t = P.state para in
-        IfOk result (λ b. Goes H.state P.state H.moves P.moves s t entries.now moment.0 n.0 keep b) }
+        IfOk result (λ b. Goes H.state P.state H.transitions P.transitions s t entries.now moment.0 n.0 keep b) }
 {
     if let Some((place, byte)) = first_wrong(entries) {
         return Ok(Back::Wrong {

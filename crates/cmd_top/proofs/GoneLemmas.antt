@@ -5,8 +5,8 @@ use Rattle.beeb_bits.specs.declared.Side.TheVariants.{Host, Para}
 use Rattle.op_table.specs.declared.names.Part.{Part}
 use Rattle.cmd_words.specs.Command.{Command, resume, follow, ticks_of}
 use Rattle.cmd_words.specs.Given.{Values, clock_of}
-use Rattle.host_mach.specs.Step.{host_moves}
-use Rattle.para_mach.specs.Step.{para_moves}
+use Rattle.host_mach.specs.Step.{host_transitions}
+use Rattle.para_mach.specs.Step.{para_transitions}
 use Rattle.follow.specs.Machines.{host_sight, para_sight}
 use Rattle.cmd_replayed.specs.Made.{host_of, para_of}
 use Rattle.op_table.specs.declared.names.Part.TheVariants.{Nmos, Cmos}
@@ -24,7 +24,7 @@ use Rattle.cmd_status.specs.Status.{end_of}
 use Rattle.bus_plug.specs.Plug.{Plug}
 use Rattle.tube_trace.specs.declared.Entry.{Entry}
 use Rattle.tube_trace.specs.FirstWrong.{wrong}
-use Rattle.tube_party.specs.Moves.{Moves}
+use Rattle.tube_party.specs.Transitions.{Transitions}
 use Rattle.tube_party.specs.Replay.{replay_of}
 use Rattle.follow.specs.declared.Choice.{Choice}
 use Rattle.follow.specs.Sight.{Sight}
@@ -63,7 +63,7 @@ module _ (plugs : List Plug) (old new : World) where
       }
 
   -- a listing that ended with `Done`
-  listed_gone : {S : Type 0} (c : Command) (made_of : Inputs → Result (List Entry × S) (Refusal Cause)) (m : Moves S) (sights : S → Sight) (part : Part) (side : Side) (choice : Choice)
+  listed_gone : {S : Type 0} (c : Command) (made_of : Inputs → Result (List Entry × S) (Refusal Cause)) (m : Transitions S) (sights : S → Sight) (part : Part) (side : Side) (choice : Choice)
       (out : List ℕ) → ((i : Inputs) → after plugs c i
       ≡ (made_of i >>= λ x. chosen_with choice i.points >>= λ chosen. Ok (listed_ended m sights part side (ticks_of c) chosen out x))) → Ends c →
       IsListed c made_of m sights part side choice out old new
@@ -94,9 +94,9 @@ done_gone : (plugs : List Plug) (c : Command) (old new : World) → EndsWith plu
 unfolding EndsWith Gone follow_after
 done_gone plugs (resume state ticks out keep given) old new e = resume_gone plugs old new state ticks keep out given e
 done_gone plugs (follow Host trace ticks out given) old new e =
-    listed_gone plugs old new (follow Host trace ticks out given) (host_of (setup_of given plugs)) host_moves host_sight Nmos Host (choice_of given) out (λ i. refl) e
+    listed_gone plugs old new (follow Host trace ticks out given) (host_of (setup_of given plugs)) host_transitions host_sight Nmos Host (choice_of given) out (λ i. refl) e
 done_gone plugs (follow Para trace ticks out given) old new e =
-    listed_gone plugs old new (follow Para trace ticks out given) (para_of (clock_of given)) para_moves para_sight Cmos Para (choice_of given) out (λ i. refl) e
+    listed_gone plugs old new (follow Para trace ticks out given) (para_of (clock_of given)) para_transitions para_sight Cmos Para (choice_of given) out (λ i. refl) e
 done_gone plugs c old new e = tt
 
 -- a command that was carried out with its status

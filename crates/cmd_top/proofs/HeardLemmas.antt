@@ -29,9 +29,9 @@ use Rattle.tube_party.specs.declared.replaying.Doing.{Doing}
 use Rattle.tube_party.specs.Reference.{World as Worlds, reference}
 use Rattle.tube_party.specs.Replay.{Ended, replay_of}
 use Rattle.host_mach.specs.State.{HostState}
-use Rattle.host_mach.specs.Step.{host_moves}
+use Rattle.host_mach.specs.Step.{host_transitions}
 use Rattle.para_mach.specs.State.{ParaState}
-use Rattle.para_mach.specs.Step.{para_moves}
+use Rattle.para_mach.specs.Step.{para_transitions}
 use Rattle.cmd_machines.specs.Inputs.{Inputs, inputs_of}
 use Rattle.cmd_machines.specs.Setup.{setup_of}
 use Rattle.cmd_machines.specs.Machines.{machines_of}
@@ -141,7 +141,7 @@ placed done s place w v is ends =
 -- a session that ended with `Done`: its machines' reference run
 pub session_done : (plugs : List Plug) (ticks keep : ℕ) (names : Names) (i : Inputs) (v : Verdict Ending) → or_stop (session_after plugs ticks keep names i) ≡ Ok v → endings.Done ≡ v.ending →
     (s : sessions.Session) × (m : HostState × ParaState) × (state_of i.state ≡ Ok s) × (machines_of (setup_in s plugs) (inputs_in s) ≡ Ok m)
-    × (v ≡ kept_verdict s.clock (begun_if names.save (setup_in s plugs) (inputs_in s)) ticks keep names (reference host_moves para_moves m.0 m.1 ticks))
+    × (v ≡ kept_verdict s.clock (begun_if names.save (setup_in s plugs) (inputs_in s)) ticks keep names (reference host_transitions para_transitions m.0 m.1 ticks))
 unfolding session_after session_ended
 session_done plugs ticks keep names i v comes done =
     let got = stage_two (state_of i.state) (λ s. machines_of (setup_in s plugs) (inputs_in s))
@@ -152,7 +152,7 @@ session_done plugs ticks keep names i v comes done =
       m,
       got.2,
       got.3,
-      placed (kept_verdict s.clock (begun_if names.save (setup_in s plugs) (inputs_in s)) ticks keep names) (reference host_moves para_moves m.0 m.1 ticks)
+      placed (kept_verdict s.clock (begun_if names.save (setup_in s plugs) (inputs_in s)) ticks keep names) (reference host_transitions para_transitions m.0 m.1 ticks)
           (place_of s ticks m) (wrong s.entries) v got.4 done,
     )
 
@@ -168,10 +168,10 @@ module _ (plugs : List Plug) (ticks : ℕ) (out : List ℕ) (given : Values) (na
   run_heard keep comes =
       let begun : Option sessions.Session = begun_if (save_of given) (setup_of given plugs) i in
       let got = stage_ok (machines_of (setup_of given plugs) i) _ v comes in
-      let w : Worlds HostState ParaState = reference host_moves para_moves got.0.0 got.0.1 ticks in (
+      let w : Worlds HostState ParaState = reference host_transitions para_transitions got.0.0 got.0.1 ticks in (
         clock_of given,
         w.host,
-        ap (λ (r : Result (HostState × ParaState) (Refusal Cause)). r >>= λ m. Ok (clock_of given, (reference host_moves para_moves m.0 m.1 ticks).host)) got.1,
+        ap (λ (r : Result (HostState × ParaState) (Refusal Cause)). r >>= λ m. Ok (clock_of given, (reference host_transitions para_transitions m.0 m.1 ticks).host)) got.1,
         λ differ.
             left_heard (both_left (clock_of given) ticks (length (accesses w.list)) (names_of out given) w.host w.para (kept_of (clock_of given) (take keep (accesses w.list)))
             (saved_file begun ticks keep w.list))
@@ -184,7 +184,7 @@ module _ (plugs : List Plug) (ticks : ℕ) (out : List ℕ) (given : Values) (na
       let got = session_done plugs ticks keep (names_of out given) i v comes done in
       let s : sessions.Session = got.0 in
       let begun : Option sessions.Session = begun_if (save_of given) (setup_in s plugs) (inputs_in s) in
-      let w : Worlds HostState ParaState = reference host_moves para_moves got.1.0 got.1.1 ticks in (
+      let w : Worlds HostState ParaState = reference host_transitions para_transitions got.1.0 got.1.1 ticks in (
         s.clock,
         w.host,
         rw (got.2, got.3),
@@ -198,12 +198,12 @@ module _ (plugs : List Plug) (ticks : ℕ) (out : List ℕ) (given : Values) (na
   unfolding replay_after replayed
   replay_heard comes done =
       let left : ℕ → HostState → Left = λ tube s. host_left (clock_of given) ticks tube (names_of out given) s in
-      let got = stage_ok (host_of (setup_of given plugs) i) (replayed host_moves Host ticks left) v comes in
-      let e : Ended HostState = replay_of host_moves Host got.0.0 ticks got.0.1 in
+      let got = stage_ok (host_of (setup_of given plugs) i) (replayed host_transitions Host ticks left) v comes in
+      let e : Ended HostState = replay_of host_transitions Host got.0.0 ticks got.0.1 in
       let count : ℕ = side_count Host ticks got.0.0 in (
         clock_of given,
         e.machine,
-        ap (λ (r : Result (List Entry × HostState) (Refusal Cause)). r >>= λ m. Ok (clock_of given, (replay_of host_moves Host m.0 ticks m.1).machine)) got.1,
+        ap (λ (r : Result (List Entry × HostState) (Refusal Cause)). r >>= λ m. Ok (clock_of given, (replay_of host_transitions Host m.0 ticks m.1).machine)) got.1,
         λ differ.
             left_heard (left count e.machine) e.machine name old new refl wav differ
             (is ∙ ap (λ (x : Verdict Ending). put_all x.files old) (placed (λ (s : HostState). machine_verdict (left count s)) e.machine e.place (wrong got.0.0) v got.2 done)),

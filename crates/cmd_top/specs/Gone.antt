@@ -16,12 +16,12 @@ use Rattle.cmd_stages.specs.declared.stop.Refusal.{Refusal}
 use Rattle.cmd_status.specs.declared.status.Cause.{Cause}
 use Rattle.bus_plug.specs.Plug.{Plug}
 use Rattle.tube_trace.specs.declared.Entry.{Entry}
-use Rattle.tube_party.specs.Moves.{Moves}
+use Rattle.tube_party.specs.Transitions.{Transitions}
 use Rattle.tube_party.specs.Reference.{reference}
 use Rattle.host_mach.specs.State.{HostState}
-use Rattle.host_mach.specs.Step.{host_moves}
+use Rattle.host_mach.specs.Step.{host_transitions}
 use Rattle.para_mach.specs.State.{ParaState}
-use Rattle.para_mach.specs.Step.{para_moves}
+use Rattle.para_mach.specs.Step.{para_transitions}
 use Rattle.save_state.specs.Saved.{Session}
 use Rattle.follow.specs.declared.Choice.{Choice}
 use Rattle.follow.specs.Sight.{Sight}
@@ -54,14 +54,14 @@ pub record IsResumed (plugs : List Plug) (c : Command) (keep : ℕ) (out : List 
   pub written :
       new.outlet.files
       ≡ put_all (kept_verdict session.clock (begun_if (save_of given) (setup_in session plugs) (inputs_in session)) (ticks_of c) keep (names_of out given)
-      (reference host_moves para_moves machines.0 machines.1 (ticks_of c))).files
+      (reference host_transitions para_transitions machines.0 machines.1 (ticks_of c))).files
       old.outlet.files
   -- nothing was said
   pub said : new.outlet.said ≡ old.outlet.said
 
 -- The written files are the listing of the machine's replay, and the counts, if they are written.
 -- The text with the listing's numbers was said after them.
-pub record IsListed {S : Type 0} (c : Command) (made_of : Inputs → Result (List Entry × S) (Refusal Cause)) (m : Moves S) (sights : S → Sight) (part : Part) (side : Side)
+pub record IsListed {S : Type 0} (c : Command) (made_of : Inputs → Result (List Entry × S) (Refusal Cause)) (m : Transitions S) (sights : S → Sight) (part : Part) (side : Side)
     (choice : Choice) (out : List ℕ) (old new : World) : Type 0 where
   pub inputs : plans.Inputs Slot
   pub read : WereRead (reads c) old.shelf.files inputs
@@ -79,7 +79,7 @@ pub record IsListed {S : Type 0} (c : Command) (made_of : Inputs → Result (Lis
 unfoldable pub Gone : List Plug → Option Command → World → World → Type 0
 Gone plugs (Some (resume state ticks out keep given)) old new = IsResumed plugs (resume state ticks out keep given) keep out given old new
 Gone plugs (Some (follow Host trace ticks out given)) old new =
-    IsListed (follow Host trace ticks out given) (host_of (setup_of given plugs)) host_moves host_sight Nmos Host (choice_of given) out old new
+    IsListed (follow Host trace ticks out given) (host_of (setup_of given plugs)) host_transitions host_sight Nmos Host (choice_of given) out old new
 Gone plugs (Some (follow Para trace ticks out given)) old new =
-    IsListed (follow Para trace ticks out given) (para_of (clock_of given)) para_moves para_sight Cmos Para (choice_of given) out old new
+    IsListed (follow Para trace ticks out given) (para_of (clock_of given)) para_transitions para_sight Cmos Para (choice_of given) out old new
 Gone plugs c old new = ⊤

@@ -12,9 +12,9 @@ use Rattle.cmd_stages.specs.Promise.{World, put_all}
 use Rattle.bus_plug.specs.Plug.{Plug}
 use Rattle.tube_party.specs.Reference.{reference}
 use Rattle.host_mach.specs.State.{HostState}
-use Rattle.host_mach.specs.Step.{host_moves}
+use Rattle.host_mach.specs.Step.{host_transitions}
 use Rattle.para_mach.specs.State.{ParaState}
-use Rattle.para_mach.specs.Step.{para_moves}
+use Rattle.para_mach.specs.Step.{para_transitions}
 use Rattle.cmd_status.specs.declared.status.Cause.{Cause}
 use Rattle.cmd_machines.specs.Inputs.{inputs_of}
 use Rattle.cmd_machines.specs.Setup.{setup_of}
@@ -40,7 +40,7 @@ pub record IsReferenceRun (plugs : List Plug) (ticks keep : ℕ) (out : List ℕ
   pub written :
       new.outlet.files
       ≡ put_all (kept_verdict (clock_of given) (begun_if (save_of given) (setup_of given plugs) (inputs_of inputs)) ticks keep (names_of out given)
-      (reference host_moves para_moves host para ticks)).files
+      (reference host_transitions para_transitions host para ticks)).files
       old.outlet.files
   -- nothing was said
   pub said : new.outlet.said ≡ old.outlet.said

@@ -16,8 +16,8 @@ use Rattle.bus_plug.specs.Plug.{Plug}
 use Rattle.tube_party.specs.Reference.{reference}
 use Rattle.tube_party.specs.Replay.{replay_of}
 use Rattle.host_mach.specs.State.{HostState}
-use Rattle.host_mach.specs.Step.{host_moves}
-use Rattle.para_mach.specs.Step.{para_moves}
+use Rattle.host_mach.specs.Step.{host_transitions}
+use Rattle.para_mach.specs.Step.{para_transitions}
 use Rattle.cmd_status.specs.declared.status.Cause.{Cause}
 use Rattle.cmd_machines.specs.Inputs.{Inputs, inputs_of}
 use Rattle.cmd_machines.specs.Setup.{setup_of}
@@ -30,19 +30,19 @@ use Rattle.cmd_session.specs.Session.{state_of}
 -- the host of the reference run of both machines from power-on, at its end, and its clock
 abbrev pub reference_host : List Plug → ℕ → Values → Inputs → Result (Clock × HostState) (Refusal Cause)
 reference_host plugs ticks given i =
-    machines_of (setup_of given plugs) i >>= λ m. Ok (clock_of given, (reference host_moves para_moves m.0 m.1 ticks).host)
+    machines_of (setup_of given plugs) i >>= λ m. Ok (clock_of given, (reference host_transitions para_transitions m.0 m.1 ticks).host)
 
 -- the host replayed from power-on, at its end, and its clock
 abbrev pub replayed_host : List Plug → ℕ → Values → Inputs → Result (Clock × HostState) (Refusal Cause)
 replayed_host plugs ticks given i =
-    host_of (setup_of given plugs) i >>= λ m. Ok (clock_of given, (replay_of host_moves Host m.0 ticks m.1).machine)
+    host_of (setup_of given plugs) i >>= λ m. Ok (clock_of given, (replay_of host_transitions Host m.0 ticks m.1).machine)
 
 -- the host of the reference run of a session's machines from power-on, at its end, and its clock
 abbrev pub session_host : List Plug → ℕ → Inputs → Result (Clock × HostState) (Refusal Cause)
 session_host plugs ticks i =
     state_of i.state
     >>= λ s. machines_of (setup_in s plugs) (inputs_in s)
-    >>= λ m. Ok (s.clock, (reference host_moves para_moves m.0 m.1 ticks).host)
+    >>= λ m. Ok (s.clock, (reference host_transitions para_transitions m.0 m.1 ticks).host)
 
 -- The inputs were read: those of the shelf under the names to read, if it shows its files.
 abbrev pub WereRead : List (Want Slot) → Option Files → plans.Inputs Slot → Type 0

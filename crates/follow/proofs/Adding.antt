@@ -9,7 +9,7 @@ use Rattle.beeb_bits.specs.declared.Side.{Side}
 use Rattle.tube_chip.specs.declared.Op.{Op}
 use Rattle.tube_chip.specs.Act.{Query, access, look}
 use Rattle.tube_trace.specs.declared.Entry.{Entry}
-use Rattle.tube_party.specs.Moves.{Moves, IsLawful}
+use Rattle.tube_party.specs.Transitions.{Transitions, IsLawful}
 use Rattle.tube_party.specs.Replay.{Numbered, own_from, is_that}
 use Rattle.follow.specs.Sight.{Sight}
 use Rattle.follow.specs.Start.{StartState, start_of}
@@ -97,7 +97,7 @@ filtered : (n : ℕ) (f : StartState → Bool) (starts : List StartState) → Ri
 filtered n f [] rise = (tt, omega arith)
 filtered n f (x ∷ starts) rise = let rest = filtered n f starts rise.1 in filtered_by n (f x) x (filter f starts) starts rise.0 rest.1 rest.0
 
-module _ {S : Type 0} (m : Moves S) (lawful : IsLawful m) (sights : S → Sight) (side : Side) (trace : List Entry) (n : ℕ) where
+module _ {S : Type 0} (m : Transitions S) (lawful : IsLawful m) (sights : S → Sight) (side : Side) (trace : List Entry) (n : ℕ) where
   abbrev starts_in : List S → List StartState
   starts_in states = starts_of m sights None states
 
@@ -170,7 +170,7 @@ counted_same from before (x ∷ starts) = chosen_by _ _ x _ _ (all_are (nat_le f
     all_are true = refl
     all_are false = refl
 
-pub counts_add : {S : Type 0} (m : Moves S) → IsLawful m → (sights : S → Sight) → CountsAddUp m sights
+pub counts_add : {S : Type 0} (m : Transitions S) → IsLawful m → (sights : S → Sight) → CountsAddUp m sights
 counts_add m lawful sights = record {
   same = λ side trace n from s. counted_same from None (starts_of m sights None (run_of m side trace n s));
   sums = λ side trace n from s placed.

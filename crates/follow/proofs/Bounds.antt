@@ -7,7 +7,7 @@ use Rattle.beeb_bits.specs.declared.Side.{Side}
 use Rattle.tube_chip.specs.declared.Op.{Op}
 use Rattle.tube_chip.specs.Act.{Query, access, look}
 use Rattle.tube_trace.specs.declared.Entry.{Entry}
-use Rattle.tube_party.specs.Moves.{Moves}
+use Rattle.tube_party.specs.Transitions.{Transitions}
 use Rattle.tube_party.specs.Replay.{Numbered, own_from, is_that}
 use Rattle.follow.specs.declared.choice.Choice.{Choice}
 use Rattle.follow.specs.Sight.{Sight}
@@ -16,7 +16,7 @@ use Rattle.follow.specs.Counts.{is_counted, counted_of}
 use Rattle.follow.specs.Listing.{access_run, step_run, run_from, run_of, starts_of}
 use Rattle.follow.proofs.Tallying.{IsBelow, few_there}
 
-module _ {S : Type 0} (m : Moves S) (side : Side) (trace : List Entry) (n : ℕ) where
+module _ {S : Type 0} (m : Transitions S) (side : Side) (trace : List Entry) (n : ℕ) where
   abbrev IsLow : S → Type 0
   IsLow s = m.due s ≤ n
 

@@ -9,7 +9,7 @@ use Rattle.tube_chip.specs.Act.{Query}
 use Rattle.tube_chip.specs.Events.{Event}
 use Rattle.tube_trace.specs.declared.Entry.{Entry}
 use Rattle.tube_trace.specs.Entries.{accesses}
-use Rattle.tube_party.specs.Moves.{Moves, IsLawful, Runs, Heads, course}
+use Rattle.tube_party.specs.Transitions.{Transitions, IsLawful, Runs, Heads, execution}
 use Rattle.tube_party.specs.Replay.{Numbered, own_from}
 use Rattle.tube_party.specs.ReplayLaws.{IsAnsweredBy, FollowsTrace}
 use Rattle.tube_party.proofs.Runs.{event}
@@ -20,7 +20,7 @@ use Rattle.follow.specs.Steps.{behind_event, behind_step, states_of}
 same_event : (e : Event) (t : ℕ) (side : Side) (q : Query) → e.tick ≡ t → e.side ≡ side → e.query ≡ q → e ≡ event t side q e.answer
 same_event e t side q et es eq = rw (← et, ← es, ← eq)
 
-module _ {S : Type 0} (m : Moves S) (lawful : IsLawful m) (side : Side) (trace : List Entry) (n : ℕ) where
+module _ {S : Type 0} (m : Transitions S) (lawful : IsLawful m) (side : Side) (trace : List Entry) (n : ℕ) where
   abbrev Told : Event → Type 0
   Told e = IsAnsweredBy trace e.tick e.side e.query e.answer
 
@@ -28,7 +28,7 @@ module _ {S : Type 0} (m : Moves S) (lawful : IsLawful m) (side : Side) (trace :
   abbrev Holds : ℕ → Type 0
   Holds k =
       (more : ℕ) (s last : S) (events : List Event) (own : List Numbered) → n ≤ m.due s + more → n ≤ m.due last
-      → Runs m side n k s (course events last) → All Told events → accesses events ≡ entries own →
+      → Runs m side n k s (execution events last) → All Told events → accesses events ≡ entries own →
       run_from m side trace n more s own ≡ states_of m k s events
 
   over : (more : ℕ) (s : S) (own : List Numbered) → n ≤ m.due s → run_from m side trace n more s own ≡ []
@@ -36,17 +36,17 @@ module _ {S : Type 0} (m : Moves S) (lawful : IsLawful m) (side : Side) (trace :
 
   -- behind a step
   module _ (k : ℕ) (on : Holds k) (more : ℕ) (s last : S) (enough : n ≤ m.due s + suc more) (high : n ≤ m.due last) where
-    goes : (a : Option Answer) (events : List Event) (own : List Numbered) → Runs m side n k (m.next s a) (course events last) → All Told events → accesses events ≡ entries own →
+    goes : (a : Option Answer) (events : List Event) (own : List Numbered) → Runs m side n k (m.next s a) (execution events last) → All Told events → accesses events ≡ entries own →
         s ∷ run_from m side trace n more (m.next s a) own ≡ s ∷ states_of m k (m.next s a) events
     goes a events own runs answered same = grind (arith, nat_tests)
 
-    asking_by : (q : Query) (a : Answer) (others : List Event) (own : List Numbered) → Runs m side n k (m.next s (Some a)) (course others last) → IsAnsweredBy trace (m.due s) side q a
+    asking_by : (q : Query) (a : Answer) (others : List Event) (own : List Numbered) → Runs m side n k (m.next s (Some a)) (execution others last) → IsAnsweredBy trace (m.due s) side q a
         → All Told others → accesses (event (m.due s) side q a ∷ others) ≡ entries own →
         step_run m side trace s own (Some q) (run_from m side trace n more) ≡ s ∷ states_of m k (m.next s (Some a)) others
     asking_by q a others own runs told answered same = grind (arith, nat_tests)
 
     heads_by : (q : Query) (events : List Event) (own : List Numbered) →
-        Heads events (λ e rest. (e.tick ≡ m.due s) × (e.side ≡ side) × (e.query ≡ q) × Runs m side n k (m.next s (Some e.answer)) (course rest last)) → All Told events
+        Heads events (λ e rest. (e.tick ≡ m.due s) × (e.side ≡ side) × (e.query ≡ q) × Runs m side n k (m.next s (Some e.answer)) (execution rest last)) → All Told events
         → accesses events ≡ entries own → step_run m side trace s own (Some q) (run_from m side trace n more) ≡ s ∷ behind_event m s (states_of m k) events
     heads_by q [] own h answered same = absurd h
     heads_by q (e ∷ rest) own h answered same =
@@ -54,8 +54,8 @@ module _ {S : Type 0} (m : Moves S) (lawful : IsLawful m) (side : Side) (trace :
         asking_by q e.answer rest own h.3 (rw is at (All-head Told e rest answered)) (All-tail Told e rest answered) (rw is at same)
 
     step_by : (o : Option Query) (events : List Event) (own : List Numbered) →
-        MatchOption o (Runs m side n k (m.next s None) (course events last))
-        (λ q. Heads events (λ e rest. (e.tick ≡ m.due s) × (e.side ≡ side) × (e.query ≡ q) × Runs m side n k (m.next s (Some e.answer)) (course rest last))) →
+        MatchOption o (Runs m side n k (m.next s None) (execution events last))
+        (λ q. Heads events (λ e rest. (e.tick ≡ m.due s) × (e.side ≡ side) × (e.query ≡ q) × Runs m side n k (m.next s (Some e.answer)) (execution rest last))) →
         All Told events → accesses events ≡ entries own → step_run m side trace s own o (run_from m side trace n more) ≡ s ∷ behind_step m s (states_of m k) o events
     step_by None events own runs answered same = goes None events own runs answered same
     step_by (Some q) events own h answered same = heads_by q events own h answered same

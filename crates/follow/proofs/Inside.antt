@@ -4,16 +4,16 @@ use Rattle.beeb_bits.specs.declared.Side.{Side}
 use Rattle.tube_chip.specs.declared.Op.{Op}
 use Rattle.tube_chip.specs.Act.{Query, access, look}
 use Rattle.tube_trace.specs.declared.Entry.{Entry}
-use Rattle.tube_party.specs.Moves.{Moves, close_leaves}
+use Rattle.tube_party.specs.Transitions.{Transitions, close_leaves}
 use Rattle.tube_party.specs.Replay.{Numbered, Ended, own_from, is_that, access_step, one_step, replay_from, replay_of}
 use Rattle.follow.specs.Sight.{IsSame}
 
 -- a state is closed in either way
-pub closed_to : {X S T : Type 0} {state : X → S} {m : Moves S} {inside : X → T} {w : Moves T} (same : IsSame state m inside w) (n : ℕ) (s : S)
+pub closed_to : {X S T : Type 0} {state : X → S} {m : Transitions S} {inside : X → T} {w : Transitions T} (same : IsSame state m inside w) (n : ℕ) (s : S)
     → close_leaves w (same.to s) n ≡ same.to (close_leaves m s n)
 closed_to {m = m} same n s = cc (same.closed s, same.close s (max n (m.closed s)))
 
-module _ {X S T : Type 0} {state : X → S} {m : Moves S} {inside : X → T} {w : Moves T} (same : IsSame state m inside w) (side : Side) (trace : List Entry) (n : ℕ) where
+module _ {X S T : Type 0} {state : X → S} {m : Transitions S} {inside : X → T} {w : Transitions T} (same : IsSame state m inside w) (side : Side) (trace : List Entry) (n : ℕ) where
   abbrev ended_to : Ended S → Ended T
   ended_to e = record { machine = same.to e.machine; place = e.place }
 

@@ -6,7 +6,7 @@ use Rattle.beeb_bits.specs.declared.Side.{Side}
 use Rattle.tube_chip.specs.Act.{Query}
 use Rattle.tube_trace.specs.declared.Entry.{Entry}
 use Rattle.tube_party.specs.declared.replaying.Doing.{Doing}
-use Rattle.tube_party.specs.Moves.{Moves}
+use Rattle.tube_party.specs.Transitions.{Transitions}
 use Rattle.tube_party.specs.Replay.{Numbered, Ended, own_from, one_step, replay_from, replay_of}
 use Rattle.op_table.specs.declared.names.Part.{Part}
 use Rattle.follow.specs.declared.choice.Choice.{Choice}
@@ -15,7 +15,7 @@ use Rattle.follow.specs.Start.{StartState}
 use Rattle.follow.specs.Counts.{is_counted, counted_of}
 use Rattle.follow.specs.Listing.{step_run, run_from, run_of, starts_of, is_chosen, chosen_from, chosen_of, listing_with, replay_listing}
 use Rattle.follow.specs.CodeNotes.{Kept, none_kept, keep, keep_all, listing_noted}
-use Rattle.follow.specs.CodeWatched.{Order, order, Watched, watched_of, watched_moves, noted}
+use Rattle.follow.specs.CodeWatched.{Order, order, Watched, watched_of, watched_transitions, noted}
 use Rattle.follow.proofs.Inside.{place_inside}
 use Rattle.follow.proofs.Tallying.{text_if_same}
 use Rattle.follow.proofs.Bounds.{counted_few, counted_low}
@@ -33,9 +33,9 @@ pub counted_kept : (choice : Choice) (kept : Kept) (starts : List StartState) �
 counted_kept choice kept [] = sym (append-nil kept.counted)
 counted_kept choice kept (x ∷ starts) = some_more (is_counted choice x.tick) x kept.counted _ _ (counted_kept choice (keep choice kept x) starts)
 
-module _ {S : Type 0} (m : Moves S) (sights : S → Sight) (set : Order) where
-  abbrev v : Moves (Watched S)
-  v = watched_moves m sights
+module _ {S : Type 0} (m : Transitions S) (sights : S → Sight) (set : Order) where
+  abbrev v : Transitions (Watched S)
+  v = watched_transitions m sights
 
   -- what is kept behind these states
   abbrev pub kept_on : Kept → List S → Kept
@@ -73,10 +73,10 @@ module _ {S : Type 0} (m : Moves S) (sights : S → Sight) (set : Order) where
     replay_watched s = watched_from n s none_kept (own_from side n 1 trace)
 
 -- The replay begins before any start, with what is to be listed.
-module _ {X S T : Type 0} {state : X → S} {m : Moves S} {inside : X → T} {w : Moves T} (same : IsSame state m inside w) (sights : T → Sight) (side : Side) (trace : List Entry) (n : ℕ)
+module _ {X S T : Type 0} {state : X → S} {m : Transitions S} {inside : X → T} {w : Transitions T} (same : IsSame state m inside w) (sights : T → Sight) (side : Side) (trace : List Entry) (n : ℕ)
     (x : X) where
   abbrev replayed : Part → Choice → Kept → Ended (Watched T)
-  replayed part choice kept = replay_of (watched_moves w sights) side trace n (watched_of (inside x) (order part choice) kept)
+  replayed part choice kept = replay_of (watched_transitions w sights) side trace n (watched_of (inside x) (order part choice) kept)
 
   pub place_told : {part p : Part} {choice c : Choice} {kept : Kept} {place : Option (ℕ × Option Doing)} → p ≡ part → c ≡ choice → kept ≡ none_kept → place ≡ (replayed p c kept).place
       → (replay_of m side trace n (state x)).place ≡ place

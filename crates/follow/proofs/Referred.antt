@@ -3,22 +3,22 @@ use Rattle.std.proofs.Common.{ℕ, zero, suc, ◌≡◌, ◌+◌, ◌∙◌, nat
 use Rattle.beeb_bits.specs.declared.Side.{Side}
 use Rattle.beeb_bits.specs.declared.Side.TheVariants.{Host, Para}
 use Rattle.tube_trace.specs.Entries.{accesses}
-use Rattle.tube_party.specs.Moves.{Moves}
+use Rattle.tube_party.specs.Transitions.{Transitions}
 use Rattle.tube_party.specs.Replay.{Ended, replay_of}
 use Rattle.tube_party.specs.Reference.{Seat, step_leaves, step_if_due, World, with_host, para_part, tick, ticks, start, reference}
 use Rattle.follow.specs.Sight.{Sight}
 use Rattle.follow.specs.Listing.{listing_of_chosen, replay_listing}
 use Rattle.follow.specs.CodeNotes.{Kept, none_kept}
 use Rattle.follow.specs.Reference.{due_at, reference_run, reference_listing}
-use Rattle.follow.specs.CodeWatched.{Order, Watched, watched_of, watched_moves}
+use Rattle.follow.specs.CodeWatched.{Order, Watched, watched_of, watched_transitions}
 use Rattle.follow.proofs.Listed.{kept_on, chosen_kept, counted_kept, replay_watched}
 
 abbrev seat : {S T : Type 0} → S → World S T → Seat S
 seat s w = record { state = s; chip = w.chip; list = w.list }
 
-module _ {S : Type 0} (m : Moves S) (sights : S → Sight) (set : Order) where
-  abbrev v : Moves (Watched S)
-  v = watched_moves m sights
+module _ {S : Type 0} (m : Transitions S) (sights : S → Sight) (set : Order) where
+  abbrev v : Transitions (Watched S)
+  v = watched_transitions m sights
 
   -- a seat of the party, watched
   abbrev watched_seat : Seat S → Kept → Seat (Watched S)
@@ -40,9 +40,9 @@ module _ {S : Type 0} (m : Moves S) (sights : S → Sight) (set : Order) where
 
 -- Where a replay of the watched party ends as its reference run does, the listing is that of the reference run.
 
-module _ {S T : Type 0} (h : Moves S) (sights : S → Sight) (p : Moves T) (set : Order) where
-  abbrev hv : Moves (Watched S)
-  hv = watched_moves h sights
+module _ {S T : Type 0} (h : Transitions S) (sights : S → Sight) (p : Transitions T) (set : Order) where
+  abbrev hv : Transitions (Watched S)
+  hv = watched_transitions h sights
 
   abbrev watched_host : World S T → Kept → World (Watched S) T
   watched_host w kept = record { host = watched_of w.host set kept; para = w.para; chip = w.chip; list = w.list }
@@ -63,9 +63,9 @@ module _ {S T : Type 0} (h : Moves S) (sights : S → Sight) (p : Moves T) (set 
       simp (chosen_kept, counted_kept) at (ap (λ (e : Ended (Watched S)). listing_of_chosen set.part set.choice n e.machine.kept.chosen e.machine.kept.counted)
       (rw (host_ticks n 0 (start s t) none_kept, replay_watched) at replayed))
 
-module _ {S T : Type 0} (h : Moves S) (p : Moves T) (sights : T → Sight) (set : Order) where
-  abbrev pv : Moves (Watched T)
-  pv = watched_moves p sights
+module _ {S T : Type 0} (h : Transitions S) (p : Transitions T) (sights : T → Sight) (set : Order) where
+  abbrev pv : Transitions (Watched T)
+  pv = watched_transitions p sights
 
   abbrev watched_para : World S T → Kept → World S (Watched T)
   watched_para w kept = record { host = w.host; para = watched_of w.para set kept; chip = w.chip; list = w.list }

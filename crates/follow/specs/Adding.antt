@@ -3,7 +3,7 @@
 use Rattle.std.specs.Prelude.{ℕ, zero, suc, ◌≡◌, ◌+◌, ◌-◌, ◌≤◌, ◌<◌, true, List, [], ◌∷◌, length, All, None, ⊤}
 use Rattle.beeb_bits.specs.declared.Side.{Side}
 use Rattle.tube_trace.specs.declared.Entry.{Entry}
-use Rattle.tube_party.specs.Moves.{Moves}
+use Rattle.tube_party.specs.Transitions.{Transitions}
 use Rattle.follow.specs.declared.choice.Choice.{Choice}
 use Rattle.follow.specs.Sight.{Sight}
 use Rattle.follow.specs.Start.{StartState}
@@ -32,7 +32,7 @@ pub record AddUp (n : ℕ) (starts : List StartState) : Type 0 where
 
 -- A run counts the starts that a listing without a filter chooses, and the counts of all addresses
 -- add up.
-pub record CountsAddUp {S : Type 0} (m : Moves S) (sights : S → Sight) : Type 0 where
+pub record CountsAddUp {S : Type 0} (m : Transitions S) (sights : S → Sight) : Type 0 where
   pub same : (side : Side) (trace : List Entry) (n from : ℕ) (s : S) →
       counted_of (all_from from) (starts_of m sights None (run_of m side trace n s)) ≡ chosen_of (all_from from) (starts_of m sights None (run_of m side trace n s))
   pub sums : (side : Side) (trace : List Entry) (n from : ℕ) (s : S) →

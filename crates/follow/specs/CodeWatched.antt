@@ -2,7 +2,7 @@
 use Rattle.std.specs.Prelude.{ℕ, ◌≡◌, Bool, Option, None, Some, if◌then◌else◌, refl}
 use Rattle.std.proofs.Common.{ap}
 use Rattle.op_table.specs.declared.names.Part.{Part}
-use Rattle.tube_party.specs.Moves.{Moves, IsLawful, IsClosing}
+use Rattle.tube_party.specs.Transitions.{Transitions, IsLawful, IsClosing}
 use Rattle.follow.specs.declared.choice.Choice.{Choice}
 use Rattle.follow.specs.Sight.{Sight, IsSameSight, IsSeen}
 use Rattle.follow.specs.CodeNotes.{Kept, keep}
@@ -28,14 +28,14 @@ watched_of s order kept = record { now = s; order = order; kept = kept }
 abbrev pub keep_if : Bool → Choice → Kept → StartState → Kept
 keep_if is choice k x = if is then keep choice k x else k
 
-module _ {S : Type 0} (m : Moves S) (sights : S → Sight) where
+module _ {S : Type 0} (m : Transitions S) (sights : S → Sight) where
   -- the notes, with this state if it starts an instruction
   abbrev pub noted : S → Choice → Kept → Kept
   noted s choice kept = keep_if (sights s).starting choice kept (start_of m sights choice.watch s)
 
   -- Its steps are the party's.
-  abbrev pub watched_moves : Moves (Watched S)
-  watched_moves = record {
+  abbrev pub watched_transitions : Transitions (Watched S)
+  watched_transitions = record {
     due = λ w. m.due w.now;
     asks = λ w. m.asks w.now;
     next = λ w a. watched_of (m.next w.now a) w.order (noted w.now w.order.choice w.kept);
@@ -56,7 +56,7 @@ module _ {S : Type 0} (m : Moves S) (sights : S → Sight) where
   noted_closed s choice kept t same due =
       rw same.starting (ap (keep_if (sights s).starting choice kept) (rw due (start_same (m.due s) choice.watch (sights (m.close s t)) (sights s) same)))
 
-  pub watched_lawful : IsSeen m sights → IsLawful watched_moves
+  pub watched_lawful : IsSeen m sights → IsLawful watched_transitions
   watched_lawful seen = record {
     rises = λ w a. seen.lawful.rises w.now a;
     within = λ w. seen.lawful.within w.now;

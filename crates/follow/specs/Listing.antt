@@ -13,7 +13,7 @@ use Rattle.tube_chip.specs.declared.Answer.TheVariants.{Byte, Seen}
 use Rattle.tube_chip.specs.State.{lines_of, power_on}
 use Rattle.tube_chip.specs.Act.{Query, access, look}
 use Rattle.tube_trace.specs.declared.Entry.{Entry}
-use Rattle.tube_party.specs.Moves.{Moves}
+use Rattle.tube_party.specs.Transitions.{Transitions}
 use Rattle.tube_party.specs.Replay.{Numbered, own_from, is_that, chip_before}
 use Rattle.follow.specs.declared.choice.Choice.{Choice}
 use Rattle.follow.specs.Sight.{Sight}
@@ -23,27 +23,27 @@ use Rattle.follow.specs.Counts.{counted_of, counts_of_counted}
 -- ---- The run: the states from which a replay does a step
 
 -- the state and those after it, if its access is the side's next entry; otherwise none
-abbrev pub access_run : {S : Type 0} → Moves S → S → Op → List Numbered → (S → List Numbered → List S) → List S
+abbrev pub access_run : {S : Type 0} → Transitions S → S → Op → List Numbered → (S → List Numbered → List S) → List S
 access_run m s op [] behind = []
 access_run m s op (x ∷ own) behind = if is_that x.entry (m.due s) op then s ∷ behind (m.next s (Some (Byte x.entry.answer))) own else []
 
-abbrev pub step_run : {S : Type 0} → Moves S → Side → List Entry → S → List Numbered → Option Query → (S → List Numbered → List S) → List S
+abbrev pub step_run : {S : Type 0} → Transitions S → Side → List Entry → S → List Numbered → Option Query → (S → List Numbered → List S) → List S
 step_run m side trace s own None behind = s ∷ behind (m.next s None) own
 step_run m side trace s own (Some look) behind = s ∷ behind (m.next s (Some (Seen (lines_of (chip_before side (m.due s) power_on trace))))) own
 step_run m side trace s own (Some (access op)) behind = access_run m s op own behind
 
 -- at most `k` steps below tick `n`, with the side's entries that are left
-abbrev pub run_from : {S : Type 0} → Moves S → Side → List Entry → ℕ → ℕ → S → List Numbered → List S
+abbrev pub run_from : {S : Type 0} → Transitions S → Side → List Entry → ℕ → ℕ → S → List Numbered → List S
 run_from m side trace n zero s own = []
 run_from m side trace n (suc k) s own =
     if nat_lt (m.due s) n then step_run m side trace s own (m.asks s) (run_from m side trace n k) else []
 
 -- Ticks rise from step to step, so `n` steps are enough.
-unfoldable pub run_of : {S : Type 0} → Moves S → Side → List Entry → ℕ → S → List S
+unfoldable pub run_of : {S : Type 0} → Transitions S → Side → List Entry → ℕ → S → List S
 run_of m side trace n s = run_from m side trace n n s (own_from side n 1 trace)
 
 -- the starts of a list of states: one for each state that starts an instruction, in order
-abbrev pub starts_of : {S : Type 0} → Moves S → (S → Sight) → Option ℕ → List S → List StartState
+abbrev pub starts_of : {S : Type 0} → Transitions S → (S → Sight) → Option ℕ → List S → List StartState
 starts_of m sights watch states = map (λ s. start_of m sights watch s) (filter (λ s. (sights s).starting) states)
 
 -- ---- The starts that are chosen
@@ -143,6 +143,6 @@ abbrev pub listing_of : Part → Choice → ℕ → List StartState → ListingS
 listing_of part choice n starts = listing_of_chosen part choice n (chosen_of choice starts) (counted_of choice starts)
 
 -- The listing of the replay of a machine up to tick `n` against its side of a trace.
-abbrev pub replay_listing : {S : Type 0} → Moves S → (S → Sight) → Part → Side → List Entry → ℕ → Choice → S → ListingState
+abbrev pub replay_listing : {S : Type 0} → Transitions S → (S → Sight) → Part → Side → List Entry → ℕ → Choice → S → ListingState
 replay_listing m sights part side trace n choice s =
     listing_of part choice n (starts_of m sights choice.watch (run_of m side trace n s))

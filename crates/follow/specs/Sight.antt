@@ -3,7 +3,7 @@ use Rattle.std.specs.Prelude.{ℕ, ◌≡◌, Bool, true, Option, Some}
 use Rattle.cpu_alu.specs.declared.Regs.{Regs}
 use Rattle.tube_chip.specs.declared.Answer.{Answer}
 use Rattle.tube_chip.specs.Act.{look}
-use Rattle.tube_party.specs.Moves.{Moves, IsLawful}
+use Rattle.tube_party.specs.Transitions.{Transitions, IsLawful}
 
 pub record Sight : Type 0 where
   -- the next step is the first cycle of an instruction
@@ -21,13 +21,13 @@ pub record IsSameSight (a b : Sight) : Type 0 where
   pub peek : (at : ℕ) → a.peek at ≡ b.peek at
 
 -- The laws of a view: closing a state leaves it, and an instruction starts only after a look.
-pub record IsSeen {S : Type 0} (m : Moves S) (sights : S → Sight) : Type 0 where
+pub record IsSeen {S : Type 0} (m : Transitions S) (sights : S → Sight) : Type 0 where
   pub lawful : IsLawful m
   pub closing : (s : S) (t : ℕ) → IsSameSight (sights (m.close s t)) (sights s)
   pub behind : (s : S) (a : Option Answer) → (sights (m.next s a)).starting ≡ true → m.asks s ≡ Some look
 
 -- Each state of the first view is a state of the second, and both have the same steps.
-pub record IsSame {X S T : Type 0} (state : X → S) (m : Moves S) (inside : X → T) (w : Moves T) : Type 0 where
+pub record IsSame {X S T : Type 0} (state : X → S) (m : Transitions S) (inside : X → T) (w : Transitions T) : Type 0 where
   pub to : S → T
   pub is : (x : X) → to (state x) ≡ inside x
   pub due : (s : S) → w.due (to s) ≡ m.due s

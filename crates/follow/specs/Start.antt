@@ -1,7 +1,7 @@
 -- The start of an instruction, as a listing shows it.
 use Rattle.std.specs.Prelude.{ℕ, zero, suc, ◌+◌, nat_lt, List, [], ◌∷◌, Option, None, Some, if◌then◌else◌}
 use Rattle.cpu_alu.specs.declared.Regs.{Regs}
-use Rattle.tube_party.specs.Moves.{Moves}
+use Rattle.tube_party.specs.Transitions.{Transitions}
 use Rattle.follow.specs.Sight.{Sight}
 
 -- A start: the tick of its first cycle, the registers, the bytes in memory from the program counter
@@ -35,5 +35,5 @@ watched_byte (Some at) peek = peek at
 abbrev pub start_at : ℕ → Option ℕ → Sight → StartState
 start_at tick watch x = record { tick = tick; regs = x.regs; code = bytes_from x.peek 3 x.regs.pc; watched = watched_byte watch x.peek }
 
-abbrev pub start_of : {S : Type 0} → Moves S → (S → Sight) → Option ℕ → S → StartState
+abbrev pub start_of : {S : Type 0} → Transitions S → (S → Sight) → Option ℕ → S → StartState
 start_of m sights watch s = start_at (m.due s) watch (sights s)

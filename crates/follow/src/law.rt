@@ -10,13 +10,13 @@ use tube_party::{Party, reference_is_replayed};
 /// If a party follows a trace up to a tick, the run of its replay is the list of states from which
 /// it does the steps that use up the events.
 pub fn run_is_followed<M: Party>()
-    ensures { RunIsFollowed M.moves }
+    ensures { RunIsFollowed M.transitions }
 {}
 
 /// If the host is replayed against the accesses of the reference run, its listing is that of its
 /// starts in the reference run, for each choice.
 pub fn host_listing_is_reference<H: Seen, P: Party>()
-    ensures { HostListingIsReference H.steps H.sights P.moves }
+    ensures { HostListingIsReference H.steps H.sights P.transitions }
 {
     reference_is_replayed::<Watcher<H>, P>();
 }
@@ -24,7 +24,7 @@ pub fn host_listing_is_reference<H: Seen, P: Party>()
 /// If the second processor is replayed against the accesses of the reference run, its listing is
 /// that of its starts in the reference run, for each choice.
 pub fn para_listing_is_reference<H: Party, P: Seen>()
-    ensures { ParaListingIsReference H.moves P.steps P.sights }
+    ensures { ParaListingIsReference H.transitions P.steps P.sights }
 {
     reference_is_replayed::<H, Watcher<P>>();
 }

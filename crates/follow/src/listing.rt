@@ -57,9 +57,9 @@ pub fn list<M: Seen>(
     requires ticks { n.0 ≤ MOST }
     requires plays { IsTrue (M.plays side) }
     requires entries { All IsEntry trace.now }
-    ensures differs { let place = (replay_of M.moves side trace.now n.0 (M.state machine)).place in
+    ensures differs { let place = (replay_of M.transitions side trace.now n.0 (M.state machine)).place in
         (line : ℕ) (doing : Option Doing) → (result ≡ Err (FollowError.Differs line doing)) ↔ (place ≡ Some (line, doing)) }
-    ensures follows { IfOk result (λ _. (replay_of M.moves side trace.now n.0 (M.state machine)).place ≡ None) }
+    ensures follows { IfOk result (λ _. (replay_of M.transitions side trace.now n.0 (M.state machine)).place ≡ None) }
     ensures listing { let there = replay_listing M.steps M.sights part side trace.now n.0 choice (M.inside machine) in
         IfOk result (λ listing. listing_seen listing ≡ there) }
 {

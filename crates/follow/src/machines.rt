@@ -10,7 +10,7 @@ use tube_machine::Passing;
 
 impl<D: BusDevice> Seen for HostMachine<D> {
     ghost use Rattle.host_mach.specs.State.{HostState};
-    ghost use Rattle.host_mach.specs.Step.{host_moves};
+    ghost use Rattle.host_mach.specs.Step.{host_transitions};
     ghost use Rattle.host_mach.specs.Lawful.{host_permitted};
     ghost use Rattle.host_mach.specs.View.{host_seen};
     ghost use Rattle.follow.specs.Machines.{host_sight, host_seen_laws, same_itself};
@@ -19,7 +19,7 @@ impl<D: BusDevice> Seen for HostMachine<D> {
 
     ghost inside = { λ m. host_seen D.plug m };
 
-    ghost steps = { host_moves };
+    ghost steps = { host_transitions };
 
     ghost sights = { host_sight };
 
@@ -44,14 +44,14 @@ impl<D: BusDevice> Seen for HostMachine<D> {
     }
 
     #[inline(always)]
-    fn pass(&mut self, until: Tick, lines: &Lines, sure: Tick, passing: Passing) {
-        self.pass(until, lines, sure, passing);
+    fn pass(&mut self, until: Tick, lines: &Lines, safe_until: Tick, passing: Passing) {
+        self.pass(until, lines, safe_until, passing);
     }
 }
 
 impl Seen for ParaMachine {
     ghost use Rattle.para_mach.specs.State.{ParaState};
-    ghost use Rattle.para_mach.specs.Step.{para_moves};
+    ghost use Rattle.para_mach.specs.Step.{para_transitions};
     ghost use Rattle.para_mach.specs.Lawful.{para_permitted};
     ghost use Rattle.follow.specs.Machines.{para_sight, para_seen_laws, same_itself};
 
@@ -59,7 +59,7 @@ impl Seen for ParaMachine {
 
     ghost inside = { λ m. m };
 
-    ghost steps = { para_moves };
+    ghost steps = { para_transitions };
 
     ghost sights = { para_sight };
 
@@ -84,7 +84,7 @@ impl Seen for ParaMachine {
     }
 
     #[inline(always)]
-    fn pass(&mut self, until: Tick, lines: &Lines, sure: Tick, passing: Passing) {
-        self.pass(until, lines, sure, passing);
+    fn pass(&mut self, until: Tick, lines: &Lines, safe_until: Tick, passing: Passing) {
+        self.pass(until, lines, safe_until, passing);
     }
 }

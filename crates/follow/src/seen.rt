@@ -1,6 +1,6 @@
 //! A party whose processor can be inspected.
 ghost use Rattle.std.specs.Prelude.{ℕ, ◌≡◌, ◌≤◌, Bool, true};
-ghost use Rattle.tube_party.specs.Moves.{Moves, IsPermitted, shown_lines};
+ghost use Rattle.tube_party.specs.Transitions.{Transitions, IsPermitted, shown_lines};
 ghost use Rattle.tube_machine.specs.Passing.{IsOver, Passes};
 ghost use Rattle.follow.specs.Sight.{Sight, IsSeen, IsSame};
 
@@ -20,7 +20,7 @@ pub trait Seen: Party {
     ghost inside: { Self → Inside };
 
     /// The party's steps.
-    ghost steps: { Moves Inside };
+    ghost steps: { Transitions Inside };
 
     /// The view of a state.
     ghost sights: { Inside → Sight };
@@ -41,15 +41,15 @@ pub trait Seen: Party {
 
     /// Runs instructions whose starts `skip` leaves out. Their looks see `lines`, and come before
     /// both `until` and `safe_until`. It may stop at any start.
-    fn pass(&mut self, until: Tick, lines: &Lines, sure: Tick, passing: Passing)
+    fn pass(&mut self, until: Tick, lines: &Lines, safe_until: Tick, passing: Passing)
         requires { until.0 ≤ MOST }
         ensures { let old = inside self.old in
             let new = inside self.new in
-            (k : ℕ) × Passes steps (λ s. IsOver passing (steps.due s) (sights s).regs.pc (sights s).peek) until.0 (shown_lines lines.now sure.0) k old new };
+            (k : ℕ) × Passes steps (λ s. IsOver passing (steps.due s) (sights s).regs.pc (sights s).peek) until.0 (shown_lines lines.now safe_until.0) k old new };
 
     ghost seen: { IsSeen steps sights };
 
-    ghost same: { IsSame Self.state Self.moves inside steps };
+    ghost same: { IsSame Self.state Self.transitions inside steps };
 
     ghost may_ask: { IsPermitted steps Self.plays };
 }

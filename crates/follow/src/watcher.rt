@@ -19,36 +19,36 @@ pub(crate) struct Watcher<M: Seen> {
 
 impl<M: Seen> Watcher<M> {
     ghost use Rattle.std.specs.Prelude.{ℕ};
-    ghost use Rattle.tube_party.specs.Moves.{Looks, shown_lines};
+    ghost use Rattle.tube_party.specs.Transitions.{Looks, shown_lines};
     ghost use Rattle.follow.specs.CodeNotes.{kept_of};
-    ghost use Rattle.follow.specs.CodeWatched.{order, watched_of, watched_moves};
+    ghost use Rattle.follow.specs.CodeWatched.{order, watched_of, watched_transitions};
 
     // Runs past starts that are neither chosen nor counted, if there are any.
     #[inline(always)]
-    fn pass_over(&mut self, until: Tick, lines: &Lines, sure: Tick)
+    fn pass_over(&mut self, until: Tick, lines: &Lines, safe_until: Tick)
         requires { until.0 ≤ MOST }
-        ensures { let moves = watched_moves M.steps M.sights in
+        ensures { let transitions = watched_transitions M.steps M.sights in
             let old_kept = kept_of self.old.notes.trail.starts self.old.notes.before self.old.notes.counted.starts in
             let new_kept = kept_of self.new.notes.trail.starts self.new.notes.before self.new.notes.counted.starts in
             let old = watched_of (M.inside self.old.machine) (order self.old.notes.part self.old.notes.choice) old_kept in
             let new = watched_of (M.inside self.new.machine) (order self.new.notes.part self.new.notes.choice) new_kept in
-            (k : ℕ) × Looks moves until.0 (shown_lines lines.now sure.0) k old new }
+            (k : ℕ) × Looks transitions until.0 (shown_lines lines.now safe_until.0) k old new }
     {
         if let Some(passing) = self.notes.passing(self.machine.due().0) {
-            self.machine.pass(until, lines, sure, passing);
+            self.machine.pass(until, lines, safe_until, passing);
         }
     }
 }
 
 impl<M: Seen> Party for Watcher<M> {
     ghost use Rattle.follow.specs.CodeNotes.{kept_of};
-    ghost use Rattle.follow.specs.CodeWatched.{Watched, order, watched_of, watched_moves, watched_lawful};
+    ghost use Rattle.follow.specs.CodeWatched.{Watched, order, watched_of, watched_transitions, watched_lawful};
 
     ghost State = { Watched M.Inside };
 
     ghost state = { λ w. watched_of (M.inside w.machine) (order w.notes.part w.notes.choice) (kept_of w.notes.trail.starts w.notes.before w.notes.counted.starts) };
 
-    ghost moves = { watched_moves M.steps M.sights };
+    ghost transitions = { watched_transitions M.steps M.sights };
 
     ghost plays = { M.plays };
 
@@ -77,14 +77,14 @@ impl<M: Seen> Party for Watcher<M> {
     }
 
     // If few starts are chosen, most are skipped.
-    fn advance_seeing(&mut self, until: Tick, lines: &Lines, sure: Tick) -> Ask {
+    fn advance_seeing(&mut self, until: Tick, lines: &Lines, safe_until: Tick) -> Ask {
         loop {
-            self.pass_over(until, lines, sure);
+            self.pass_over(until, lines, safe_until);
             match self.advance(until) {
                 Ask::Nothing => return Ask::Nothing,
                 Ask::Access(tick, op) => return Ask::Access(tick, op),
                 Ask::Look(tick) => {
-                    if sure.0 <= tick.0 {
+                    if safe_until.0 <= tick.0 {
                         return Ask::Look(tick);
                     }
                     self.answer(Answer::Seen(*lines));

@@ -12,20 +12,20 @@ use Rattle.tube_chip.specs.declared.Op.TheVariants as op
 use Rattle.tube_chip.specs.Act.{MayDo}
 use Rattle.tube_chip.specs.Events.{is_side}
 use Rattle.tube_chip.specs.declared.Answer.TheVariants.{Seen}
-use Rattle.tube_party.specs.Moves.{IsLawful, IsPermitted, SeesHirqAlone}
+use Rattle.tube_party.specs.Transitions.{IsLawful, IsPermitted, SeesHirqAlone}
 use Rattle.host_bus.specs.Bus.{BusState, clock_of}
 use Rattle.host_bus.specs.Closing.{closed-again, closed-still}
-use Rattle.tube_machine.specs.Wiring.{IsWired, StaysPlain}
+use Rattle.tube_machine.specs.BusModel.{IsWired, StaysPlain}
 use Rattle.tube_machine.specs.Lawful.{lawful, may_play}
 use Rattle.host_mach.specs.State.{HostBusState, HostState}
-use Rattle.host_mach.specs.Step.{host_wiring, host_moves, host_closed, is_break, after_break, after_step, cycle_ticks}
+use Rattle.host_mach.specs.Step.{host_bus_model, host_transitions, host_closed, is_break, after_break, after_step, cycle_ticks}
 use Rattle.host_mach.specs.SameClock.{access-same}
 use Rattle.host_mach.specs.SameBreaks.{access-leaves}
 
 pub cycle-ticks : (clock : Clock) (t : ℕ) (c : Cycle) → host clock ≤ cycle_ticks clock t c
 cycle-ticks clock t c = grind arith
 
-pub host_wired : IsWired host_wiring
+pub host_wired : IsWired host_bus_model
 host_wired = record {
   some = λ b. omega (arith, some-host (clock_of b.bus));
   few = λ b. few-host (clock_of b.bus);
@@ -50,29 +50,29 @@ host_wired = record {
 }
 
 -- each look is plain
-pub host_plain : StaysPlain host_wiring (λ b l. true)
+pub host_plain : StaysPlain host_bus_model (λ b l. true)
 host_plain = record { resets = λ b l is. refl; close = λ b l t. refl; after = λ b l c. refl; taken = λ b l is. refl }
 
 -- nothing is noted of it
-pub host_even : true ≡ false → (b : HostBusState) (t : ℕ) (c : Cycle) → host_wiring.takes b t c ≡ host_wiring.cycle b
+pub host_even : true ≡ false → (b : HostBusState) (t : ℕ) (c : Cycle) → host_bus_model.takes b t c ≡ host_bus_model.cycle b
 host_even is b t c = absurd (cc)
 
-pub host_joined : true ≡ false → (b : HostBusState) → host_wiring.has_tube b ≡ true
+pub host_joined : true ≡ false → (b : HostBusState) → host_bus_model.has_tube b ≡ true
 host_joined is b = absurd (cc)
 
-pub host_lawful : IsLawful host_moves
-host_lawful = lawful Nmos host_wiring host_wired
+pub host_lawful : IsLawful host_transitions
+host_lawful = lawful Nmos host_bus_model host_wired
 
 -- the reset is the host's
 resets_by : (side : Side) → IsTrue (is_side Host side) → MayDo side op.Reset
 resets_by Host plays = refl
 resets_by Para plays = absurd (cc)
 
-pub host_permitted : IsPermitted host_moves (is_side Host)
-host_permitted = may_play Nmos host_wiring (is_side Host) (λ b t side plays pending. resets_by side plays)
+pub host_permitted : IsPermitted host_transitions (is_side Host)
+host_permitted = may_play Nmos host_bus_model (is_side Host) (λ b t side plays pending. resets_by side plays)
 
 -- Of the lines, its looks see the host's interrupt request alone.
-pub host_sees : SeesHirqAlone host_moves
+pub host_sees : SeesHirqAlone host_transitions
 host_sees s a b same = by (is_break s) (next_cycle Nmos s.cpu)
   where
     closed : HostState

@@ -10,10 +10,10 @@ use Rattle.op_table.specs.declared.names.Part.TheVariants.{Nmos}
 use Rattle.cpu_alu.specs.declared.Cycle.{Cycle}
 use Rattle.cpu_alu.specs.declared.Cycle.TheVariants.{Read, Write}
 use Rattle.tube_chip.specs.declared.Answer.{Answer}
-use Rattle.tube_party.specs.Moves.{Moves}
+use Rattle.tube_party.specs.Transitions.{Transitions}
 use Rattle.host_devices.specs.Map.{stretch}
 use Rattle.host_bus.specs.Bus.{BusState, clock_of, bus_closed, closed_at, bus_answer, bus_after_read, bus_after_write, bus_irq, bus_nmis, bus_break_pending, bus_break_taken}
-use Rattle.tube_machine.specs.Wiring.{Wiring}
+use Rattle.tube_machine.specs.BusModel.{BusModel}
 use Rattle.tube_machine.specs.Step as at
 use Rattle.host_mach.specs.State.{HostBusState, HostState}
 
@@ -41,8 +41,8 @@ taken_with_nmis h b = record h { bus = b; nmis = bus_nmis b }
 
 -- An NMI is asked for if the count of its line's rises is not the one taken; an IRQ by the lines of
 -- the bus and of the Tube. The Tube's reset line does not reach the host.
-abbrev pub host_wiring : Wiring HostBusState
-host_wiring = record {
+abbrev pub host_bus_model : BusModel HostBusState
+host_bus_model = record {
   cycle = λ b. host (clock_of b.bus);
   has_tube = λ b. b.tube;
   is_tube = is_tube;
@@ -64,23 +64,23 @@ host_wiring = record {
 -- what a step of the host is
 
 abbrev pub is_break : HostState → Bool
-is_break s = at.is_break Nmos host_wiring s
+is_break s = at.is_break Nmos host_bus_model s
 
 abbrev pub byte_of : HostBusState → ℕ → Option Answer → Cycle → ℕ
-byte_of b t answer c = at.byte_of host_wiring b t answer c
+byte_of b t answer c = at.byte_of host_bus_model b t answer c
 
 abbrev pub after_break : HostState → HostState
-after_break s = at.after_break Nmos host_wiring s
+after_break s = at.after_break Nmos host_bus_model s
 
 abbrev pub after_step : Option Cycle → HostState → Option Answer → HostState
-after_step o s answer = at.after_step Nmos host_wiring o s answer
+after_step o s answer = at.after_step Nmos host_bus_model o s answer
 
 abbrev pub host_closed : HostState → ℕ → HostState
-host_closed s t = at.closed_to host_wiring s t
+host_closed s t = at.closed_to host_bus_model s t
 
 abbrev pub next_state : HostState → Option Answer → HostState
-next_state s answer = at.next_state Nmos host_wiring s answer
+next_state s answer = at.next_state Nmos host_bus_model s answer
 
 -- The steps of the host.
-abbrev pub host_moves : Moves HostState
-host_moves = at.moves_of Nmos host_wiring
+abbrev pub host_transitions : Transitions HostState
+host_transitions = at.transitions_of Nmos host_bus_model

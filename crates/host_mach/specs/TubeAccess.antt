@@ -12,7 +12,7 @@ use Rattle.tube_chip.specs.declared.Op.{Op}
 use Rattle.tube_machine.specs.Step.{asks_by}
 use Rattle.tube_machine.specs.Exchange.{IsAtTube, IsPassing}
 use Rattle.host_mach.specs.State.{HostBusState}
-use Rattle.host_mach.specs.Step.{is_tube, host_wiring, address, bus_after, cycle_ticks}
+use Rattle.host_mach.specs.Step.{is_tube, host_bus_model, address, bus_after, cycle_ticks}
 
 is-there : (has tube : Bool) → (has && tube) ≡ true → tube ≡ true
 is-there true tube is = is
@@ -28,26 +28,26 @@ leaves : (b : BusState) (c : Cycle) → is_tube (address c) ≡ true → bus_aft
 leaves b (Read at) is = tube-read b at (from at is) (to at is)
 leaves b (Write at v) is = tube-write b at v (from at is) (to at is)
 
-there : (h : HostBusState) (c : Cycle) → IsAtTube host_wiring h c → is_tube (address c) ≡ true
+there : (h : HostBusState) (c : Cycle) → IsAtTube host_bus_model h c → is_tube (address c) ≡ true
 there h (Read at) is = is-there h.tube (is_tube at) is
 there h (Write at v) is = is-there h.tube (is_tube at) is
 
-pub tube-leaves : (h : HostBusState) (c : Cycle) → IsAtTube host_wiring h c → bus_after h.bus c ≡ h.bus
+pub tube-leaves : (h : HostBusState) (c : Cycle) → IsAtTube host_bus_model h c → bus_after h.bus c ≡ h.bus
 tube-leaves h c is = leaves h.bus c (there h c is)
 
-pub tube-ticks : (h : HostBusState) (t : ℕ) (c : Cycle) → IsAtTube host_wiring h c → cycle_ticks (clock_of h.bus) t c ≡ host (clock_of h.bus)
+pub tube-ticks : (h : HostBusState) (t : ℕ) (c : Cycle) → IsAtTube host_bus_model h c → cycle_ticks (clock_of h.bus) t c ≡ host (clock_of h.bus)
 tube-ticks h t c is =
     let tube = there h c is in
     let n : ℕ = host (clock_of h.bus) in
     ap (λ (k : ℕ). n * k) (tube-fast (address c) (t / n) (from (address c) tube) (to (address c) tube)) ∙ mul-one n
 
-asked_at : (h : HostBusState) (c : Cycle) (o : Op) → asks_by host_wiring h (Some c) ≡ Some (access o) → (t : ℕ) → IsAtTube host_wiring (host_wiring.close h t) c
+asked_at : (h : HostBusState) (c : Cycle) (o : Op) → asks_by host_bus_model h (Some c) ≡ Some (access o) → (t : ℕ) → IsAtTube host_bus_model (host_bus_model.close h t) c
 asked_at h c o asks t = grind arith
 
 -- so a port may answer it
-pub tube-passing : (h : HostBusState) (c : Cycle) (o : Op) → asks_by host_wiring h (Some c) ≡ Some (access o) → IsPassing host_wiring h c o
+pub tube-passing : (h : HostBusState) (c : Cycle) (o : Op) → asks_by host_bus_model h (Some c) ≡ Some (access o) → IsPassing host_bus_model h c o
 tube-passing h c o asks = record {
   asks = asks;
-  leaves = λ t. ap (λ (x : BusState). record (host_wiring.close h t) { bus = x }) (tube-leaves (host_wiring.close h t) c (asked_at h c o asks t));
-  fast = λ t u. tube-ticks (host_wiring.close h u) t c (asked_at h c o asks u);
+  leaves = λ t. ap (λ (x : BusState). record (host_bus_model.close h t) { bus = x }) (tube-leaves (host_bus_model.close h t) c (asked_at h c o asks t));
+  fast = λ t u. tube-ticks (host_bus_model.close h u) t c (asked_at h c o asks u);
 }

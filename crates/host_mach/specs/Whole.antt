@@ -22,7 +22,7 @@ use Rattle.host_bus.specs.StoredLines.{irq-stored, nmis-stored}
 use Rattle.host_mach.specs.State.{HostBusState}
 use Rattle.host_mach.specs.SameClock.{access-same}
 use Rattle.host_mach.specs.TubeAccess.{tube-leaves}
-use Rattle.host_mach.specs.Step.{is_tube, host_wiring}
+use Rattle.host_mach.specs.Step.{is_tube, host_bus_model}
 
 -- reads below the devices, and writes to the RAM
 abbrev pub plain_read : ℕ → Bool
@@ -32,7 +32,7 @@ abbrev pub plain_write : ℕ → Bool
 plain_write at = nat_lt at 0x8000
 
 abbrev reach : Reach HostBusState
-reach = reach_of host_wiring plain_read plain_write
+reach = reach_of host_bus_model plain_read plain_write
 
 -- the place of an address of memory
 abbrev memory_place : Bool → Bool → Place
@@ -85,7 +85,7 @@ again m t n at byte low =
     ap (λ (k : ℕ). record m { bus = bus_after_write (bus_closed x (t + k * suc n + 1)) at byte }) (ap host (clock-stays (bus_closed m.bus (t + c * n + 1)) at (bus_answer m.bus 0 at) low))
     ∙ ap (λ (b : BusState). record m { bus = b }) (twice m.bus (t + c * n + 1) (t + c * suc n + 1) at byte low (later c t n))
 
-pub host_memory : IsMemory host_wiring plain_read plain_write
+pub host_memory : IsMemory host_bus_model plain_read plain_write
 host_memory = record {
   plain = record {
     low_read = λ at low. lt-ltb at 0xFC00 (omega (arith, low));
@@ -110,7 +110,7 @@ AsksNothing b nmis l masks = (bus_nmis b ≡ nmis) × (((bus_irq b || l.hirq) &&
 abbrev pub rests : HostBusState → Lines → Bool → ℕ → Type 0
 rests b l masks far = 0 < far → (u : ℕ) → u ≤ far → AsksNothing (bus_closed b.bus u) b.nmis l masks
 
-at-rest : (b : HostBusState) (l : Lines) (masks : Bool) → AsksNothing b.bus b.nmis l masks → IsAtRest host_wiring b l masks
+at-rest : (b : HostBusState) (l : Lines) (masks : Bool) → AsksNothing b.bus b.nmis l masks → IsAtRest host_bus_model b l masks
 at-rest b l masks h = grind arith
 
 closed-rests : (b : HostBusState) (l : Lines) (masks : Bool) (far t : ℕ) → rests b l masks far → t ≤ far → rests (record b { bus = bus_closed b.bus t }) l masks far
@@ -126,7 +126,7 @@ stored-rests b l masks far at v low rest some u near =
     let there = rest some u near in
     rw (writes-store b.bus at v low) (nmis-stored b.bus.board at v u ∙ there.0, rw (irq-stored b.bus.board at v u) there.1)
 
-pub host_rests : StaysAtRest host_wiring plain_write rests
+pub host_rests : StaysAtRest host_bus_model plain_write rests
 host_rests = record {
   looks = λ b l masks far t rest low. at-rest (record b { bus = bus_closed b.bus (t + 1) }) l masks (rest (omega (arith, low)) (t + 1) (omega (arith, low)));
   close = λ b l masks far t rest low. closed-rests b l masks far t rest low;

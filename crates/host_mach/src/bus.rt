@@ -57,7 +57,7 @@ impl<D: BusDevice> TubeBus<()> for HostBus<D> {
     ghost use Rattle.host_bus.specs.Peek.{bus_peek};
     ghost use Rattle.host_mach.specs.State.{HostBusState};
     ghost use Rattle.host_mach.specs.View.{host_bus_seen};
-    ghost use Rattle.host_mach.specs.Step.{host_wiring};
+    ghost use Rattle.host_mach.specs.Step.{host_bus_model};
     ghost use Rattle.host_mach.specs.Lawful.{host_wired, host_plain, host_even, host_joined};
     ghost use Rattle.host_mach.specs.Whole.{plain_read, plain_write, rests, host_memory, host_rests};
 
@@ -65,7 +65,7 @@ impl<D: BusDevice> TubeBus<()> for HostBus<D> {
 
     ghost state = { λ b. host_bus_seen D.plug b };
 
-    ghost wiring = { host_wiring };
+    ghost bus_model = { host_bus_model };
 
     ghost wired = { host_wired };
 
@@ -258,14 +258,14 @@ impl<D: BusDevice> Plain<()> for HostBus<D> {
     ghost use Rattle.tube_machine.specs.Whole.{reach_of, comes_later};
     ghost use Rattle.host_mach.specs.State.{HostBusState};
     ghost use Rattle.host_mach.specs.View.{host_bus_seen};
-    ghost use Rattle.host_mach.specs.Step.{host_wiring};
+    ghost use Rattle.host_mach.specs.Step.{host_bus_model};
     ghost use Rattle.host_mach.specs.Whole.{plain_read, plain_write, host_memory};
 
     ghost State = { HostBusState };
 
     ghost state = { λ b. host_bus_seen D.plug b };
 
-    ghost reach = { reach_of host_wiring plain_read plain_write };
+    ghost reach = { reach_of host_bus_model plain_read plain_write };
 
     ghost is_plain = { host_memory.plain };
 

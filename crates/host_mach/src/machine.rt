@@ -5,9 +5,9 @@ ghost use Rattle.host_bus.specs.Bus.{bus_disc, bus_break_pending, bus_next_break
 ghost use Rattle.sn76489.specs.Samples.{NeverFallFrom};
 ghost use Rattle.cpu6502.specs.Sequences.{halted, starting};
 ghost use Rattle.host_mach.specs.State.{power_on, with_tube};
-ghost use Rattle.tube_party.specs.Moves.{shown_lines};
+ghost use Rattle.tube_party.specs.Transitions.{shown_lines};
 ghost use Rattle.tube_machine.specs.Passing.{IsOver, Passes};
-ghost use Rattle.host_mach.specs.Step.{host_wiring, host_moves};
+ghost use Rattle.host_mach.specs.Step.{host_bus_model, host_transitions};
 ghost use Rattle.host_mach.specs.Peek.{host_peek};
 
 use crate::bus::HostBus;
@@ -24,7 +24,7 @@ use sn76489::SoundWrite;
 use std::alloc::Global;
 use tube_chip::{Answer, Lines};
 use tube_machine::{Passing, advance_at, advance_seeing, answer, pass_over};
-use tube_party::{Ask, Desk, MOST, NO_LINES, Party};
+use tube_party::{Ask, TubePort, MOST, NO_LINES, Party};
 
 /// The BBC Micro: a 6502 at 2 MHz and its bus, with the Tube at FEE0 to FEFF, unless it is made
 /// without one. The key BREAK, which the script presses, resets the processor, the user VIA, the
@@ -113,7 +113,7 @@ impl<D: BusDevice> HostMachine<D> {
     /// devices answer.
     pub fn peek(&self, at: u16) -> Option<u8>
         ensures value { result ≡ host_peek (host_seen D.plug self.now) at }
-        ensures read { IfSome result (λ byte. (t : ℕ) → byte ≡ host_wiring.answer (host_seen D.plug self.now).bus t at) }
+        ensures read { IfSome result (λ byte. (t : ℕ) → byte ≡ host_bus_model.answer (host_seen D.plug self.now).bus t at) }
         ensures none { (result ≡ None) ↔ ((0xFC00 ≤ at) × (at ≤ 0xFEFF)) }
     {
         self.bus.bus.peek(at)
@@ -123,11 +123,11 @@ impl<D: BusDevice> HostMachine<D> {
     /// before `until` and `safe_until`. It may stop at any start. In the middle of an instruction
     /// it does nothing.
     #[inline(always)]
-    pub fn pass(&mut self, until: Tick, lines: &Lines, sure: Tick, passing: Passing)
+    pub fn pass(&mut self, until: Tick, lines: &Lines, safe_until: Tick, passing: Passing)
         requires { until.0 ≤ 2 ^ 30 }
         ensures { let old = host_seen D.plug self.old in
             let new = host_seen D.plug self.new in
-            (k : ℕ) × Passes host_moves (λ s. IsOver passing s.due s.cpu.regs.pc (host_peek s)) until.0 (shown_lines lines.now sure.0) k old new }
+            (k : ℕ) × Passes host_transitions (λ s. IsOver passing s.due s.cpu.regs.pc (host_peek s)) until.0 (shown_lines lines.now safe_until.0) k old new }
     {
         pass_over::<(), Cpu, HostBus<D>>(
             &mut self.cpu,
@@ -136,7 +136,7 @@ impl<D: BusDevice> HostMachine<D> {
             &mut (),
             until,
             lines,
-            sure,
+            safe_until,
             passing,
         );
     }
@@ -206,7 +206,7 @@ impl<D: BusDevice> HostMachine<D> {
 
 impl<D: BusDevice> Party for HostMachine<D> {
     ghost use Rattle.host_mach.specs.State.{HostState};
-    ghost use Rattle.host_mach.specs.Step.{host_moves};
+    ghost use Rattle.host_mach.specs.Step.{host_transitions};
     ghost use Rattle.beeb_bits.specs.declared.Side.TheVariants.{Host};
     ghost use Rattle.tube_chip.specs.Events.{is_side};
     ghost use Rattle.host_mach.specs.Lawful.{host_lawful, host_permitted};
@@ -218,7 +218,7 @@ impl<D: BusDevice> Party for HostMachine<D> {
 
     ghost state = { λ m. host_seen D.plug m };
 
-    ghost moves = { host_moves };
+    ghost transitions = { host_transitions };
 
     ghost plays = { is_side Host };
 
@@ -237,7 +237,7 @@ impl<D: BusDevice> Party for HostMachine<D> {
     }
 
     fn quiet(&self) -> Tick
-        ensures quiet { IsQuiet host_moves (host_seen D.plug self.now) result.0 }
+        ensures quiet { IsQuiet host_transitions (host_seen D.plug self.now) result.0 }
         ensures tick { result.0 ≡ quiet_of (host_seen D.plug self.now) }
     {
         if self.cpu.halted() && !self.bus.answers(self.cpu.at_start().pc) {
@@ -254,7 +254,7 @@ impl<D: BusDevice> Party for HostMachine<D> {
     }
 
     #[inline(always)]
-    fn advance_seeing(&mut self, until: Tick, lines: &Lines, sure: Tick) -> Ask {
+    fn advance_seeing(&mut self, until: Tick, lines: &Lines, safe_until: Tick) -> Ask {
         advance_seeing::<(), Cpu, HostBus<D>>(
             &mut self.cpu,
             &mut self.bus,
@@ -262,12 +262,12 @@ impl<D: BusDevice> Party for HostMachine<D> {
             &mut (),
             until,
             lines,
-            sure,
+            safe_until,
         )
     }
 
     #[inline(always)]
-    fn advance_at<K: Desk>(&mut self, until: Tick, lines: &Lines, sure: Tick, desk: &mut K) -> Ask {
+    fn advance_at<K: TubePort>(&mut self, until: Tick, lines: &Lines, safe_until: Tick, port: &mut K) -> Ask {
         advance_at::<(), Cpu, HostBus<D>, K>(
             &mut self.cpu,
             &mut self.bus,
@@ -275,8 +275,8 @@ impl<D: BusDevice> Party for HostMachine<D> {
             &mut (),
             until,
             lines,
-            sure,
-            desk,
+            safe_until,
+            port,
         )
     }
 

@@ -22,7 +22,7 @@ use Rattle.host_mach.specs.State as host
 use Rattle.host_mach.specs.Step as host_step
 use Rattle.para_mach.specs.State as para
 use Rattle.para_mach.specs.Step as para_step
-use Rattle.para_mach.specs.Step.{para_wiring}
+use Rattle.para_mach.specs.Step.{para_bus_model}
 use Rattle.law_machines.specs.Begins.{begun, is_nmi}
 use Rattle.law_machines.specs.ParaTicks as para_run
 use Rattle.law_machines.specs.HostTicks as host_run
@@ -40,7 +40,7 @@ record Took (x y : ℕ) (s : para.ParaState) : Type 0 where
   pub nmis : s.bus.nmis ≡ y
 
 abbrev para_after : Option Cycle → para.ParaState → Option Answer → para.ParaState
-para_after o s a = at.after_step Cmos para_wiring o s a
+para_after o s a = at.after_step Cmos para_bus_model o s a
 
 -- a step behind which nothing begins takes nothing
 look_takes : (resets prst : Bool) {h : para.ParaState} (r t : para.ParaState) {x y : ℕ} {q p : Sequence} → Took x y h → begun r.cpu ≡ Some q → begun t.cpu ≡ Some p →
@@ -125,7 +125,7 @@ look_few false prst h r t low bh nh br nr few = few
 step_few : (o : Option Cycle) (s : para.ParaState) (a : Option Answer) → (o ≡ None → begun s.cpu ≡ None) → (o ≡ None → s.bus.nmis ≤ (lines_in a).nmis) →
     s.bus.nmis + weight 1 (is_nmi (begun (para_after o s a).cpu)) ≤ (para_after o s a).bus.nmis
 step_few (Some c) s a none low =
-    rw (access_not_begun Cmos s.cpu (byte_of para_wiring s.bus s.due a c)) (omega arith)
+    rw (access_not_begun Cmos s.cpu (byte_of para_bus_model s.bus s.due a c)) (omega arith)
 step_few None s a none low =
     let l = lines_in a in
     look_few (not (l.resets == s.bus.resets)) l.prst _ _ _ (low refl) (none refl) refl refl refl
@@ -136,7 +136,7 @@ all_few [] s low = omega arith
 all_few (a ∷ answers) s low =
     let x = para_step.next_state s a in
     let one : s.bus.nmis + weight 1 (is_nmi (begun x.cpu)) ≤ x.bus.nmis =
-    step_few (cmos.next_cycle s.cpu) (closed_to para_wiring s (s.due + 1)) a (over_not_begun Cmos s.cpu) low.0 in
+    step_few (cmos.next_cycle s.cpu) (closed_to para_bus_model s (s.due + 1)) a (over_not_begun Cmos s.cpu) low.0 in
     let more : x.bus.nmis + para_nmis answers x ≤ (para_run.run answers x).bus.nmis = all_few answers x low.1 in
     omega (arith, one, more)
 

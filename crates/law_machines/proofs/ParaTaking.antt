@@ -13,7 +13,7 @@ use Rattle.cpu65c02.specs.Sequences.{next_cycle, after_byte}
 use Rattle.tube_chip.specs.declared.Answer.{Answer}
 use Rattle.para_mach.specs.State.{ParaState}
 use Rattle.tube_machine.specs.Step.{byte_of, lines_in, after_step, closed_to}
-use Rattle.para_mach.specs.Step.{para_wiring, next_state}
+use Rattle.para_mach.specs.Step.{para_bus_model, next_state}
 use Rattle.law_machines.specs.Cycles.{the_cycle}
 use Rattle.law_machines.specs.ParaTicks.{run, cycles, AllAccess, ParaTakes, ParaTakesTheTable}
 use Rattle.law_machines.proofs.Counts.{one_more, same_sequence, table, cycle_more}
@@ -28,15 +28,15 @@ due_tail c false t = omega arith
 
 -- an access, of the machine closed behind its first tick
 one : (o : Option Cycle) (s : ParaState) (a : Option Answer) → is_none o ≡ false →
-    (after_step Cmos para_wiring o s a).due + tail (after_step Cmos para_wiring o s a) ≡ s.due + para s.bus.clock
+    (after_step Cmos para_bus_model o s a).due + tail (after_step Cmos para_bus_model o s a) ≡ s.due + para s.bus.clock
 unfolding tail
 one None s a some = absurd (true≢false some)
-one (Some c) s a some = due_tail s.bus.clock (is_none (next_cycle (after_byte s.cpu (byte_of para_wiring s.bus s.due a c)))) s.due
+one (Some c) s a some = due_tail s.bus.clock (is_none (next_cycle (after_byte s.cpu (byte_of para_bus_model s.bus s.due a c)))) s.due
 
 first : (s : ParaState) (a : Option Answer) → is_none (next_cycle s.cpu) ≡ false → (next_state s a).due + tail (next_state s a) ≡ s.due + para s.bus.clock
-first s a some = one (next_cycle s.cpu) (closed_to para_wiring s (s.due + 1)) a some
+first s a some = one (next_cycle s.cpu) (closed_to para_bus_model s (s.due + 1)) a some
 
-clock_by : (o : Option Cycle) (s : ParaState) (a : Option Answer) → is_none o ≡ false → (after_step Cmos para_wiring o s a).bus.clock ≡ s.bus.clock
+clock_by : (o : Option Cycle) (s : ParaState) (a : Option Answer) → is_none o ≡ false → (after_step Cmos para_bus_model o s a).bus.clock ≡ s.bus.clock
 clock_by None s a some = absurd (true≢false some)
 clock_by (Some c) s a some = refl
 
@@ -84,7 +84,7 @@ begins true true due h r t eh er et free = absurd (true≢false (sym eh ∙ free
 begins true false due h r t eh er et free = er
 begins false prst due h r t eh er et free = et
 
-looks_on : (o : Option Cycle) (s : ParaState) (a : Option Answer) → o ≡ None → (after_step Cmos para_wiring o s a).bus.is_held ≡ false → (after_step Cmos para_wiring o s a).due ≡ s.due + 1
+looks_on : (o : Option Cycle) (s : ParaState) (a : Option Answer) → o ≡ None → (after_step Cmos para_bus_model o s a).bus.is_held ≡ false → (after_step Cmos para_bus_model o s a).due ≡ s.due + 1
 looks_on None s a over free = let l = lines_in a in begins (not (l.resets == s.bus.resets)) l.prst s.due _ _ _ refl refl refl free
 looks_on (Some c) s a over free = cc
 
@@ -98,12 +98,12 @@ para_takes = record {
 
 -- ---- How many cycles.
 
-handed : (o : Option Cycle) (s : ParaState) (a : Option Answer) → is_none o ≡ false → (byte : ℕ) × ((after_step Cmos para_wiring o s a).cpu ≡ after_byte s.cpu byte)
+handed : (o : Option Cycle) (s : ParaState) (a : Option Answer) → is_none o ≡ false → (byte : ℕ) × ((after_step Cmos para_bus_model o s a).cpu ≡ after_byte s.cpu byte)
 handed None s a some = absurd (true≢false some)
-handed (Some c) s a some = (byte_of para_wiring s.bus s.due a c, refl)
+handed (Some c) s a some = (byte_of para_bus_model s.bus s.due a c, refl)
 
 given_one : (s : ParaState) (a : Option Answer) → is_none (next_cycle s.cpu) ≡ false → (byte : ℕ) × ((next_state s a).cpu ≡ after_byte s.cpu byte)
-given_one s a some = handed (next_cycle s.cpu) (closed_to para_wiring s (s.due + 1)) a some
+given_one s a some = handed (next_cycle s.cpu) (closed_to para_bus_model s (s.due + 1)) a some
 
 count : (answers : List (Option Answer)) (s : ParaState) → AllAccess answers s →
     length (cycles answers s) + length s.cpu.seen ≡ length (run answers s).cpu.seen

@@ -13,7 +13,7 @@ use Rattle.cpu_core.specs.declared.Sequence.TheVariants.{Instruction, Reset, Nmi
 use Rattle.cpu65c02.specs.Sequences.{next_cycle, sequence_at_look, after}
 use Rattle.tube_chip.specs.declared.Answer.{Answer}
 use Rattle.para_mach.specs.State.{ParaState, power_on}
-use Rattle.para_mach.specs.Step.{para_wiring, next_state}
+use Rattle.para_mach.specs.Step.{para_bus_model, next_state}
 use Rattle.tube_machine.specs.Step.{lines_in, after_step, closed_to, byte_of}
 use Rattle.law_machines.specs.Begins.{begun}
 use Rattle.law_machines.specs.ParaTicks.{run}
@@ -43,8 +43,8 @@ look_leaves true true {in_before} h r t eh et is free = eh ∙ and_true in_befor
 look_leaves true false h r t eh et is free = absurd (free is)
 look_leaves false prst {in_before} h r t eh et is free = et ∙ and_true in_before
 
-step_leaves : (o : Option Cycle) (s : ParaState) (a : Option Answer) → (IsReset (after_step Cmos para_wiring o s a) → ⊥) →
-    (after_step Cmos para_wiring o s a).bus.rom_in ≡ (s.bus.rom_in && not (reaches_by o))
+step_leaves : (o : Option Cycle) (s : ParaState) (a : Option Answer) → (IsReset (after_step Cmos para_bus_model o s a) → ⊥) →
+    (after_step Cmos para_bus_model o s a).bus.rom_in ≡ (s.bus.rom_in && not (reaches_by o))
 step_leaves (Some (Read at)) s a free = refl
 step_leaves (Some (Write at byte)) s a free = refl
 step_leaves None s a free =
@@ -59,8 +59,8 @@ look_resets true false h r t nh er nt is = er
 look_resets false prst h r t nh er nt is = absurd (nt is)
 
 reset_by : (o : Option Cycle) (s : ParaState) (a : Option Answer) → (o ≡ None → begun s.cpu ≡ None) →
-    IsReset (after_step Cmos para_wiring o s a) → (after_step Cmos para_wiring o s a).bus.rom_in ≡ true
-reset_by (Some c) s a over is = absurd (not_reset (access_not_begun Cmos s.cpu (byte_of para_wiring s.bus s.due a c)) is)
+    IsReset (after_step Cmos para_bus_model o s a) → (after_step Cmos para_bus_model o s a).bus.rom_in ≡ true
+reset_by (Some c) s a over is = absurd (not_reset (access_not_begun Cmos s.cpu (byte_of para_bus_model s.bus s.due a c)) is)
 reset_by None s a over is =
     let l = lines_in a in
     look_resets (not (l.resets == s.bus.resets)) l.prst _ _ _ (not_reset (over refl)) refl
@@ -85,7 +85,7 @@ since : (answers : List (Option Answer)) (s : ParaState) → NoReset answers s �
 since [] s none = and_true s.bus.rom_in
 since (a ∷ answers) s none =
     since answers (next_state s a) none.1
-    ∙ ap (λ b. b && not (reaches answers (next_state s a))) (step_leaves (next_cycle s.cpu) (closed_to para_wiring s (s.due + 1)) a none.0)
+    ∙ ap (λ b. b && not (reaches answers (next_state s a))) (step_leaves (next_cycle s.cpu) (closed_to para_bus_model s (s.due + 1)) a none.0)
     ∙ joined s.bus.rom_in (reaches_by (next_cycle s.cpu)) (reaches answers (next_state s a))
 
 -- ---- the last reset

@@ -5,9 +5,9 @@ use Rattle.tube_trace.specs.FirstWrong.{wrong}
 use Rattle.tube_party.specs.Reference.{reference}
 use Rattle.tube_party.specs.GoingOn.{entries_below}
 use Rattle.host_mach.specs.State.{HostState}
-use Rattle.host_mach.specs.Step.{host_moves}
+use Rattle.host_mach.specs.Step.{host_transitions}
 use Rattle.para_mach.specs.State.{ParaState}
-use Rattle.para_mach.specs.Step.{para_moves}
+use Rattle.para_mach.specs.Step.{para_transitions}
 use Rattle.save_state.specs.Saved.{Session}
 use Rattle.save_state.specs.Resume.{SavedRunIsResumed}
 use Rattle.cmd_stages.specs.Plan.{Verdict}
@@ -38,9 +38,9 @@ one_run set i plugs m s ticks kept names j read again made right agree begins cl
 ends : (set : Setup) (i : Inputs) (m : HostState × ParaState) (ticks kept : ℕ) (names : Names) → machines_of set i ≡ Ok m →
     (v : Verdict Ending) × (solo_after set ticks kept names i ≡ Ok v) × (v.ending ≡ Done)
 unfolding solo_after kept_verdict machine_verdict
-ends set i m ticks kept names made = (kept_verdict set.clock (begun_if names.save set i) ticks kept names (reference host_moves para_moves m.0 m.1 ticks), rw made, refl)
+ends set i m ticks kept names made = (kept_verdict set.clock (begun_if names.save set i) ticks kept names (reference host_transitions para_transitions m.0 m.1 ticks), rw made, refl)
 
-module _ (again : MachinesAreMadeAgain) (reads : SavedRunIsRead) (resumes : SavedRunIsResumed host_moves para_moves) where
+module _ (again : MachinesAreMadeAgain) (reads : SavedRunIsRead) (resumes : SavedRunIsResumed host_transitions para_transitions) where
   pub goes_on : SavedRunIsOneRun
   unfolding saved_of begun
   goes_on set i plugs m n keep there most few ticks kept names j is =

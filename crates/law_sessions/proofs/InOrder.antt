@@ -30,9 +30,9 @@ use Rattle.follow.specs.Points.{points}
 use Rattle.follow.specs.Machines.{host_sight, para_sight}
 use Rattle.follow.specs.Listing.{replay_listing}
 use Rattle.host_mach.specs.State as host
-use Rattle.host_mach.specs.Step.{host_moves}
+use Rattle.host_mach.specs.Step.{host_transitions}
 use Rattle.para_mach.specs.State as para
-use Rattle.para_mach.specs.Step.{para_moves}
+use Rattle.para_mach.specs.Step.{para_transitions}
 use Rattle.save_state.specs.declared.StateError.{StateError}
 use Rattle.save_state.specs.declared.StateError.TheVariants as state_errors
 use Rattle.save_state.specs.Saved.{Session}
@@ -233,11 +233,11 @@ module _ (lengths : LengthsComeFirst) where
   follow_told set Host ticks choice out i =
       let start : host.HostState = host.with_tube set.tube (host_at set i) in
       host_told set i _ _ (pointed choice _ _ (λ chosen.
-      ends_by _ _ (listed_verdict out) (replay_listing host_moves host_sight Nmos Host (entries_at set.tube i.trace) ticks chosen start) refl) i.points)
+      ends_by _ _ (listed_verdict out) (replay_listing host_transitions host_sight Nmos Host (entries_at set.tube i.trace) ticks chosen start) refl) i.points)
   follow_told set Para ticks choice out i =
       let start : para.ParaState = para.power_on set.clock i.tube in
       para_told set.clock i _ _ (pointed choice _ _ (λ chosen.
-      ends_by _ _ (listed_verdict out) (replay_listing para_moves para_sight Cmos Para (entries_at true i.trace) ticks chosen start) refl) i.points)
+      ends_by _ _ (listed_verdict out) (replay_listing para_transitions para_sight Cmos Para (entries_at true i.trace) ticks chosen start) refl) i.points)
 
   solo_told : (set : Setup) (ticks keep : ℕ) (names : Names) (i : Inputs) → Says (solo_after set ticks keep names i) (pair_causes set i)
   unfolding solo_after kept_verdict machine_verdict
@@ -250,7 +250,7 @@ module _ (lengths : LengthsComeFirst) where
   session_told_by plugs ticks keep names (Ok s) =
       both_told (setup_in s plugs) (inputs_in s) _ _
       (ends_by _ _ (kept_verdict s.clock (begun_if names.save (setup_in s plugs) (inputs_in s)) ticks keep names)
-      (reference host_moves para_moves (host_at (setup_in s plugs) (inputs_in s)) (para.power_on s.clock (inputs_in s).tube) ticks) refl)
+      (reference host_transitions para_transitions (host_at (setup_in s plugs) (inputs_in s)) (para.power_on s.clock (inputs_in s).tube) ticks) refl)
   session_told_by plugs ticks keep names (Err (state_errors.BadField at)) = refl
   session_told_by plugs ticks keep names file = refl
 

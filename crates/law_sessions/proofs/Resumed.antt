@@ -2,9 +2,9 @@
 use Rattle.std.proofs.Common.{◌≡◌, ◌∙◌, sym, refl, ap, subst, ℕ, List, Option, Some, None, Result, Ok, Err}
 use Rattle.bus_plug.specs.Plug.{Plug}
 use Rattle.host_mach.specs.State.{HostState}
-use Rattle.host_mach.specs.Step.{host_moves}
+use Rattle.host_mach.specs.Step.{host_transitions}
 use Rattle.para_mach.specs.State.{ParaState}
-use Rattle.para_mach.specs.Step.{para_moves}
+use Rattle.para_mach.specs.Step.{para_transitions}
 use Rattle.tube_trace.specs.FirstWrong.{wrong}
 use Rattle.tube_party.specs.declared.Doing.{Doing}
 use Rattle.tube_party.specs.Reference.{World, reference}
@@ -80,7 +80,7 @@ module _ (begins : SessionBegins) (writes : SessionIsWritten) (one : SavedRunIsO
       let m : HostState × ParaState = made.0 in
       let begun : Begins (setup_in s plugs) (inputs_in s) plugs m = begins j.state s plugs m are read made.1 in
       let left : World HostState ParaState → Verdict Ending = kept_verdict s.clock (begun_if names.save (setup_in s plugs) (inputs_in s)) n keep names in
-      let end = went left (reference host_moves para_moves m.0 m.1 n) (wrong s.entries) (place_of s n m) (ap (λ (w : Verdict Ending). w.ending) made.2 ∙ done) in
+      let end = went left (reference host_transitions para_transitions m.0 m.1 n) (wrong s.entries) (place_of s n m) (ap (λ (w : Verdict Ending). w.ending) made.2 ∙ done) in
       let same : session_after plugs n keep names j ≡ solo_after (setup_in s plugs) n keep names (inputs_in s) =
       one_run (setup_in s plugs) (inputs_in s) plugs m s n keep names j read made.1 made.1 end.0 end.1 refl refl in
       let written = writes (setup_in s plugs) (inputs_in s) m n keep names name made.1 save in

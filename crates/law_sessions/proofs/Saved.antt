@@ -8,9 +8,9 @@ use Rattle.tube_trace.proofs.WrongLemmas.{none_iff}
 use Rattle.tube_party.specs.Reference.{IsTraceBelow}
 use Rattle.tube_party.specs.GoingOn.{entries_below}
 use Rattle.host_mach.specs.State.{HostState}
-use Rattle.host_mach.specs.Step.{host_moves}
+use Rattle.host_mach.specs.Step.{host_transitions}
 use Rattle.para_mach.specs.State.{ParaState}
-use Rattle.para_mach.specs.Step.{para_moves}
+use Rattle.para_mach.specs.Step.{para_transitions}
 use Rattle.save_state.specs.File.{IsSession}
 use Rattle.save_state.specs.Laws.{FileReadsBack}
 use Rattle.save_state.specs.Resume.{SavedRunIsResumed}
@@ -39,7 +39,7 @@ below_less t (x ∷ xs) = grind (arith, below_less t xs)
 
 -- ---- the rules
 
-module _ (begins : BegunIsSession) (reads : FileReadsBack) (resumes : SavedRunIsResumed host_moves para_moves) where
+module _ (begins : BegunIsSession) (reads : FileReadsBack) (resumes : SavedRunIsResumed host_transitions para_transitions) where
   pub run_keeps : (set : Setup) (i : Inputs) (plugs : List Plug) (m : HostState × ParaState) (n keep : ℕ) → Begins set i plugs m → n ≤ 1073741824 → keep ≤ 4194304 →
       IsSession (saved_run set i m n keep)
   unfolding saved_of

@@ -4,9 +4,9 @@ use Rattle.std.proofs.lemmas.List.{map-append}
 use Rattle.tube_trace.specs.Entries.{accesses}
 use Rattle.tube_party.specs.Reference.{World, reference}
 use Rattle.host_mach.specs.State.{HostState}
-use Rattle.host_mach.specs.Step.{host_moves}
+use Rattle.host_mach.specs.Step.{host_transitions}
 use Rattle.para_mach.specs.State.{ParaState}
-use Rattle.para_mach.specs.Step.{para_moves}
+use Rattle.para_mach.specs.Step.{para_transitions}
 use Rattle.save_state.specs.File as sessions
 use Rattle.cmd_outcome.specs.declared.output.Output.TheVariants.{Sound, Session}
 use Rattle.cmd_outcome.specs.Outputs.{if_there, front_of, machine_outputs}
@@ -42,7 +42,7 @@ session_last l name is = behind Session (front_of l ++ if_there Sound l.names.wa
 -- what both machines leave
 abbrev left_of : Setup → Inputs → HostState × ParaState → ℕ → ℕ → Names → Left
 left_of set i m n keep names =
-    let w : World HostState ParaState = reference host_moves para_moves m.0 m.1 n in
+    let w : World HostState ParaState = reference host_transitions para_transitions m.0 m.1 n in
     both_left set.clock n (length (accesses w.list)) names w.host w.para (kept_of set.clock (take keep (accesses w.list)))
     (saved_file (begun_if names.save set i) n keep w.list)
 

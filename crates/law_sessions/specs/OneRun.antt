@@ -6,9 +6,9 @@ use Rattle.tube_trace.specs.declared.Entry.{Entry}
 use Rattle.tube_trace.specs.Entries.{accesses}
 use Rattle.tube_party.specs.Reference.{reference}
 use Rattle.host_mach.specs.State.{HostState}
-use Rattle.host_mach.specs.Step.{host_moves}
+use Rattle.host_mach.specs.Step.{host_transitions}
 use Rattle.para_mach.specs.State.{ParaState}
-use Rattle.para_mach.specs.Step.{para_moves}
+use Rattle.para_mach.specs.Step.{para_transitions}
 use Rattle.save_state.specs.Saved.{Session}
 use Rattle.save_state.specs.File.{file_of, IsSession}
 use Rattle.save_state.specs.Laws.{AreBytes}
@@ -45,7 +45,7 @@ pub record Begins (set : Setup) (i : Inputs) (plugs : List Plug) (m : HostState 
 
 -- the Tube accesses of the reference run of `n` ticks
 abbrev pub accesses_of : HostState × ParaState → ℕ → List Entry
-accesses_of m n = accesses (reference host_moves para_moves m.0 m.1 n).list
+accesses_of m n = accesses (reference host_transitions para_transitions m.0 m.1 n).list
 
 -- the session of a run of `n` ticks that keeps its first `keep` accesses
 abbrev pub saved_run : Setup → Inputs → HostState × ParaState → ℕ → ℕ → Session

@@ -27,9 +27,9 @@ use Rattle.follow.specs.declared.PointsError.{PointsError}
 use Rattle.follow.specs.declared.PointsError.TheVariants as points_errors
 use Rattle.follow.specs.Points.{points}
 use Rattle.host_mach.specs.State as host
-use Rattle.host_mach.specs.Step.{host_moves}
+use Rattle.host_mach.specs.Step.{host_transitions}
 use Rattle.para_mach.specs.State as para
-use Rattle.para_mach.specs.Step.{para_moves}
+use Rattle.para_mach.specs.Step.{para_transitions}
 use Rattle.save_state.specs.declared.StateError.{StateError}
 use Rattle.save_state.specs.declared.StateError.TheVariants as state_errors
 use Rattle.save_state.specs.Saved.{Session}
@@ -202,10 +202,10 @@ made_causes set Para i others = map misfit (para_images i) ++ (trace_causes true
 abbrev pub replayed_causes : Setup → Side → ℕ → Inputs → List (Option Status)
 replayed_causes set Host ticks i =
     let entries : List Entry = entries_at set.tube i.trace in
-    entry_causes entries (replay_of host_moves Host entries ticks (host.with_tube set.tube (host_at set i))).place
+    entry_causes entries (replay_of host_transitions Host entries ticks (host.with_tube set.tube (host_at set i))).place
 replayed_causes set Para ticks i =
     let entries : List Entry = entries_at true i.trace in
-    entry_causes entries (replay_of para_moves Para entries ticks (para.power_on set.clock i.tube)).place
+    entry_causes entries (replay_of para_transitions Para entries ticks (para.power_on set.clock i.tube)).place
 
 abbrev pub replay_causes : Setup → Side → ℕ → Inputs → List (Option Status)
 replay_causes set side ticks i = made_causes set side i (replayed_causes set side ticks i)

@@ -14,7 +14,7 @@ use Rattle.tube_chip.specs.declared.Lines.{Lines}
 use Rattle.tube_chip.specs.declared.Op.{Op}
 use Rattle.tube_chip.specs.declared.Answer.{Answer}
 use Rattle.tube_chip.specs.declared.Answer.TheVariants.{Byte, Seen}
-use Rattle.tube_party.specs.Moves.{Shown, Looks, Talks, Sees, Hears, GoesHearing, IsAsk, shown_lines}
+use Rattle.tube_party.specs.Transitions.{Shown, Looks, Talks, Sees, Hears, GoesHearing, IsAsk, shown_lines}
 use Rattle.tube_party.specs.Steps.{After, look_last, looks_wider, silent_all, talks_on}
 use Rattle.tube_party.specs.declared.party.Ask.{Ask}
 use Rattle.tube_party.specs.declared.party.Ask.TheVariants.{Nothing, Access, Look}
@@ -23,7 +23,7 @@ use Rattle.tube_machine.specs.declared.pass.Passing.{Passing}
 use Rattle.tube_machine.specs.Passing.{IsOver, ToLook, Passes, over_at}
 use Rattle.para_mach.specs.State.{ParaBusState, ParaState, shown_regs}
 use Rattle.para_mach.specs.Peek.{peek_of, para_peek}
-use Rattle.para_mach.specs.Step.{para_wiring, para_moves, next_state}
+use Rattle.para_mach.specs.Step.{para_bus_model, para_transitions, next_state}
 use Rattle.para_mach.specs.CodeNotes.{LooksOn, IsHeldAtLook, part_kept}
 
 -- no step changes that
@@ -33,67 +33,67 @@ look_by true true s held reset taken a b c is = ap is_none a
 look_by true false s held reset taken a b c is = cc
 look_by false prst s held reset taken a b c is = cc
 
-step_by : (o : Option Cycle) (s : ParaState) (a : Option Answer) → next_cycle s.cpu ≡ o → IsHeldAtLook s → IsHeldAtLook (after_step Cmos para_wiring o s a)
+step_by : (o : Option Cycle) (s : ParaState) (a : Option Answer) → next_cycle s.cpu ≡ o → IsHeldAtLook s → IsHeldAtLook (after_step Cmos para_bus_model o s a)
 step_by None s a over held =
     let l : Lines = lines_in a in
     look_by (not (l.resets == s.bus.resets)) l.prst s _ _ _ over refl refl
 step_by (Some c) s a over held = λ is. let no : true ≡ false = sym (held is) ∙ ap is_none over in cc
 
 pub next_held : (s : ParaState) (a : Option Answer) → IsHeldAtLook s → IsHeldAtLook (next_state s a)
-next_held s a held = step_by (next_cycle s.cpu) (closed_to para_wiring s (s.due + 1)) a refl held
+next_held s a held = step_by (next_cycle s.cpu) (closed_to para_bus_model s (s.due + 1)) a refl held
 
-module _ (n : ℕ) (lines : Lines) (sure : ℕ) where
-  looks_by : (k : ℕ) (s last : ParaState) (o : Option Query) → IsHeldAtLook s → ((u : ParaState) → IsHeldAtLook u → Looks para_moves n (shown_lines lines sure) k u last → IsHeldAtLook last)
-      → After para_moves n lines sure k s last o → IsHeldAtLook last
+module _ (n : ℕ) (lines : Lines) (safe_until : ℕ) where
+  looks_by : (k : ℕ) (s last : ParaState) (o : Option Query) → IsHeldAtLook s → ((u : ParaState) → IsHeldAtLook u → Looks para_transitions n (shown_lines lines safe_until) k u last → IsHeldAtLook last)
+      → After para_transitions n lines safe_until k s last o → IsHeldAtLook last
   looks_by k s last None held on h = on (next_state s None) (next_held s None held) h
   looks_by k s last (Some q) held on h = on (next_state s (Some (Seen lines))) (next_held s (Some (Seen lines)) held) h.2
 
-  pub looks_held : (k : ℕ) (s last : ParaState) → IsHeldAtLook s → Looks para_moves n (shown_lines lines sure) k s last → IsHeldAtLook last
+  pub looks_held : (k : ℕ) (s last : ParaState) → IsHeldAtLook s → Looks para_transitions n (shown_lines lines safe_until) k s last → IsHeldAtLook last
   looks_held zero s last held h = subst IsHeldAtLook h held
-  looks_held (suc k) s last held h = looks_by k s last (para_moves.asks s) held (λ u there on. looks_held k u last there on) h.1
+  looks_held (suc k) s last held h = looks_by k s last (para_transitions.asks s) held (λ u there on. looks_held k u last there on) h.1
 
-  ask_held : (last new : ParaState) (ask : Ask) → IsHeldAtLook last → IsAsk para_moves n last ask new → IsHeldAtLook new
+  ask_held : (last new : ParaState) (ask : Ask) → IsHeldAtLook last → IsAsk para_transitions n last ask new → IsHeldAtLook new
   ask_held last new Nothing held is = rw is.1 held
   ask_held last new (Access t o) held is = rw is.3 held
   ask_held last new (Look t) held is = rw is.3 held
 
   talks_held : {D : Type 0} (answers : D → ℕ → Op → ℕ → D → Type 0) (j : ℕ) (s last : ParaState) (d e : D) → IsHeldAtLook s
-      → Talks para_moves answers n (shown_lines lines sure) j s d last e → IsHeldAtLook last
+      → Talks para_transitions answers n (shown_lines lines safe_until) j s d last e → IsHeldAtLook last
   talks_held answers zero s last d e held h = looks_held h.1.0 s last held h.1.1
   talks_held answers (suc j) s last d e held h =
       let there : IsHeldAtLook h.0 = looks_held h.3.0 s h.0 held h.3.1 in
       talks_held answers j h.1 last h.2 e (rw h.4.goes (next_held h.0 (Some (Byte h.4.byte)) there)) h.5
 
-module _ {n : ℕ} {lines : Lines} {sure : ℕ} {old new : ParaState} {ask : Ask} (held : IsHeldAtLook old) where
-  pub sees_held : Sees para_moves n (shown_lines lines sure) old ask new → IsHeldAtLook new
-  sees_held sees = ask_held n lines sure sees.last new ask (looks_held n lines sure sees.steps old sees.last held sees.looks) sees.asked
+module _ {n : ℕ} {lines : Lines} {safe_until : ℕ} {old new : ParaState} {ask : Ask} (held : IsHeldAtLook old) where
+  pub sees_held : Sees para_transitions n (shown_lines lines safe_until) old ask new → IsHeldAtLook new
+  sees_held sees = ask_held n lines safe_until sees.last new ask (looks_held n lines safe_until sees.steps old sees.last held sees.looks) sees.asked
 
-  pub hears_held : {D : Type 0} {answers : D → ℕ → Op → ℕ → D → Type 0} {d e : D} → Hears para_moves answers n (shown_lines lines sure) old d ask new e → IsHeldAtLook new
-  hears_held {answers = answers} {d} {e} hears = ask_held n lines sure hears.last new ask (talks_held n lines sure answers hears.accesses old hears.last d e held hears.talks) hears.asked
+  pub hears_held : {D : Type 0} {answers : D → ℕ → Op → ℕ → D → Type 0} {d e : D} → Hears para_transitions answers n (shown_lines lines safe_until) old d ask new e → IsHeldAtLook new
+  hears_held {answers = answers} {d} {e} hears = ask_held n lines safe_until hears.last new ask (talks_held n lines safe_until answers hears.accesses old hears.last d e held hears.talks) hears.asked
 
 -- ---- Held
 
 -- the reset line is on for one more reset
 held_look : (s : ParaState) (l : Lines) → next_cycle s.cpu ≡ None → l.prst ≡ true → (l.resets ≡ s.bus.resets → ⊥)
-    → next_state s (Some (Seen l)) ≡ after_held_cycle Cmos para_wiring (closed_to para_wiring s (s.due + 1))
+    → next_state s (Some (Seen l)) ≡ after_held_cycle Cmos para_bus_model (closed_to para_bus_model s (s.due + 1))
 held_look s l over stands other = rw (over, ne_eqb l.resets s.bus.resets other, stands)
 
 -- until here a machine passed looks at that line
-pub record IsHeldOn (n : ℕ) (lines : Lines) (sure : ℕ) (start s : ParaState) : Type 0 where
-  pub came : (k : ℕ) × Looks para_moves n (shown_lines lines sure) k start s
+pub record IsHeldOn (n : ℕ) (lines : Lines) (safe_until : ℕ) (start s : ParaState) : Type 0 where
+  pub came : (k : ℕ) × Looks para_transitions n (shown_lines lines safe_until) k start s
   pub over : next_cycle s.cpu ≡ None
   pub kept : part_kept s.bus.ram s.bus ≡ part_kept start.bus.ram start.bus
   pub before : s.bus.closed ≤ s.due + 1
 
-pub held_more : {n : ℕ} {lines : Lines} {sure : ℕ} {start s new : ParaState} → IsHeldOn n lines sure start s → lines.prst ≡ true → (lines.resets ≡ start.bus.resets → ⊥) → s.due < n → s.due < sure →
-    new ≡ next_state s (Some (Seen lines)) → new.bus.closed ≤ new.due + 1 → IsHeldOn n lines sure start new
-held_more {n} {lines} {sure} {start} {s} {new} so_far stands other low early is before =
+pub held_more : {n : ℕ} {lines : Lines} {safe_until : ℕ} {start s new : ParaState} → IsHeldOn n lines safe_until start s → lines.prst ≡ true → (lines.resets ≡ start.bus.resets → ⊥) → s.due < n → s.due < safe_until →
+    new ≡ next_state s (Some (Seen lines)) → new.bus.closed ≤ new.due + 1 → IsHeldOn n lines safe_until start new
+held_more {n} {lines} {safe_until} {start} {s} {new} so_far stands other low early is before =
     let same : s.bus.resets ≡ start.bus.resets = ap (λ (b : ParaBusState). b.resets) so_far.kept in
-    let stays : new ≡ after_held_cycle Cmos para_wiring (closed_to para_wiring s (s.due + 1)) = is ∙ held_look s lines so_far.over stands (λ e. other (e ∙ same)) in
+    let stays : new ≡ after_held_cycle Cmos para_bus_model (closed_to para_bus_model s (s.due + 1)) = is ∙ held_look s lines so_far.over stands (λ e. other (e ∙ same)) in
     record {
       came = (
         suc so_far.came.0,
-        rw is (look_last para_moves n lines sure so_far.came.0 start s so_far.came.1 low (ap (asks_by para_wiring s.bus) so_far.over) early),
+        rw is (look_last para_transitions n lines safe_until so_far.came.0 start s so_far.came.1 low (ap (asks_by para_bus_model s.bus) so_far.over) early),
       );
       over = rw stays so_far.over;
       kept = rw stays so_far.kept;
@@ -103,19 +103,19 @@ held_more {n} {lines} {sure} {start} {s} {new} so_far stands other low early is 
 -- ---- Room
 
 -- the steps of a run, and the next ask; its looks may be nearer than they need be
-module _ (n : ℕ) (lines : Lines) {near sure : ℕ} {D : Type 0} (answers : D → ℕ → Op → ℕ → D → Type 0) (low : near ≤ sure) where
-  talks_wider : (j : ℕ) (s last : ParaState) (d e : D) → Talks para_moves answers n (shown_lines lines near) j s d last e → Talks para_moves answers n (shown_lines lines sure) j s d last e
-  talks_wider zero s last d e h = (h.0, (h.1.0, looks_wider para_moves n lines near sure h.1.0 s last low h.1.1))
-  talks_wider (suc j) s last d e h = (h.0, h.1, h.2, (h.3.0, looks_wider para_moves n lines near sure h.3.0 s h.0 low h.3.1), h.4, talks_wider j h.1 last h.2 e h.5)
+module _ (n : ℕ) (lines : Lines) {near safe_until : ℕ} {D : Type 0} (answers : D → ℕ → Op → ℕ → D → Type 0) (low : near ≤ safe_until) where
+  talks_wider : (j : ℕ) (s last : ParaState) (d e : D) → Talks para_transitions answers n (shown_lines lines near) j s d last e → Talks para_transitions answers n (shown_lines lines safe_until) j s d last e
+  talks_wider zero s last d e h = (h.0, (h.1.0, looks_wider para_transitions n lines near safe_until h.1.0 s last low h.1.1))
+  talks_wider (suc j) s last d e h = (h.0, h.1, h.2, (h.3.0, looks_wider para_transitions n lines near safe_until h.3.0 s h.0 low h.3.1), h.4, talks_wider j h.1 last h.2 e h.5)
 
-module _ {n : ℕ} {lines : Lines} {near sure : ℕ} {D : Type 0} {answers : D → ℕ → Op → ℕ → D → Type 0} (low : near ≤ sure) {old new : ParaState} {d e : D} {ask : Ask} where
-  pub hears_wider : Hears para_moves answers n (shown_lines lines near) old d ask new e → GoesHearing para_moves answers n (shown_lines lines sure) old d ask new e
+module _ {n : ℕ} {lines : Lines} {near safe_until : ℕ} {D : Type 0} {answers : D → ℕ → Op → ℕ → D → Type 0} (low : near ≤ safe_until) {old new : ParaState} {d e : D} {ask : Ask} where
+  pub hears_wider : Hears para_transitions answers n (shown_lines lines near) old d ask new e → GoesHearing para_transitions answers n (shown_lines lines safe_until) old d ask new e
   hears_wider hears = record { accesses = hears.accesses; last = hears.last; talks = talks_wider n lines answers low hears.accesses old hears.last d e hears.talks; asked = hears.asked }
 
-  pub goes_on_wider : {last : ParaState} → (j : ℕ) × Talks para_moves answers n (shown_lines lines near) j old d last e
-      → LooksOn n (shown_lines lines sure) last ask new → GoesHearing para_moves answers n (shown_lines lines sure) old d ask new e
+  pub goes_on_wider : {last : ParaState} → (j : ℕ) × Talks para_transitions answers n (shown_lines lines near) j old d last e
+      → LooksOn n (shown_lines lines safe_until) last ask new → GoesHearing para_transitions answers n (shown_lines lines safe_until) old d ask new e
   goes_on_wider {last} came goes =
-      let all = talks_on para_moves answers n lines sure came.0 0 old last goes.last d e e (talks_wider n lines answers low came.0 old last d e came.1) (refl, (goes.steps, goes.looks)) in
+      let all = talks_on para_transitions answers n lines safe_until came.0 0 old last goes.last d e e (talks_wider n lines answers low came.0 old last d e came.1) (refl, (goes.steps, goes.looks)) in
       record { accesses = all.0; last = goes.last; talks = all.1; asked = goes.asked }
 
 -- ---- Rolled back
@@ -141,15 +141,15 @@ shown_at s held is = by s.bus.is_held refl
     by false e = refl
     by true e = let no : true ≡ false = sym (held e) ∙ goes_on s.cpu is in cc
 
-to_look_held : (n : ℕ) (v : Shown) (s u : ParaState) → IsHeldAtLook s → ToLook para_moves n v s u → IsHeldAtLook u
+to_look_held : (n : ℕ) (v : Shown) (s u : ParaState) → IsHeldAtLook s → ToLook para_transitions n v s u → IsHeldAtLook u
 to_look_held n v s u held looks =
     let last : ParaState = looks.goes.last in
-    let there : IsHeldAtLook last = looks_held n v.lines 0 looks.goes.steps s last held (silent_all para_moves n v.lines 0 looks.goes.steps s last looks.goes.runs) in
+    let there : IsHeldAtLook last = looks_held n v.lines 0 looks.goes.steps s last held (silent_all para_transitions n v.lines 0 looks.goes.steps s last looks.goes.runs) in
     rw looks.next (next_held looks.last (Some (Seen v.lines)) (rw looks.goes.asked.3 there))
 
 -- by the registers that are shown
-pub passes_held : (passing : Passing) (n : ℕ) (v : Shown) (k : ℕ) (s last : ParaState) → IsHeldAtLook s → Passes para_moves (over_at (λ b at. peek_of b.ram b.rom b.rom_in at) passing) n v k s last →
-    Passes para_moves (λ (x : ParaState). IsOver passing x.due (shown_regs x).pc (para_peek x)) n v k s last × IsHeldAtLook last
+pub passes_held : (passing : Passing) (n : ℕ) (v : Shown) (k : ℕ) (s last : ParaState) → IsHeldAtLook s → Passes para_transitions (over_at (λ b at. peek_of b.ram b.rom b.rom_in at) passing) n v k s last →
+    Passes para_transitions (λ (x : ParaState). IsOver passing x.due (shown_regs x).pc (para_peek x)) n v k s last × IsHeldAtLook last
 passes_held passing n v zero s last held h = (h, subst IsHeldAtLook h held)
 passes_held passing n v (suc k) s last held h =
     let u : ParaState = h.1.0 in

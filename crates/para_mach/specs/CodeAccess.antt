@@ -8,7 +8,7 @@ use Rattle.tube_machine.specs.declared.bus.Unable.{Unable}
 use Rattle.tube_machine.specs.declared.bus.Unable.TheVariants.{Tube, Full}
 use Rattle.tube_machine.specs.Step.{asks_by}
 use Rattle.para_mach.specs.State.{ParaBusState}
-use Rattle.para_mach.specs.Step.{para_wiring, is_tube, memory, ram_after, rom_in_after}
+use Rattle.para_mach.specs.Step.{para_bus_model, is_tube, memory, ram_after, rom_in_after}
 
 -- a read yields the byte of its address, or asks the Tube for it
 abbrev pub IsRead : List ℕ → List ℕ → Bool → ℕ → Result ℕ Unable → Type 0
@@ -24,6 +24,6 @@ byte_shown ram rom rom_in (Write at byte) = 0
 -- an access is done, or asks the Tube
 abbrev pub IsExchanged : List ℕ → List ℕ → Bool → Cycle → Result ℕ Unable → List ℕ → Type 0
 IsExchanged ram rom rom_in c (Ok byte) new =
-    ((b : ParaBusState) → asks_by para_wiring b (Some c) ≡ None) × (byte ≡ byte_shown ram rom rom_in c) × (new ≡ ram_after ram c) × (rom_in ≡ rom_in_after rom_in c)
-IsExchanged ram rom rom_in c (Err (Tube o)) new = ((b : ParaBusState) → asks_by para_wiring b (Some c) ≡ Some (access o)) × (new ≡ ram)
+    ((b : ParaBusState) → asks_by para_bus_model b (Some c) ≡ None) × (byte ≡ byte_shown ram rom rom_in c) × (new ≡ ram_after ram c) × (rom_in ≡ rom_in_after rom_in c)
+IsExchanged ram rom rom_in c (Err (Tube o)) new = ((b : ParaBusState) → asks_by para_bus_model b (Some c) ≡ Some (access o)) × (new ≡ ram)
 IsExchanged ram rom rom_in c (Err Full) new = new ≡ ram

@@ -7,9 +7,9 @@ use Rattle.cpu65c02.specs.Sequences.{next_cycle}
 use Rattle.para_mach.specs.declared.notes.Stood.{Stood}
 use Rattle.tube_machine.specs.Step.{at_of}
 use Rattle.tube_party.specs.declared.party.Ask.{Ask}
-use Rattle.tube_party.specs.Moves.{Shown, Looks, IsAsk}
+use Rattle.tube_party.specs.Transitions.{Shown, Looks, IsAsk}
 use Rattle.para_mach.specs.State.{ParaBusState, ParaState}
-use Rattle.para_mach.specs.Step.{para_moves}
+use Rattle.para_mach.specs.Step.{para_transitions}
 
 -- the RAM before writes, from the RAM after them and the former bytes of their addresses, the
 -- oldest first
@@ -37,10 +37,10 @@ IsHeldAtLook s = s.bus.is_held ≡ true → is_none (next_cycle s.cpu) ≡ true
 pub record LooksOn (n : ℕ) (v : Shown) (old : ParaState) (ask : Ask) (new : ParaState) : Type 0 where
   pub steps : ℕ
   pub last : ParaState
-  pub looks : Looks para_moves n v steps old last
-  pub asked : IsAsk para_moves n last ask new
+  pub looks : Looks para_transitions n v steps old last
+  pub asked : IsAsk para_transitions n last ask new
 
 -- a tick below which a run from a step at tick `due` has room for its notes: a write takes a cycle,
 -- and a sequence has at most 16 accesses
 abbrev pub IsNear : Clock → ℕ → ℕ → ℕ → ℕ → Type 0
-IsNear clock sure due room near = (near ≤ sure) × (near ≤ due + para clock * (min room 65536 - 16))
+IsNear clock safe_until due room near = (near ≤ safe_until) × (near ≤ due + para clock * (min room 65536 - 16))

@@ -7,8 +7,8 @@ use Rattle.op_table.specs.declared.names.Part.TheVariants.{Cmos}
 use Rattle.cpu_alu.specs.declared.Cycle.{Cycle}
 use Rattle.cpu_alu.specs.declared.Cycle.TheVariants.{Read, Write}
 use Rattle.tube_chip.specs.declared.Answer.{Answer}
-use Rattle.tube_party.specs.Moves.{Moves}
-use Rattle.tube_machine.specs.Wiring.{Wiring}
+use Rattle.tube_party.specs.Transitions.{Transitions}
+use Rattle.tube_machine.specs.BusModel.{BusModel}
 use Rattle.tube_machine.specs.Step as at
 use Rattle.para_mach.specs.State.{ParaBusState, ParaState}
 
@@ -34,8 +34,8 @@ rom_in_after rom_in (Write at byte) = rom_in && not (is_tube at)
 -- A reset is to be taken if the Tube's count of resets is not the one taken, an NMI by its count,
 -- an IRQ by its line. A reset switches the boot ROM in, and takes the count of NMIs too. No break
 -- comes, and an access takes one cycle.
-abbrev pub para_wiring : Wiring ParaBusState
-para_wiring = record {
+abbrev pub para_bus_model : BusModel ParaBusState
+para_bus_model = record {
   cycle = λ b. para b.clock;
   has_tube = λ b. true;
   is_tube = is_tube;
@@ -56,8 +56,8 @@ para_wiring = record {
 
 -- what a step of the second processor is
 abbrev pub next_state : ParaState → Option Answer → ParaState
-next_state s answer = at.next_state Cmos para_wiring s answer
+next_state s answer = at.next_state Cmos para_bus_model s answer
 
 -- The steps of the second processor.
-abbrev pub para_moves : Moves ParaState
-para_moves = at.moves_of Cmos para_wiring
+abbrev pub para_transitions : Transitions ParaState
+para_transitions = at.transitions_of Cmos para_bus_model

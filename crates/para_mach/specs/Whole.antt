@@ -8,7 +8,7 @@ use Rattle.tube_chip.specs.declared.Lines.{Lines}
 use Rattle.beeb_bits.specs.Clock.{para}
 use Rattle.tube_machine.specs.Whole.{later, IsMemory, IsAtRest, StaysAtRest}
 use Rattle.para_mach.specs.State.{ParaBusState}
-use Rattle.para_mach.specs.Step.{is_tube, para_wiring}
+use Rattle.para_mach.specs.Step.{is_tube, para_bus_model}
 
 -- reads below the Tube, and writes below the boot ROM
 abbrev pub plain_read : ℕ → Bool
@@ -51,10 +51,10 @@ twice : (tube : Bool) → tube ≡ false → (b : ParaBusState) (t u at x y : �
 twice false is b t u at x y high = twice-apart b t u at x y high
 twice true is b t u at x y high = absurd (cc)
 
-read-leaves : (b : ParaBusState) (at : ℕ) → plain_read at ≡ true → para_wiring.after b (Read at) ≡ b
+read-leaves : (b : ParaBusState) (at : ℕ) → plain_read at ≡ true → para_bus_model.after b (Read at) ≡ b
 read-leaves b at low = rw (read-apart at low, and-true b.rom_in)
 
-pub para_memory : IsMemory para_wiring plain_read plain_write
+pub para_memory : IsMemory para_bus_model plain_read plain_write
 para_memory = record {
   plain = record {
     low_read = λ at low. lt-ltb at 0xFEF8 (omega (arith, low));
@@ -70,10 +70,10 @@ para_memory = record {
   write_closed = λ b at byte low. refl;
 }
 
-at-rest : (b : ParaBusState) (l : Lines) (masks : Bool) → l.nmis ≡ b.nmis → b.is_held ≡ false → (l.pirq && not masks) ≡ false → IsAtRest para_wiring b l masks
+at-rest : (b : ParaBusState) (l : Lines) (masks : Bool) → l.nmis ≡ b.nmis → b.is_held ≡ false → (l.pirq && not masks) ≡ false → IsAtRest para_bus_model b l masks
 at-rest b l masks nmis held irq = grind arith
 
-pub para_rests : StaysAtRest para_wiring plain_write rests
+pub para_rests : StaysAtRest para_bus_model plain_write rests
 para_rests = record {
   looks = λ b l masks far t rest low. let there = rest (omega (arith, low)) in at-rest (record b { closed = max (t + 1) b.closed }) l masks there.0 there.1 there.2;
   close = λ b l masks far t rest low. rest;

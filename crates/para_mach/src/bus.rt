@@ -45,7 +45,7 @@ impl Model for ParaBus {
 impl<N: Notes> TubeBus<N> for ParaBus {
     ghost use Rattle.std.specs.Prelude.{refl};
     ghost use Rattle.para_mach.specs.State.{ParaBusState};
-    ghost use Rattle.para_mach.specs.Step.{para_wiring};
+    ghost use Rattle.para_mach.specs.Step.{para_bus_model};
     ghost use Rattle.para_mach.specs.Lawful.{para_wired, para_plain, is_plain};
     ghost use Rattle.para_mach.specs.Whole.{plain_read, plain_write, rests, para_memory, para_rests};
     ghost use Rattle.para_mach.specs.Peek.{peek_of};
@@ -55,7 +55,7 @@ impl<N: Notes> TubeBus<N> for ParaBus {
 
     ghost state = { λ b. b };
 
-    ghost wiring = { para_wiring };
+    ghost bus_model = { para_bus_model };
 
     ghost wired = { para_wired };
 
@@ -225,7 +225,7 @@ impl<N: Notes> Plain<N> for ParaBus {
     ghost use Rattle.beeb_bits.specs.Clock.{para};
     ghost use Rattle.tube_machine.specs.Whole.{reach_of, comes_later};
     ghost use Rattle.para_mach.specs.State.{ParaBusState};
-    ghost use Rattle.para_mach.specs.Step.{para_wiring};
+    ghost use Rattle.para_mach.specs.Step.{para_bus_model};
     ghost use Rattle.para_mach.specs.Whole.{plain_read, plain_write, para_memory};
     ghost use Rattle.para_mach.specs.CodeNotes.{part_kept};
 
@@ -233,7 +233,7 @@ impl<N: Notes> Plain<N> for ParaBus {
 
     ghost state = { λ b. b };
 
-    ghost reach = { reach_of para_wiring plain_read plain_write };
+    ghost reach = { reach_of para_bus_model plain_read plain_write };
 
     ghost is_plain = { para_memory.plain };
 

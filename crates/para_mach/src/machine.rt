@@ -1,10 +1,10 @@
 //! The machine.
 ghost use Rattle.std.specs.Prelude.{◌≡◌, ◌≤◌, ◌≢◌, ◌↔◌, ◌⊎◌, ◌<◌, ◌+◌, ◌-◌, ◌^◌, ℕ, IfOk, IfErr, IfSome, length, Err, None, MatchOption, IsSome, is_none, true, vec_len, vec_capacity};
 ghost use Rattle.cpu65c02.specs.Sequences.{next_cycle, starting};
-ghost use Rattle.tube_party.specs.Moves.{GoesHearing, shown_lines};
+ghost use Rattle.tube_party.specs.Transitions.{GoesHearing, shown_lines};
 ghost use Rattle.tube_machine.specs.Passing.{IsOver, Passes};
 ghost use Rattle.para_mach.specs.State.{power_on, shown_regs};
-ghost use Rattle.para_mach.specs.Step.{para_moves, para_wiring};
+ghost use Rattle.para_mach.specs.Step.{para_transitions, para_bus_model};
 ghost use Rattle.para_mach.specs.Peek.{para_peek};
 ghost use Rattle.para_mach.specs.CodeNotes.{LooksOn, IsNoted, IsNear, IsHeldAtLook, part_kept, put_back};
 ghost use Rattle.para_mach.specs.Lawful.{para_lawful, para_permitted};
@@ -22,7 +22,7 @@ use tube_chip::{Answer, Lines};
 use tube_machine::{
     Left, Passing, advance_at, advance_seeing, answer, carry_on, look, pass_over, take_lines,
 };
-use tube_party::{Ask, Desk, NO_LINES, Party, Rewinds};
+use tube_party::{Ask, TubePort, NO_LINES, Party, Rewinds};
 
 /// The reason why no second processor can be made.
 #[derive(Clone, Copy, Debug, PartialEq, Eq, Error)]
@@ -147,7 +147,7 @@ impl ParaMachine {
     /// FEFF, where the Tube answers.
     pub fn peek(&self, at: u16) -> Option<u8>
         ensures value { result ≡ para_peek self.now at }
-        ensures read { IfSome result (λ byte. (t : ℕ) → byte ≡ para_wiring.answer self.now.bus t at) }
+        ensures read { IfSome result (λ byte. (t : ℕ) → byte ≡ para_bus_model.answer self.now.bus t at) }
         ensures none { (result ≡ None) ↔ ((0xFEF8 ≤ at) × (at ≤ 0xFEFF)) }
     {
         self.bus.memory.peek(at)
@@ -157,10 +157,10 @@ impl ParaMachine {
     /// before `until` and `safe_until`. It may stop at any start. In the middle of an instruction
     /// it does nothing.
     #[inline(always)]
-    pub fn pass(&mut self, until: Tick, lines: &Lines, sure: Tick, passing: Passing)
+    pub fn pass(&mut self, until: Tick, lines: &Lines, safe_until: Tick, passing: Passing)
         requires { until.0 ≤ 2 ^ 30 }
-        ensures { (k : ℕ) × Passes para_moves (λ s. IsOver passing s.due (shown_regs s).pc (para_peek s)) until.0
-            (shown_lines lines.now sure.0) k self.old self.new }
+        ensures { (k : ℕ) × Passes para_transitions (λ s. IsOver passing s.due (shown_regs s).pc (para_peek s)) until.0
+            (shown_lines lines.now safe_until.0) k self.old self.new }
     {
         pass_over::<NoNotes, Cpu, ParaBus>(
             &mut self.cpu,
@@ -169,7 +169,7 @@ impl ParaMachine {
             &mut NoNotes,
             until,
             lines,
-            sure,
+            safe_until,
             passing,
         );
     }
@@ -189,24 +189,24 @@ impl ParaMachine {
 
     // Returns a tick, not above `safe_until`, below which a run from here has room for its notes.
     #[inline(always)]
-    fn near(&self, sure: Tick, undo_log: &UndoLog) -> Tick
+    fn near(&self, safe_until: Tick, undo_log: &UndoLog) -> Tick
         ensures { let room = vec_capacity undo_log.now.stood - vec_len undo_log.now.stood in
-            IsNear self.now.bus.clock sure.0 self.now.due room result.0 }
+            IsNear self.now.bus.clock safe_until.0 self.now.due room result.0 }
     {
         let stride = self.bus.clock.para() * undo_log.room().saturating_sub(16);
-        Tick(sure.0.min(self.due.saturating_add(stride)))
+        Tick(safe_until.0.min(self.due.saturating_add(stride)))
     }
 
     // Goes past the looks that find the reset line on, with the processor held. Returns the next
     // ask, which is a look too if there is one.
     #[inline(never)]
-    fn hold(&mut self, until: Tick, lines: &Lines, sure: Tick) -> Ask
+    fn hold(&mut self, until: Tick, lines: &Lines, safe_until: Tick) -> Ask
         requires room { until.0 ≤ 2 ^ 30 }
         requires looks { next_cycle self.old.cpu ≡ None }
-        ensures goes { LooksOn until.0 (shown_lines lines.now sure.0) self.old result self.new }
+        ensures goes { LooksOn until.0 (shown_lines lines.now safe_until.0) self.old result self.new }
         ensures kept { part_kept (self.new).bus.ram (self.new).bus ≡ part_kept (self.old).bus.ram (self.old).bus }
     {
-        let bound = until.0.min(sure.0);
+        let bound = until.0.min(safe_until.0);
         if lines.prst && lines.resets != self.bus.resets {
             while self.due < bound {
                 take_lines::<NoNotes, Cpu, ParaBus>(
@@ -223,23 +223,23 @@ impl ParaMachine {
     // Runs the machine, with the accesses that the port answers, and notes its steps. It may stop
     // at any look.
     #[inline(never)]
-    fn go_noting<K: Desk>(
+    fn go_noting<K: TubePort>(
         &mut self,
         until: Tick,
         lines: &Lines,
-        sure: Tick,
+        safe_until: Tick,
         undo_log: &mut UndoLog,
-        desk: &mut K,
+        port: &mut K,
     ) -> Ask
         requires ticks { until.0 ≤ 2 ^ 30 }
         requires room { 16 ≤ vec_capacity undo_log.old.stood - vec_len undo_log.old.stood }
-        ensures goes { GoesHearing para_moves K.answers until.0 (shown_lines lines.now sure.0) self.old (K.state desk.old) result self.new (K.state desk.new) }
+        ensures goes { GoesHearing para_transitions K.answers until.0 (shown_lines lines.now safe_until.0) self.old (K.state port.old) result self.new (K.state port.new) }
         ensures noted { let old = self.old.bus in
             let new = self.new.bus in
             part_kept (put_back undo_log.new.stood.items new.ram) new
             ≡ part_kept (put_back undo_log.old.stood.items old.ram) old }
     {
-        let near = self.near(sure, undo_log);
+        let near = self.near(safe_until, undo_log);
         let left = carry_on::<UndoLog, Cpu, ParaBus, K>(
             &mut self.cpu,
             &mut self.bus,
@@ -248,11 +248,11 @@ impl ParaMachine {
             until,
             lines,
             near,
-            desk,
+            port,
         );
         match left {
             Left::Asked(ask) => ask,
-            Left::Look => self.hold(until, lines, sure),
+            Left::Look => self.hold(until, lines, safe_until),
             Left::Full => unreachable!(),
         }
     }
@@ -266,7 +266,7 @@ impl Party for ParaMachine {
 
     ghost state = { λ m. m };
 
-    ghost moves = { para_moves };
+    ghost transitions = { para_transitions };
 
     ghost plays = { λ side. true };
 
@@ -286,7 +286,7 @@ impl Party for ParaMachine {
     }
 
     #[inline(always)]
-    fn advance_seeing(&mut self, until: Tick, lines: &Lines, sure: Tick) -> Ask {
+    fn advance_seeing(&mut self, until: Tick, lines: &Lines, safe_until: Tick) -> Ask {
         advance_seeing::<NoNotes, Cpu, ParaBus>(
             &mut self.cpu,
             &mut self.bus,
@@ -294,12 +294,12 @@ impl Party for ParaMachine {
             &mut NoNotes,
             until,
             lines,
-            sure,
+            safe_until,
         )
     }
 
     #[inline(always)]
-    fn advance_at<K: Desk>(&mut self, until: Tick, lines: &Lines, sure: Tick, desk: &mut K) -> Ask {
+    fn advance_at<K: TubePort>(&mut self, until: Tick, lines: &Lines, safe_until: Tick, port: &mut K) -> Ask {
         advance_at::<NoNotes, Cpu, ParaBus, K>(
             &mut self.cpu,
             &mut self.bus,
@@ -307,8 +307,8 @@ impl Party for ParaMachine {
             &mut NoNotes,
             until,
             lines,
-            sure,
-            desk,
+            safe_until,
+            port,
         )
     }
 
@@ -337,40 +337,40 @@ impl Rewinds for ParaMachine {
     }
 
     #[inline(always)]
-    fn advance_noting<K: Desk>(
+    fn advance_noting<K: TubePort>(
         &mut self,
         until: Tick,
         lines: &Lines,
-        sure: Tick,
+        safe_until: Tick,
         past: &mut Past,
-        desk: &mut K,
+        port: &mut K,
     ) -> Option<Ask>
         requires { until.0 ≤ 2 ^ 30 }
         ensures some { IsSome result }
         ensures noted { let past = past.new in
-            MatchOption result ((self.new ≡ self.old) × (K.state desk.new ≡ K.state desk.old)) (λ ask.
-            GoesHearing para_moves K.answers until.0 (shown_lines lines.now sure.0) self.old (K.state desk.old) ask self.new (K.state desk.new)
+            MatchOption result ((self.new ≡ self.old) × (K.state port.new ≡ K.state port.old)) (λ ask.
+            GoesHearing para_transitions K.answers until.0 (shown_lines lines.now safe_until.0) self.old (K.state port.old) ask self.new (K.state port.new)
             × (roll_back_leaves past.cpu past.was_held past.due past.closed past.undo_log.stood.items self.new ≡ self.old)) }
     {
         // A machine that is held is noted too.
         self.mark(past);
-        Some(self.go_noting(until, lines, sure, &mut past.undo_log, desk))
+        Some(self.go_noting(until, lines, safe_until, &mut past.undo_log, port))
     }
 
     #[inline(always)]
-    fn advance_on<K: Desk>(
+    fn advance_on<K: TubePort>(
         &mut self,
         ask: Ask,
         until: Tick,
         lines: &Lines,
-        sure: Tick,
+        safe_until: Tick,
         past: &mut Past,
-        desk: &mut K,
+        port: &mut K,
     ) -> Ask {
         if past.undo_log.room() < FEWEST {
             return ask;
         }
-        self.go_noting(until, lines, sure, &mut past.undo_log, desk)
+        self.go_noting(until, lines, safe_until, &mut past.undo_log, port)
     }
 
     #[inline(never)]

@@ -12,7 +12,7 @@ use Rattle.tube_chip.proofs.Merged.{rises_tail}
 use Rattle.tube_trace.specs.declared.Entry.{Entry}
 use Rattle.tube_trace.specs.Entries.{accesses, event_of, events_of}
 use Rattle.tube_trace.specs.Text.{HasLine}
-use Rattle.tube_party.specs.Moves.{Moves}
+use Rattle.tube_party.specs.Transitions.{Transitions}
 use Rattle.tube_party.specs.Reference.{reference, IsTraceBelow, ReferenceIsTrace}
 use Rattle.tube_party.specs.ReplayLaws.{ReferenceIsReplayed}
 use Rattle.tube_party.specs.GoingOn.{entries_below, ShorterRunIsBeginning}
@@ -88,7 +88,7 @@ moment_by {n} {keep} {all} false is rises low =
       same = λ c le. below_kept keep all (All-weaker (IsFrom from) (IsFrom c) (λ e h. omega (arith, h, le)) (drop keep all) (behind keep all last rises));
     }
 
-module _ {S T : Type 0} (h : Moves S) (p : Moves T) (trace : ReferenceIsTrace h p) (replayed : ReferenceIsReplayed h p) (shorter : ShorterRunIsBeginning h p) (s : S) (t : T) where
+module _ {S T : Type 0} (h : Transitions S) (p : Transitions T) (trace : ReferenceIsTrace h p) (replayed : ReferenceIsReplayed h p) (shorter : ShorterRunIsBeginning h p) (s : S) (t : T) where
   abbrev run : ℕ → List Entry
   run n = accesses (reference h p s t n).list
 
@@ -107,7 +107,7 @@ module _ {S T : Type 0} (h : Moves S) (p : Moves T) (trace : ReferenceIsTrace h 
         },
       )
 
-pub saved_run : {S T : Type 0} {h : Moves S} {p : Moves T} → ReferenceIsTrace h p → ReferenceIsReplayed h p → ShorterRunIsBeginning h p → SavedRunIsResumed h p
+pub saved_run : {S T : Type 0} {h : Transitions S} {p : Transitions T} → ReferenceIsTrace h p → ReferenceIsReplayed h p → ShorterRunIsBeginning h p → SavedRunIsResumed h p
 saved_run {h} {p} trace replayed shorter s t n keep =
     let all : List Entry = accesses (reference h p s t n).list in
     let is : IsTraceBelow n all = trace s t n in

@@ -4,7 +4,7 @@ use Rattle.beeb_bits.specs.declared.Side.TheVariants.{Host, Para}
 use Rattle.tube_trace.specs.declared.Entry.{Entry}
 use Rattle.tube_trace.specs.Entries.{accesses}
 use Rattle.tube_party.specs.declared.replaying.Doing.{Doing}
-use Rattle.tube_party.specs.Moves.{Moves}
+use Rattle.tube_party.specs.Transitions.{Transitions}
 use Rattle.tube_party.specs.Replay.{replay_of}
 use Rattle.tube_party.specs.Reference.{reference, IsTraceBelow}
 use Rattle.tube_party.specs.GoingOn.{entries_below}
@@ -16,12 +16,12 @@ host_first (Some place) para = Some place
 
 -- The first difference between two parties and these accesses, up to a tick: that of the host's
 -- replay, or of the parasite's if the host's meets none.
-abbrev pub first_difference : {S T : Type 0} → Moves S → Moves T → List Entry → ℕ → S → T → Option (ℕ × Option Doing)
+abbrev pub first_difference : {S T : Type 0} → Transitions S → Transitions T → List Entry → ℕ → S → T → Option (ℕ × Option Doing)
 first_difference h p entries at s t = host_first (replay_of h Host entries at s).place (replay_of p Para entries at t).place
 
 -- The accesses that a session has of two parties, up to a moment: they are a trace, and up to each
 -- tick that is not past the moment the parties do not differ from the accesses below the tick.
-pub record IsResumed {S T : Type 0} (h : Moves S) (p : Moves T) (s : S) (t : T) (entries : List Entry) (at : ℕ) : Type 0 where
+pub record IsResumed {S T : Type 0} (h : Transitions S) (p : Transitions T) (s : S) (t : T) (entries : List Entry) (at : ℕ) : Type 0 where
   pub legal : IsTraceBelow at entries
   pub legal_before : (c : ℕ) → c ≤ at → IsTraceBelow c (entries_below c entries)
   pub agree : (c : ℕ) → c ≤ at → first_difference h p (entries_below c entries) c s t ≡ None
@@ -36,7 +36,7 @@ abbrev pub moment_of : ℕ → ℕ → List Entry → ℕ
 moment_of n keep all = if nat_le (length all) keep then n else last_tick (take keep all)
 
 -- The parties repeat the stored accesses of a run that lie below its moment.
-abbrev pub SavedRunIsResumed : {S T : Type 0} → Moves S → Moves T → Type 0
+abbrev pub SavedRunIsResumed : {S T : Type 0} → Transitions S → Transitions T → Type 0
 SavedRunIsResumed {S} {T} h p =
     (s : S) (t : T) (n keep : ℕ) →
     let all : List Entry = accesses (reference h p s t n).list in

@@ -18,7 +18,7 @@ pub fn file_reads_back()
 /// earlier tick.
 pub fn saved_run_is_resumed<H: Party, P: Party>()
     requires sides { TakeSides H.plays P.plays }
-    ensures { SavedRunIsResumed H.moves P.moves }
+    ensures { SavedRunIsResumed H.transitions P.transitions }
 {
     reference_is_trace::<H, P>();
     reference_is_replayed::<H, P>();

@@ -43,14 +43,14 @@ pub fn resume<H: Party, P: Rewinds>(
     requires ticks { (at.0 ≤ n.0) × (n.0 ≤ MOST) }
     requires sides { TakeSides H.plays P.Party.plays }
     requires entries { IsTraceBelow at.0 entries.now }
-    requires closed { AreClosedWithin H.moves P.Party.moves (H.state host) (P.Party.state para) at.0 }
-    ensures played { let w = reference H.moves P.Party.moves (H.state host) (P.Party.state para) n.0 in
+    requires closed { AreClosedWithin H.transitions P.Party.transitions (H.state host) (P.Party.state para) at.0 }
+    ensures played { let w = reference H.transitions P.Party.transitions (H.state host) (P.Party.state para) n.0 in
         IfOk result (λ d. IsPlayed w keep (played_of H.state P.Party.state d)) }
     ensures agree { let s = H.state host in let t = P.Party.state para in
-        IfOk result (λ _. first_difference H.moves P.Party.moves entries.now at.0 s t ≡ None) }
+        IfOk result (λ _. first_difference H.transitions P.Party.transitions entries.now at.0 s t ≡ None) }
     ensures differs { let s = H.state host in let t = P.Party.state para in
         (line : ℕ) (doing : Option Doing) → result ≡ Err (Differs line doing) →
-        first_difference H.moves P.Party.moves entries.now at.0 s t ≡ Some (line, doing) }
+        first_difference H.transitions P.Party.transitions entries.now at.0 s t ≡ Some (line, doing) }
     ensures back { (h : H) (p : P) → result ≡ Err (NoMemory h p) → (h ≡ host) × (p ≡ para) }
 {
     let Ok(room) = Room::new(alloc, keep) else {

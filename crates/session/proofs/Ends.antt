@@ -4,16 +4,16 @@ use Rattle.beeb_bits.specs.declared.Side.TheVariants.{Host, Para}
 use Rattle.tube_chip.specs.State.{State}
 use Rattle.tube_chip.specs.Events.{merge, after, IsLegal}
 use Rattle.tube_trace.specs.Entries.{accesses}
-use Rattle.tube_cell.specs.Passes.{Carried}
-use Rattle.tube_party.specs.Moves.{Moves}
+use Rattle.tube_cell.specs.Passes.{PassState}
+use Rattle.tube_party.specs.Transitions.{Transitions}
 use Rattle.tube_party.specs.Reference.{reference, LegalMergeIsReference}
 use Rattle.tube_party.specs.OneThread.{Played, IsPlayed}
-use Rattle.session.specs.CodeStation.{place, Station}
+use Rattle.session.specs.CodeSideAndLog.{place, SideAndLog}
 use Rattle.session.specs.Work.{HasWorked}
 use Rattle.session.proofs.Merged.{sided, split}
 
 -- that of two sides with their logs
-abbrev left_as : {S T : Type 0} → Station S → Station T → State → Played S T
+abbrev left_as : {S T : Type 0} → SideAndLog S → SideAndLog T → State → Played S T
 left_as x y chip = record {
   host = x.at.state;
   para = y.at.state;
@@ -24,7 +24,7 @@ left_as x y chip = record {
   para_count = y.log.count;
 }
 
-pub ended : {S T : Type 0} {h : Moves S} {p : Moves T} → LegalMergeIsReference h p → (s : S) (t : T) {n keep : ℕ} (p1 q1 : Carried) {x : Station S} {y : Station T} {chip : State}
+pub ended : {S T : Type 0} {h : Transitions S} {p : Transitions T} → LegalMergeIsReference h p → (s : S) (t : T) {n keep : ℕ} (p1 q1 : PassState) {x : SideAndLog S} {y : SideAndLog T} {chip : State}
     → (p1.side ≡ Host) × (p1.events ≡ []) → (q1.side ≡ Para) × (q1.events ≡ [])
     → IsLegal (merge x.at.pass.events y.at.pass.events) → chip ≡ after (merge x.at.pass.events y.at.pass.events)
     → HasWorked h n keep (place s p1) x → HasWorked p n keep (place t q1) y → IsPlayed (reference h p s t n) keep (left_as x y chip)
@@ -44,6 +44,6 @@ ended {h} {p} law s t {n} {keep} p1 q1 {x} {y} {chip} xs ys legal chip_is wh wp 
     })
 
 -- the same run, with its parts by other names
-pub worked_as : {S : Type 0} (m : Moves S) {n n2 keep keep2 : ℕ} {s s2 : S} (p : Carried) {y : Station S} → n2 ≡ n → keep2 ≡ keep → s2 ≡ s
+pub worked_as : {S : Type 0} (m : Transitions S) {n n2 keep keep2 : ℕ} {s s2 : S} (p : PassState) {y : SideAndLog S} → n2 ≡ n → keep2 ≡ keep → s2 ≡ s
     → HasWorked m n2 keep2 (place s2 p) y → HasWorked m n keep (place s p) y
 worked_as m p en ek es w = rw (en, ek, es) at w

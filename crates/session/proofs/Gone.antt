@@ -6,34 +6,34 @@ use Rattle.tube_chip.specs.Events.{Event}
 use Rattle.tube_trace.specs.Entries.{accesses, entry_of}
 use Rattle.tube_cell.specs.declared.local.Readings.{Readings}
 use Rattle.tube_cell.specs.Views.{AllBelow}
-use Rattle.tube_cell.specs.Passes.{Carried, own_horizon, after_add}
+use Rattle.tube_cell.specs.Passes.{PassState, own_horizon, after_add}
 use Rattle.tube_party.specs.declared.log.Log.{Log}
 use Rattle.tube_party.specs.declared.party.Ask.{Ask}
 use Rattle.tube_party.specs.declared.party.Ask.TheVariants.{Nothing, Access, Look}
-use Rattle.tube_party.specs.Moves.{Moves, IsLawful, Runs, IsAsk, course}
+use Rattle.tube_party.specs.Transitions.{Transitions, IsLawful, Runs, IsAsk, execution}
 use Rattle.tube_party.specs.Logs.{at_most_one}
 use Rattle.session.specs.CodeSight.{byte_answer, readings_seen, observed_events}
-use Rattle.session.specs.CodeStation.{Station}
+use Rattle.session.specs.CodeSideAndLog.{SideAndLog}
 use Rattle.session.specs.CodeObserved.{HasObserved, IsOver}
 use Rattle.session.specs.CodeLookahead.{GoneOn}
 use Rattle.session.proofs.Observing.{none_late, stops_at, made}
 use Rattle.tube_cell.proofs.Law.{low_cons, low_nil}
 use Rattle.session.proofs.Runs.{along}
 
-module _ {S : Type 0} {m : Moves S} (lawful : IsLawful m) (side : Side) (n : ℕ) where
+module _ {S : Type 0} {m : Transitions S} (lawful : IsLawful m) (side : Side) (n : ℕ) where
   -- a run's events lie below its next step
-  pub events_low : (k : ℕ) (s : S) (events : List Event) (last : S) → Runs m side n k s (course events last) → (m.due s ≤ m.due last) × AllBelow (m.due last) events
+  pub events_low : (k : ℕ) (s : S) (events : List Event) (last : S) → Runs m side n k s (execution events last) → (m.due s ≤ m.due last) × AllBelow (m.due last) events
   events_low k s events last h =
       along m side n last (λ s b. (m.due s ≤ m.due last) × AllBelow (m.due last) b) (omega arith, low_nil)
       (λ s b _ _ r. let x = lawful.rises s None in let y = r.0 in (omega arith, r.1))
       (λ s e b _ t _ _ r. let x = lawful.rises s (Some e.answer) in (omega arith, low_cons e b (omega arith) r.1)) k s events h
 
   -- and below the end
-  pub events_under : (k : ℕ) (s : S) (events : List Event) (last : S) → Runs m side n k s (course events last) → AllBelow n events
+  pub events_under : (k : ℕ) (s : S) (events : List Event) (last : S) → Runs m side n k s (execution events last) → AllBelow n events
   events_under k s events last h = along m side n last (λ s b. AllBelow n b) low_nil (λ s b _ _ r. r) (λ s e b low t _ _ r. low_cons e b (omega arith) r) k s events h
 
   -- a run has at most as many accesses as ticks
-  pub events_few : (k : ℕ) (s : S) (events : List Event) (last : S) → Runs m side n k s (course events last) → length (accesses events) + m.due s ≤ m.due last
+  pub events_few : (k : ℕ) (s : S) (events : List Event) (last : S) → Runs m side n k s (execution events last) → length (accesses events) + m.due s ≤ m.due last
   events_few k s events last h =
       along m side n last (λ s b. length (accesses b) + m.due s ≤ m.due last) (omega arith)
       (λ s b _ _ r. let x = lawful.rises s None in omega arith)
@@ -64,7 +64,7 @@ module _ {S : Type 0} {m : Moves S} (lawful : IsLawful m) (side : Side) (n : ℕ
       omega arith
 
 -- A pass gets what its party will observe; then the party runs as long as it only observes.
-pub gone_on : {S : Type 0} {m : Moves S} (lawful : IsLawful m) {n : ℕ} {r : Readings} {t : ℕ} (x y : Station S) {ask : Ask} {q : Carried} {side : Side}
+pub gone_on : {S : Type 0} {m : Transitions S} (lawful : IsLawful m) {n : ℕ} {r : Readings} {t : ℕ} (x y : SideAndLog S) {ask : Ask} {q : PassState} {side : Side}
     → y.at.pass ≡ q → side ≡ x.at.pass.side → own_horizon x.at.pass ≤ m.due x.at.state → own_horizon x.at.pass ≤ n → t ≤ n
     → q ≡ after_add x.at.pass (observed_events m x.at.pass.side (readings_seen r) t t x.at.state)
     → ((u : ℕ) → own_horizon x.at.pass ≤ u → AllBelow u (observed_events m x.at.pass.side (readings_seen r) t t x.at.state) → own_horizon q ≤ u)

@@ -13,12 +13,12 @@ use Rattle.tube_cell.specs.Views.{AllBelow}
 use Rattle.tube_party.specs.declared.log.Log.{Log}
 use Rattle.tube_party.specs.declared.party.Ask.{Ask}
 use Rattle.tube_party.specs.declared.party.Ask.TheVariants.{Nothing, Access, Look}
-use Rattle.tube_party.specs.Moves.{Moves, IsLawful, Looks, Talks, Hears, GoesHearing, IsUnsure, shown_lines}
+use Rattle.tube_party.specs.Transitions.{Transitions, IsLawful, Looks, Talks, Hears, GoesHearing, IsUnsure, shown_lines}
 use Rattle.tube_party.specs.Logs.{HasNoted, none_noted}
 use Rattle.tube_side.specs.CodeSteps.{event_at}
-use Rattle.session.specs.declared.desk.StatusDesk.{StatusDesk}
+use Rattle.session.specs.declared.port.StatusPort.{StatusPort}
 use Rattle.session.specs.CodeSight.{byte_seen, byte_answer, readings_seen, IsSeen}
-use Rattle.session.specs.CodeDesk.{Shown, IsRead}
+use Rattle.session.specs.CodePort.{Shown, IsRead}
 use Rattle.session.specs.CodeObserved.{HasObserved, IsOver}
 use Rattle.tube_party.proofs.Runs.{Over, Asking, SomeRuns, runs_of, glances_of}
 use Rattle.session.proofs.Runs.{append}
@@ -34,7 +34,7 @@ pub record IsAt (side : Side) (r : Readings) (t : ℕ) (d : Shown) : Type 0 wher
 
 -- A party of a side went from one state to another: each query below the tick saw these readings,
 -- and accesses were noted.
-pub record HasGone {S : Type 0} (m : Moves S) (side : Side) (n : ℕ) (r : Readings) (t : ℕ) (old : S) (before : Log) (new : S) (after : Log) : Type 0 where
+pub record HasGone {S : Type 0} (m : Transitions S) (side : Side) (n : ℕ) (r : Readings) (t : ℕ) (old : S) (before : Log) (new : S) (after : Log) : Type 0 where
   pub events : List Event
   pub runs : SomeRuns m side n old events new
   pub seen : IsSeen (readings_seen r) events
@@ -45,7 +45,7 @@ pub record HasGone {S : Type 0} (m : Moves S) (side : Side) (n : ℕ) (r : Readi
 pub read_leaves : {side : Side} {r : Readings} {t tick : ℕ} {op : Op} {byte : ℕ} {d e : Shown} → IsAt side r t d → IsRead d tick op byte e → IsAt side r t e
 read_leaves at h = record { side_is = h.side_is ∙ at.side_is; status_is = h.status_is ∙ at.status_is; below_is = h.below_is ∙ at.below_is }
 
-module _ {S : Type 0} {m : Moves S} (lawful : IsLawful m) {side : Side} {n : ℕ} {r : Readings} {t : ℕ} where
+module _ {S : Type 0} {m : Transitions S} (lawful : IsLawful m) {side : Side} {n : ℕ} {r : Readings} {t : ℕ} where
   -- it stayed
   pub is_here : (s : S) (log : Log) → HasGone m side n r t s log s log
   is_here s log = record { events = []; runs = (zero, (refl, refl)); seen = tt; low = low_nil; noted = none_noted log }
@@ -111,7 +111,7 @@ module _ {S : Type 0} {m : Moves S} (lawful : IsLawful m) {side : Side} {n : ℕ
       (went.0, h.unsure, went.1)
 
   -- the port was left as it was
-  pub still_observed : {s new : S} {a : Log} {d e : StatusDesk} {ask : Ask} → e ≡ d → HasObserved m side n r t s a ask new d.log → HasObserved m side n r t s a ask new e.log
+  pub still_observed : {s new : S} {a : Log} {d e : StatusPort} {ask : Ask} → e ≡ d → HasObserved m side n r t s a ask new d.log → HasObserved m side n r t s a ask new e.log
   still_observed {s} {new} {a} {ask} is h = rw is h
 
   -- the read was done that was asked
@@ -125,7 +125,7 @@ module _ {S : Type 0} {m : Moves S} (lawful : IsLawful m) {side : Side} {n : ℕ
       (goes_on so_far one)
 
 -- what a party read at the port is what it observed
-pub heard : {S : Type 0} {m : Moves S} (lawful : IsLawful m) {side : Side} {n : ℕ} (r : Readings) {t : ℕ} {s : S} {d : Shown} {ask : Ask} {new : S} {e : Shown}
+pub heard : {S : Type 0} {m : Transitions S} (lawful : IsLawful m) {side : Side} {n : ℕ} (r : Readings) {t : ℕ} {s : S} {d : Shown} {ask : Ask} {new : S} {e : Shown}
     → d.side ≡ side → d.status ≡ r.status → d.below ≡ t → GoesHearing m IsRead n (shown_lines r.lines t) s d ask new e → HasObserved m side n r t s d.log ask new e.log
 heard lawful {side} {n} r {t} {s} {d} own shows at went =
     (hears_on lawful (record { side_is = own; status_is = shows; below_is = at }) (is_here lawful s d.log) went).0

@@ -1,9 +1,9 @@
 pub mod Runs
 pub mod Kept
-pub mod UnderWay
+pub mod InProgress
 pub mod Observing
 pub mod Gone
 pub mod Heard
-pub mod OnWay
+pub mod InSpeculation
 pub mod Merged
 pub mod Ends

@@ -3,7 +3,7 @@ use Rattle.std.proofs.Common.{ℕ, ◌≡◌, nat_lt, true, false, cond, refl, �
 use Rattle.beeb_bits.specs.declared.Side.{Side}
 use Rattle.beeb_bits.specs.declared.Side.TheVariants.{Host, Para}
 use Rattle.tube_chip.specs.Events.{Event, merge, put_in, of_side}
-use Rattle.tube_party.specs.Moves.{Moves, Runs, course}
+use Rattle.tube_party.specs.Transitions.{Transitions, Runs, execution}
 use Rattle.session.proofs.Runs.{along}
 
 -- all events are of this side
@@ -12,7 +12,7 @@ Sided side [] = Unit {0}
 Sided side (e ∷ events) = (e.side ≡ side) × Sided side events
 
 -- the events of a run are of its side
-pub sided : {S : Type 0} (r : Moves S) (side : Side) (n k : ℕ) (s last : S) (a : List Event) → Runs r side n k s (course a last) → Sided side a
+pub sided : {S : Type 0} (r : Transitions S) (side : Side) (n k : ℕ) (s last : S) (a : List Event) → Runs r side n k s (execution a last) → Sided side a
 sided r side n k s last a h = along r side n last (λ s b. Sided side b) tt (λ s b _ _ h. h) (λ s e b _ _ own _ h. (own, h)) k s a h
 
 -- these are the events of each side

@@ -15,7 +15,7 @@ use Rattle.tube_trace.specs.Entries.{accesses}
 use Rattle.tube_cell.specs.declared.local.Readings.{Readings}
 use Rattle.tube_cell.specs.Views.{AllBelow, below, is_observation, shown_to}
 use Rattle.tube_cell.specs.Steps.{Watches}
-use Rattle.tube_party.specs.Moves.{Moves, IsLawful, Runs, shown_lines, course}
+use Rattle.tube_party.specs.Transitions.{Transitions, IsLawful, Runs, shown_lines, execution}
 use Rattle.tube_side.specs.CodeSteps.{event_at}
 use Rattle.session.specs.CodeSight.{Sight, byte_seen, byte_answer, readings_seen, joins, observed_by, observed_events, IsSeen}
 use Rattle.tube_cell.proofs.Law.{by_lt, nat_lt-true, nat_lt-false, low_cons, low_head, low_nil, low_tail}
@@ -31,7 +31,7 @@ pub seen_on : (v : Sight) (xs ys : List Event) → IsSeen v xs → IsSeen v ys �
 seen_on v [] ys a b = b
 seen_on v (x ∷ xs) ys a b = (a.0, seen_on v xs ys a.1 b)
 
-module _ {S : Type 0} {m : Moves S} (lawful : IsLawful m) (side : Side) (v : Sight) where
+module _ {S : Type 0} {m : Transitions S} (lawful : IsLawful m) (side : Side) (v : Sight) where
   abbrev silent : S → S
   silent s = m.next s None
 
@@ -145,7 +145,7 @@ module _ {S : Type 0} {m : Moves S} (lawful : IsLawful m) (side : Side) (v : Sig
 
     -- If its events are below the limit, and nothing is observed below it at its end, they are what
     -- is observed.
-    pub made : (k fuel : ℕ) (s : S) (events : List Event) → Runs m side n k s (course events last) → IsSeen v events → AllBelow limit events → limit ≤ m.due s + fuel
+    pub made : (k fuel : ℕ) (s : S) (events : List Event) → Runs m side n k s (execution events last) → IsSeen v events → AllBelow limit events → limit ≤ m.due s + fuel
         → events ≡ observed limit fuel s
     made k fuel s events runs seen low far =
         along m side n last (λ s es. IsSeen v es → AllBelow limit es → (more : ℕ) → limit ≤ m.due s + more → es ≡ observed limit more s) (λ _ _ more _. sym (stops more))
@@ -164,14 +164,14 @@ module _ {S : Type 0} {m : Moves S} (lawful : IsLawful m) (side : Side) (v : Sig
 
   module _ (n : ℕ) (lines : Lines) (sees_lines : v look ≡ Some (Seen lines)) where
     -- its events: each is a look below a tick, and sees the lines
-    pub record IsLooks (sure : ℕ) (s last : S) : Type 0 where
+    pub record IsLooks (safe_until : ℕ) (s last : S) : Type 0 where
       pub events : List Event
       pub runs : Steps m side n last s events
       pub seen : IsSeen v events
       pub silent : accesses events ≡ []
-      pub low : AllBelow sure events
+      pub low : AllBelow safe_until events
 
-    pub looked : {sure : ℕ} {last s : S} → Glances m n (shown_lines lines sure) last s → IsLooks sure s last
+    pub looked : {safe_until : ℕ} {last s : S} → Glances m n (shown_lines lines safe_until) last s → IsLooks safe_until s last
     looked Here = record { events = []; runs = Over; seen = tt; silent = refl; low = low_nil }
     looked (Past low none on) =
         let r = looked on in
@@ -236,7 +236,7 @@ readings_show c side is = rw is shows
     shows (access op) a e = access_shows c side op a e
 
 -- what a side will observe, as its chip shows it
-pub watches_shown : {S : Type 0} {m : Moves S} (lawful : IsLawful m) (side : Side) (c : State) {r : Readings} (end : ℕ) (s : S) (from : ℕ) {events : List Event}
+pub watches_shown : {S : Type 0} {m : Transitions S} (lawful : IsLawful m) (side : Side) (c : State) {r : Readings} (end : ℕ) (s : S) (from : ℕ) {events : List Event}
     → r ≡ shown_to side c → events ≡ observed_events m side (readings_seen r) end end s → from ≤ m.due s → Watches side from c events end
 watches_shown lawful side c {r} end s from shown is le =
     rw is (watches lawful side (readings_seen r) c end end s from (readings_show c side shown) le)

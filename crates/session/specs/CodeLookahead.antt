@@ -4,19 +4,19 @@ use Rattle.tube_chip.specs.Events.{Event}
 use Rattle.tube_trace.specs.Entries.{accesses}
 use Rattle.tube_cell.specs.Passes.{own_horizon, after_add}
 use Rattle.tube_party.specs.declared.party.Ask.{Ask}
-use Rattle.tube_party.specs.Moves.{Moves, Runs, IsAsk, course}
+use Rattle.tube_party.specs.Transitions.{Transitions, Runs, IsAsk, execution}
 use Rattle.tube_party.specs.Logs.{HasNoted}
 use Rattle.tube_side.specs.CodeSteps.{all_events, SameSeat, HasWaited}
-use Rattle.session.specs.CodeStation.{Station}
+use Rattle.session.specs.CodeSideAndLog.{SideAndLog}
 
 -- The party did steps that ask nothing, and observations that the pass's chip answers. These joined
 -- its unpublished events, and the accesses among them were noted. `ask` comes next. Its step and n
 -- are not below the pass's horizon.
-pub record GoneOn {S : Type 0} (m : Moves S) (n : ℕ) (x : Station S) (ask : Ask) (y : Station S) : Type 0 where
+pub record GoneOn {S : Type 0} (m : Transitions S) (n : ℕ) (x : SideAndLog S) (ask : Ask) (y : SideAndLog S) : Type 0 where
   pub events : List Event
   pub steps : ℕ
   pub last : S
-  pub runs : Runs m x.at.pass.side n steps x.at.state (course events last)
+  pub runs : Runs m x.at.pass.side n steps x.at.state (execution events last)
   pub asked : IsAsk m n last ask y.at.state
   pub noted : HasNoted (accesses events) x.log y.log
   pub pass : y.at.pass ≡ after_add x.at.pass events
@@ -26,11 +26,11 @@ pub record GoneOn {S : Type 0} (m : Moves S) (n : ℕ) (x : Station S) (ask : As
 -- The party did steps that ask nothing, and steps that the side answered itself. These were added
 -- to the pass's events, and the accesses among them were noted. `ask` comes next. Its step and n
 -- are not below the pass's horizon.
-pub record MovedOn {S : Type 0} (m : Moves S) (n : ℕ) (x : Station S) (ask : Ask) (y : Station S) : Type 0 where
+pub record MovedOn {S : Type 0} (m : Transitions S) (n : ℕ) (x : SideAndLog S) (ask : Ask) (y : SideAndLog S) : Type 0 where
   pub added : List Event
   pub steps : ℕ
   pub last : S
-  pub runs : Runs m x.at.pass.side n steps x.at.state (course added last)
+  pub runs : Runs m x.at.pass.side n steps x.at.state (execution added last)
   pub asked : IsAsk m n last ask y.at.state
   pub noted : HasNoted (accesses added) x.log y.log
   pub same : SameSeat x.at.pass y.at.pass
@@ -39,7 +39,7 @@ pub record MovedOn {S : Type 0} (m : Moves S) (n : ℕ) (x : Station S) (ask : A
   pub open_ : own_horizon y.at.pass ≤ n
 
 -- No step was done: only what the pass knows may have changed.
-pub record HasStayed {S : Type 0} (x y : Station S) : Type 0 where
+pub record HasStayed {S : Type 0} (x y : SideAndLog S) : Type 0 where
   pub waited : HasWaited x.at.pass y.at.pass
   pub ahead : y.at.pass.ahead ≡ x.at.pass.ahead
   pub state_is : y.at.state ≡ x.at.state

@@ -8,17 +8,17 @@ use Rattle.tube_cell.specs.Views.{AllBelow}
 use Rattle.tube_party.specs.declared.log.Log.{Log}
 use Rattle.tube_party.specs.declared.party.Ask.{Ask}
 use Rattle.tube_party.specs.declared.party.Ask.TheVariants.{Nothing, Access, Look}
-use Rattle.tube_party.specs.Moves.{Moves, Runs, IsAsk, course}
+use Rattle.tube_party.specs.Transitions.{Transitions, Runs, IsAsk, execution}
 use Rattle.tube_party.specs.Logs.{HasNoted}
 use Rattle.session.specs.CodeSight.{byte_seen, readings_seen, IsSeen}
 
 -- A party of a side went from state `old` to `new`, where `ask` comes next. All that it asked was
 -- below tick `t` and answered by readings `r`, and accesses were noted.
-pub record HasObserved {S : Type 0} (m : Moves S) (side : Side) (n : ℕ) (r : Readings) (t : ℕ) (old : S) (before : Log) (ask : Ask) (new : S) (after : Log) : Type 0 where
+pub record HasObserved {S : Type 0} (m : Transitions S) (side : Side) (n : ℕ) (r : Readings) (t : ℕ) (old : S) (before : Log) (ask : Ask) (new : S) (after : Log) : Type 0 where
   pub events : List Event
   pub steps : ℕ
   pub last : S
-  pub runs : Runs m side n steps old (course events last)
+  pub runs : Runs m side n steps old (execution events last)
   pub seen : IsSeen (readings_seen r) events
   pub low : AllBelow t events
   pub asked : IsAsk m n last ask new

@@ -8,7 +8,7 @@ use Rattle.tube_chip.specs.declared.Op.TheVariants.{Read, Write, Reset}
 use Rattle.tube_chip.specs.Act.{Query, access, look}
 use Rattle.tube_chip.specs.Events.{Event}
 use Rattle.tube_cell.specs.declared.local.Readings.{Readings}
-use Rattle.tube_party.specs.Moves.{Moves}
+use Rattle.tube_party.specs.Transitions.{Transitions}
 use Rattle.tube_side.specs.CodeSteps.{event_at}
 
 -- The answer to each query that a side answers itself.
@@ -47,7 +47,7 @@ observed_by v side t silent later (Some q) = joins side t q later (v q)
 
 -- The observations of at most `k` steps below a limit, before the first query that the side does
 -- not answer itself.
-abbrev pub observed_events : {S : Type 0} → Moves S → Side → Sight → ℕ → ℕ → S → List Event
+abbrev pub observed_events : {S : Type 0} → Transitions S → Side → Sight → ℕ → ℕ → S → List Event
 observed_events m side v limit zero s = []
 observed_events m side v limit (suc k) s =
     if nat_lt (m.due s) limit then

@@ -1,8 +1,8 @@
-pub mod CodeStation
+pub mod CodeSideAndLog
 pub mod CodeTurn
 pub mod Work
 pub mod CodeSight
-pub mod CodeDesk
+pub mod CodePort
 pub mod CodeObserved
 pub mod CodeLookahead
-pub mod CodeWay
+pub mod CodeSpecRun

@@ -4,23 +4,23 @@ ghost use Rattle.beeb_bits.specs.declared.Side.TheVariants.{Para};
 ghost use Rattle.tube_cell.specs.Passes.{own_horizon};
 ghost use Rattle.tube_party.specs.Turn.{IsPending};
 ghost use Rattle.tube_side.specs.CodeSteps.{IsPaid, IsNearlyPaid};
-ghost use Rattle.session.specs.CodeStation.{station};
+ghost use Rattle.session.specs.CodeSideAndLog.{side_and_log};
 ghost use Rattle.session.specs.CodeLookahead.{MovedOn, HasStayed};
-ghost use Rattle.tube_side.specs.CodeWays.{IsWay};
-ghost use Rattle.session.specs.CodeWay.{way_of, outset};
+ghost use Rattle.tube_side.specs.CodeSpeculation.{IsSpeculation};
+ghost use Rattle.session.specs.CodeSpecRun.{speculation_of, spec_start};
 ghost use Rattle.session.specs.Work.{MayWork, HasWorked};
 
 use crate::half::{Half, next_tick, step_when_admitted};
 use crate::lookahead::advance_to_ask;
 use crate::stride::{Stride, Strides};
-use crate::way::{Checkpoint, reached, roll_back, set_out, strides_on};
+use crate::speculation::{Checkpoint, reached, roll_back, set_out, strides_on};
 use beeb_bits::Tick;
 use std::marker::Brand;
 use std::sync::Wait;
 use tube_cell::TubeCell;
 use tube_chip::Op;
 use tube_party::{Ask, MOST, Rewinds};
-use tube_side::{Ahead, Mark, Pause, finish, tell_first, wait_passed};
+use tube_side::{GhostSpeculation, Mark, SpinThenPark, finish, tell_first, wait_passed};
 
 /// Runs the parasite's machine for the ticks below `n`, with each of its steps that asks done at
 /// the shared cell. Below the host's horizon it works as `drive` does. Past that horizon it
@@ -34,13 +34,13 @@ pub fn drive_ahead<M: Rewinds, R: Wait>(
     n: Tick,
     strides: Strides,
 )
-    requires may { MayWork M.Party.moves M.Party.plays cell.now n.0 (station M.Party.state half.old) }
+    requires may { MayWork M.Party.transitions M.Party.plays cell.now n.0 (side_and_log M.Party.state half.old) }
     requires side { half.old.pass.side ≡ Para }
     ensures worked { let state = M.Party.state in
-        HasWorked M.Party.moves n.0 half.old.log.keep (station state half.old).at (station state half.new) }
+        HasWorked M.Party.transitions n.0 half.old.log.keep (side_and_log state half.old).at (side_and_log state half.new) }
     ensures paid { IsNearlyPaid half.old.pass half.new.pass }
 {
-    let mut pause = Pause::new();
+    let mut pause = SpinThenPark::new();
     let mut stride = Stride::new(strides);
     let mut is_published = false;
     let mut ask = advance_to_ask(rt, cell, half, n);
@@ -75,20 +75,20 @@ fn go_past<M: Rewinds, R: Wait>(
     n: Tick,
     ask: Ask,
     stride: &mut Stride,
-    pause: &mut Pause,
+    pause: &mut SpinThenPark,
 ) -> Option<Ask>
     requires ticks { n.0 ≤ MOST }
     requires cell { half.old.pass.cell ≡ cell.now }
     requires side { half.old.pass.side ≡ Para }
-    requires none_trusted { half.old.pass.trusted ≡ [] }
-    requires few { half.old.log.count ≤ M.Party.moves.due (M.Party.state half.old.machine) }
-    requires pending { IsPending M.Party.moves n.0 (M.Party.state half.old.machine) ask }
-    requires later { own_horizon half.old.pass ≤ M.Party.moves.due (M.Party.state half.old.machine) }
+    requires none_speculative { half.old.pass.speculative ≡ [] }
+    requires few { half.old.log.count ≤ M.Party.transitions.due (M.Party.state half.old.machine) }
+    requires pending { IsPending M.Party.transitions n.0 (M.Party.state half.old.machine) ask }
+    requires later { own_horizon half.old.pass ≤ M.Party.transitions.due (M.Party.state half.old.machine) }
     ensures none { let state = M.Party.state in
-        IfNone result (HasStayed (station state half.old) (station state half.new)) }
-    ensures later { IfNone result (own_horizon half.new.pass ≤ M.Party.moves.due (M.Party.state half.old.machine)) }
+        IfNone result (HasStayed (side_and_log state half.old) (side_and_log state half.new)) }
+    ensures later { IfNone result (own_horizon half.new.pass ≤ M.Party.transitions.due (M.Party.state half.old.machine)) }
     ensures some { let state = M.Party.state in
-        IfSome result (λ next. MovedOn M.Party.moves n.0 (station state half.old) next (station state half.new)) }
+        IfSome result (λ next. MovedOn M.Party.transitions n.0 (side_and_log state half.old) next (side_and_log state half.new)) }
     ensures published { IfSome result (λ _. half.new.pass.ahead ≡ []) }
     ensures paid { IsPaid half.old.pass half.new.pass }
 {
@@ -123,7 +123,7 @@ fn is_observed(ask: Ask) -> bool {
 // waits for the host, and rolls the machine back if the host changed what was observed. Returns
 // `None`, with nothing done, if the machine cannot note its steps or gets no further, or if the
 // host changed what was observed before anything was published.
-fn go_ahead<W: Ahead, M: Rewinds, R: Wait>(
+fn go_ahead<W: GhostSpeculation, M: Rewinds, R: Wait>(
     rt: &R,
     cell: &TubeCell,
     half: &mut Half<M>,
@@ -131,26 +131,26 @@ fn go_ahead<W: Ahead, M: Rewinds, R: Wait>(
     n: Tick,
     from: &Checkpoint,
     stride: &mut Stride,
-    pause: &mut Pause,
+    pause: &mut SpinThenPark,
 ) -> Option<Ask>
     requires ticks { n.0 ≤ MOST }
     requires cell { half.old.pass.cell ≡ cell.now }
     requires side { half.old.pass.side ≡ Para }
-    requires none_trusted { half.old.pass.trusted ≡ [] }
-    requires mark { from.now.mark.tick.0 ≡ M.Party.moves.due (M.Party.state half.old.machine) }
+    requires none_speculative { half.old.pass.speculative ≡ [] }
+    requires mark { from.now.mark.tick.0 ≡ M.Party.transitions.due (M.Party.state half.old.machine) }
     requires kept { (from.now.log.len ≡ length half.old.log.list.items) × (from.now.log.count ≡ half.old.log.count) }
     requires few { half.old.log.count ≤ from.now.mark.tick.0 }
-    requires way { W.way ≡ way_of M.Party.moves n.0 (outset (M.Party.state half.old.machine) from.now) }
-    requires is_way { IsWay W.way }
+    requires speculation { W.speculation ≡ speculation_of M.Party.transitions n.0 (spec_start (M.Party.state half.old.machine) from.now) }
+    requires is_speculation { IsSpeculation W.speculation }
     requires later { own_horizon half.old.pass ≤ from.now.mark.tick.0 }
     requires open_ { from.now.mark.tick.0 ≤ n.0 }
     requires far { half.old.pass.known.host ≤ from.now.mark.tick.0 }
     ensures none { let state = M.Party.state in
-        IfNone result (HasStayed (station state half.old) (station state half.new)) }
+        IfNone result (HasStayed (side_and_log state half.old) (side_and_log state half.new)) }
     ensures later { IfNone result (own_horizon half.new.pass ≤ from.now.mark.tick.0) }
     ensures some { let state = M.Party.state in
-        let old = station state half.old in
-        IfSome result (λ next. MovedOn M.Party.moves n.0 old next (station state half.new)) }
+        let old = side_and_log state half.old in
+        IfSome result (λ next. MovedOn M.Party.transitions n.0 old next (side_and_log state half.new)) }
     ensures published { IfSome result (λ _. half.new.pass.ahead ≡ []) }
     ensures paid { IsPaid half.old.pass half.new.pass }
 {
@@ -166,11 +166,11 @@ fn go_ahead<W: Ahead, M: Rewinds, R: Wait>(
     let ask = strides_on::<W, M, R>(rt, cell, half, past, n, from, first, stride);
     let t = reached(n, ask);
     wait_passed::<W, R>(rt, cell, &mut half.pass, t, pause);
-    let trust = cell.trust(&half.pass);
-    if trust < t {
-        stride.is_cut(trust.0.saturating_sub(from.mark.tick.0));
+    let spec_horizon = cell.spec_horizon(&half.pass);
+    if spec_horizon < t {
+        stride.is_cut(spec_horizon.0.saturating_sub(from.mark.tick.0));
     } else {
         stride.stands();
     }
-    Some(roll_back(rt, half, past, n, from, t, trust, ask))
+    Some(roll_back(rt, half, past, n, from, t, spec_horizon, ask))
 }

@@ -3,7 +3,7 @@
 #![tactic(auto)]
 
 mod ahead;
-mod desk;
+mod port;
 mod half;
 mod lookahead;
 mod observe;
@@ -11,7 +11,7 @@ mod pair;
 mod side_job;
 mod sight;
 mod stride;
-mod way;
+mod speculation;
 
 pub use ahead::drive_ahead;
 pub use half::{Half, drive};

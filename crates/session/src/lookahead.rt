@@ -1,9 +1,9 @@
 //! Lookahead: a side runs on its own up to the other side's bound.
 ghost use Rattle.std.specs.Prelude.{◌≡◌, ◌≤◌, ◌+◌, ℕ, []};
-ghost use Rattle.tube_cell.specs.Views.{AllBelow, slack, shown_to};
+ghost use Rattle.tube_cell.specs.Views.{AllBelow, tie_offset, shown_to};
 ghost use Rattle.tube_cell.specs.Passes.{own_horizon, here, bound_here, after_add};
 ghost use Rattle.session.specs.CodeSight.{readings_seen, observed_events};
-ghost use Rattle.session.specs.CodeStation.{station};
+ghost use Rattle.session.specs.CodeSideAndLog.{side_and_log};
 ghost use Rattle.session.specs.CodeLookahead.{GoneOn};
 
 use crate::half::Half;
@@ -11,12 +11,12 @@ use crate::observe::observe;
 use beeb_bits::{Side, Tick};
 use std::marker::Brand;
 use std::sync::Wait;
-use tube_cell::{Deeds, Pass, Readings, TubeCell};
+use tube_cell::{GhostEvents, Pass, Readings, TubeCell};
 use tube_party::{Ask, MOST, Party};
 
 // Adds the machine's next observations below `end`, up to its first other ask, to the pass's
 // unpublished events.
-fn see_next<D: Deeds, M: Party, R: Wait>(
+fn see_next<D: GhostEvents, M: Party, R: Wait>(
     rt: &R,
     cell: &TubeCell,
     pass: &mut Pass,
@@ -25,11 +25,11 @@ fn see_next<D: Deeds, M: Party, R: Wait>(
     end: Tick,
 )
     requires cell { pass.old.cell ≡ cell.now }
-    requires none_trusted { pass.old.trusted ≡ [] }
-    requires later { own_horizon pass.old ≤ M.moves.due (M.state _machine.now) }
+    requires none_speculative { pass.old.speculative ≡ [] }
+    requires later { own_horizon pass.old ≤ M.transitions.due (M.state _machine.now) }
     requires readings { _readings.now ≡ shown_to pass.old.side (here pass.old) }
-    requires observed { D.events ≡ observed_events M.moves pass.old.side (readings_seen _readings.now) end.0 end.0 (M.state _machine.now) }
-    requires admitted { end.0 + slack pass.old.side ≤ bound_here pass.old + 1 }
+    requires observed { D.events ≡ observed_events M.transitions pass.old.side (readings_seen _readings.now) end.0 end.0 (M.state _machine.now) }
+    requires admitted { end.0 + tie_offset pass.old.side ≤ bound_here pass.old + 1 }
     ensures added { pass.new ≡ after_add pass.old D.events }
     ensures horizon { (t : ℕ) → own_horizon pass.old ≤ t → AllBelow t D.events → own_horizon pass.new ≤ t }
 {
@@ -46,23 +46,23 @@ pub(crate) fn advance_to_ask<M: Party, R: Wait>(
 ) -> Ask
     requires ticks { n.0 ≤ MOST }
     requires cell { half.old.pass.cell ≡ cell.now }
-    requires none_trusted { half.old.pass.trusted ≡ [] }
-    requires later { own_horizon half.old.pass ≤ M.moves.due (M.state half.old.machine) }
+    requires none_speculative { half.old.pass.speculative ≡ [] }
+    requires later { own_horizon half.old.pass ≤ M.transitions.due (M.state half.old.machine) }
     requires open_ { own_horizon half.old.pass ≤ n.0 }
-    requires few { half.old.log.count ≤ M.moves.due (M.state half.old.machine) }
-    ensures { GoneOn M.moves n.0 (station M.state half.old) result (station M.state half.new) }
+    requires few { half.old.log.count ≤ M.transitions.due (M.state half.old.machine) }
+    ensures { GoneOn M.transitions n.0 (side_and_log M.state half.old) result (side_and_log M.state half.new) }
 {
     let side = half.pass.side();
-    let sure = sure_of(side, cell.bound(&half.pass));
-    let end = Tick(n.0.min(sure.0));
+    let safe_until = safe_until_of(side, cell.bound(&half.pass));
+    let end = Tick(n.0.min(safe_until.0));
     let readings = cell.readings(&half.pass);
     see_next::<Brand, M, R>(rt, cell, &mut half.pass, &half.machine, &readings, end);
     observe(rt, half, side, n, &readings, end)
 }
 
 // Returns the tick up to which the other side's bound admits looks, itself excluded.
-fn sure_of(side: Side, bound: Tick) -> Tick
-    ensures { result.0 + slack side ≤ bound.0 + 1 }
+fn safe_until_of(side: Side, bound: Tick) -> Tick
+    ensures { result.0 + tie_offset side ≤ bound.0 + 1 }
 {
     match side {
         Side::Host => Tick(bound.0.saturating_add(1)),

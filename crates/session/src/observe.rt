@@ -2,7 +2,7 @@
 ghost use Rattle.std.specs.Prelude.{◌≡◌, ◌≤◌};
 ghost use Rattle.session.specs.CodeObserved.{HasObserved, IsOver};
 
-use crate::desk::StatusDesk;
+use crate::port::StatusPort;
 use crate::half::Half;
 use beeb_bits::{Side, Tick};
 use std::sync::Wait;
@@ -15,23 +15,23 @@ use tube_party::{Ask, MOST, Party};
 fn observe_at<M: Party, R: Wait>(
     rt: &R,
     machine: &mut M,
-    desk: &mut StatusDesk,
+    port: &mut StatusPort,
     n: Tick,
     lines: &Lines,
 ) -> Ask
     requires ticks { n.0 ≤ MOST }
-    requires few { desk.old.log.count ≤ M.moves.due (M.state machine.old) }
-    ensures observed { let r : Readings = record { lines = lines.now; status = desk.old.status } in
-        HasObserved M.moves desk.old.side n.0 r desk.old.below.0 (M.state machine.old) desk.old.log result (M.state machine.new) desk.new.log }
-    ensures over { let r : Readings = record { lines = lines.now; status = desk.old.status } in
-        IsOver r desk.old.below.0 result }
+    requires few { port.old.log.count ≤ M.transitions.due (M.state machine.old) }
+    ensures observed { let r : Readings = record { lines = lines.now; status = port.old.status } in
+        HasObserved M.transitions port.old.side n.0 r port.old.below.0 (M.state machine.old) port.old.log result (M.state machine.new) port.new.log }
+    ensures over { let r : Readings = record { lines = lines.now; status = port.old.status } in
+        IsOver r port.old.below.0 result }
 {
     for _ in rt.forever() {
-        let ask = machine.advance_at(n, lines, desk.below, desk);
+        let ask = machine.advance_at(n, lines, port.below, port);
         let Ask::Access(tick, op) = ask else {
             return ask;
         };
-        let Some(byte) = desk.read(tick, op) else {
+        let Some(byte) = port.read(tick, op) else {
             return ask;
         };
         machine.answer(Answer::Byte(byte));
@@ -50,14 +50,14 @@ pub(crate) fn observe<M: Party, R: Wait>(
     end: Tick,
 ) -> Ask
     requires ticks { n.0 ≤ MOST }
-    requires few { half.old.log.count ≤ M.moves.due (M.state half.old.machine) }
-    ensures observed { HasObserved M.moves side n.0 readings.now end.0
+    requires few { half.old.log.count ≤ M.transitions.due (M.state half.old.machine) }
+    ensures observed { HasObserved M.transitions side n.0 readings.now end.0
         (M.state half.old.machine) half.old.log result (M.state half.new.machine) half.new.log }
     ensures over { IsOver readings.now end.0 result }
     ensures pass { half.new.pass ≡ half.old.pass }
 {
-    let mut desk = StatusDesk::take(&mut half.log, side, readings, end);
-    let ask = observe_at(rt, &mut half.machine, &mut desk, n, &readings.lines);
-    half.log = desk.log;
+    let mut port = StatusPort::take(&mut half.log, side, readings, end);
+    let ask = observe_at(rt, &mut half.machine, &mut port, n, &readings.lines);
+    half.log = port.log;
     ask
 }

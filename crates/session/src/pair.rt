@@ -4,11 +4,11 @@ ghost use Rattle.std.specs.Arc.{arc_value};
 ghost use Rattle.beeb_bits.specs.declared.Side.TheVariants.{Host, Para};
 ghost use Rattle.beeb_files.specs.Counts.{Rose};
 ghost use Rattle.beeb_files.specs.Crew.{Grows};
-ghost use Rattle.tube_cell.specs.Passes.{Carried};
+ghost use Rattle.tube_cell.specs.Passes.{PassState};
 ghost use Rattle.tube_party.specs.Logs.{IsFresh};
 ghost use Rattle.tube_party.specs.OneThread.{IsPlayed, played_of, TakeSides, AreClosedWithin};
 ghost use Rattle.tube_party.specs.Reference.{reference};
-ghost use Rattle.session.specs.CodeStation.{place, station};
+ghost use Rattle.session.specs.CodeSideAndLog.{place, side_and_log};
 ghost use Rattle.session.specs.Work.{HasWorked};
 ghost use Rattle.session.specs.declared.pair.PairError.TheVariants.{NoThread, NoMemory};
 
@@ -91,8 +91,8 @@ where
     P::Past: Send,
     requires ticks { n.0 ≤ MOST }
     requires sides { TakeSides H.plays P.Party.plays }
-    requires closed { AreClosedWithin H.moves P.Party.moves (H.state host) (P.Party.state para) n.0 }
-    ensures played { let w = reference H.moves P.Party.moves (H.state host) (P.Party.state para) n.0 in
+    requires closed { AreClosedWithin H.transitions P.Party.transitions (H.state host) (P.Party.state para) n.0 }
+    ensures played { let w = reference H.transitions P.Party.transitions (H.state host) (P.Party.state para) n.0 in
         IfOk result (λ d. IsPlayed w keep (played_of H.state P.Party.state d)) }
     ensures worked { IfOk result (λ _. Rose (C.counts crew.old).pairs (C.counts crew.new).pairs) }
     ensures no_thread { result ≡ Err NoThread → Rose (C.counts crew.old).faults (C.counts crew.new).faults }
@@ -123,8 +123,8 @@ where
     P::Past: Send,
     requires ticks { n.0 ≤ MOST }
     requires sides { TakeSides H.plays P.Party.plays }
-    requires closed { AreClosedWithin H.moves P.Party.moves (H.state host) (P.Party.state para) n.0 }
-    ensures played { let w = reference H.moves P.Party.moves (H.state host) (P.Party.state para) n.0 in
+    requires closed { AreClosedWithin H.transitions P.Party.transitions (H.state host) (P.Party.state para) n.0 }
+    ensures played { let w = reference H.transitions P.Party.transitions (H.state host) (P.Party.state para) n.0 in
         IfOk result (λ d. IsPlayed w keep (played_of H.state P.Party.state d)) }
     ensures worked { IfOk result (λ _. Rose (C.counts crew.old).pairs (C.counts crew.new).pairs) }
     ensures no_thread { result ≡ Err NoThread → Rose (C.counts crew.old).faults (C.counts crew.new).faults }
@@ -187,12 +187,12 @@ fn joined<H: Party, P: Party, R: Wait>(
     requires cell { (host.pass.cell ≡ cell.now) × (para.pass.cell ≡ cell.now) }
     requires sides { (host.pass.side ≡ Host) × (para.pass.side ≡ Para) }
     requires published { (host.pass.ahead ≡ []) × (para.pass.ahead ≡ []) }
-    requires none_trusted { para.pass.trusted ≡ [] }
-    ensures { (s : H.State) (t : P.State) (n : ℕ) (keep : ℕ) (p q : Carried) →
+    requires none_speculative { para.pass.speculative ≡ [] }
+    ensures { (s : H.State) (t : P.State) (n : ℕ) (keep : ℕ) (p q : PassState) →
         (p.side ≡ Host) × (p.events ≡ []) → (q.side ≡ Para) × (q.events ≡ []) →
-        HasWorked H.moves n keep (place s p) (station H.state host) →
-        HasWorked P.moves n keep (place t q) (station P.state para) →
-        IsPlayed (reference H.moves P.moves s t n) keep (played_of H.state P.state result) }
+        HasWorked H.transitions n keep (place s p) (side_and_log H.state host) →
+        HasWorked P.transitions n keep (place t q) (side_and_log P.state para) →
+        IsPlayed (reference H.transitions P.transitions s t n) keep (played_of H.state P.state result) }
 {
     legal_merge_is_reference::<H, P>();
     let chip = cell.join(rt, host.pass, para.pass);

@@ -2,7 +2,7 @@
 ghost use Rattle.std.specs.Prelude.{◌≡◌};
 ghost use Rattle.std.specs.Arc.{arc_value};
 ghost use Rattle.beeb_bits.specs.declared.Side.TheVariants.{Para};
-ghost use Rattle.session.specs.CodeStation.{station};
+ghost use Rattle.session.specs.CodeSideAndLog.{side_and_log};
 ghost use Rattle.session.specs.Work.{MayWork, HasWorked};
 
 use crate::ahead::drive_ahead;
@@ -26,9 +26,9 @@ pub(crate) struct SideJob<M> {
 impl<M: Party + Send> Job for SideJob<M> {
     type Done = Half<M>;
 
-    ghost may_work = { λ j. MayWork M.moves M.plays (arc_value j.cell) j.n.0 (station M.state j.half) };
+    ghost may_work = { λ j. MayWork M.transitions M.plays (arc_value j.cell) j.n.0 (side_and_log M.state j.half) };
 
-    ghost gives = { λ j r. HasWorked M.moves j.n.0 j.half.log.keep (station M.state j.half).at (station M.state r) };
+    ghost gives = { λ j r. HasWorked M.transitions j.n.0 j.half.log.keep (side_and_log M.state j.half).at (side_and_log M.state r) };
 
     fn work<R: Wait>(self, rt: &R) -> Half<M> {
         let SideJob { mut half, cell, n } = self;
@@ -52,11 +52,11 @@ where
     type Done = Half<M>;
 
     ghost may_work = { λ j. let half = j.side.half in
-        MayWork M.Party.moves M.Party.plays (arc_value j.side.cell) j.side.n.0 (station M.Party.state half)
+        MayWork M.Party.transitions M.Party.plays (arc_value j.side.cell) j.side.n.0 (side_and_log M.Party.state half)
         × (half.pass.side ≡ Para) };
 
     ghost gives = { λ j r. let state = M.Party.state in
-        HasWorked M.Party.moves j.side.n.0 j.side.half.log.keep (station state j.side.half).at (station state r) };
+        HasWorked M.Party.transitions j.side.n.0 j.side.half.log.keep (side_and_log state j.side.half).at (side_and_log state r) };
 
     fn work<R: Wait>(self, rt: &R) -> Half<M> {
         let AheadJob {

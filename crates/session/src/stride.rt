@@ -83,9 +83,9 @@ impl Stride {
     }
 
     /// Records a rollback: only the given number of ticks after the mark was confirmed.
-    pub(crate) fn is_cut(&mut self, way: u64) {
+    pub(crate) fn is_cut(&mut self, speculation: u64) {
         let fewest = self.lengths.fewest;
-        self.span = (way / 2).max(fewest).min(self.lengths.span);
+        self.span = (speculation / 2).max(fewest).min(self.lengths.span);
         self.cap = (self.cap / 4).max(fewest).min(self.lengths.most);
     }
 }

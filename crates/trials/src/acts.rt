@@ -391,32 +391,32 @@ pub struct Lists<'a> {
 
 // The beginning of both buses, and the number of acts to try.
 #[derive(Clone, Copy)]
-struct Course<'a> {
+struct Execution<'a> {
     clock: Clock,
     lists: Lists<'a>,
     acts: u64,
 }
 
-impl Tried<Course<'_>> for Bus {
-    fn make(alloc: Global, course: &Course<'_>) -> Result<Self, NoMemory> {
-        bus(alloc, course.clock, course.lists.script, course.lists.size)
+impl Tried<Execution<'_>> for Bus {
+    fn make(alloc: Global, execution: &Execution<'_>) -> Result<Self, NoMemory> {
+        bus(alloc, execution.clock, execution.lists.script, execution.lists.size)
     }
 
     fn agrees(
         &mut self,
         other: &mut Self,
         _alloc: Global,
-        course: &Course<'_>,
+        execution: &Execution<'_>,
         chance: &mut Chance,
     ) -> Result<bool, NoMemory> {
         let mut both = Both {
             lagging: self,
             stepped: other,
-            micro: course.clock.micro(),
+            micro: execution.clock.micro(),
             calm: 0,
             lines: (0, false),
         };
-        Ok(both.agree_on(chance, course.lists, course.acts))
+        Ok(both.agree_on(chance, execution.lists, execution.acts))
     }
 }
 
@@ -424,6 +424,6 @@ impl Tried<Course<'_>> for Bus {
 pub fn agrees(alloc: Global, seed: u64, acts: u64, lists: Lists<'_>) -> Result<bool, NoMemory> {
     let mut chance = Chance::new(seed, 3);
     let clock = chance.clock();
-    let course = Course { clock, lists, acts };
-    agree::<Course<'_>, Bus>(alloc, &course, &mut chance)
+    let execution = Execution { clock, lists, acts };
+    agree::<Execution<'_>, Bus>(alloc, &execution, &mut chance)
 }

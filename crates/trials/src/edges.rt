@@ -3,7 +3,7 @@
 use crate::chance::Chance;
 use crate::code::{EDGES, halves, row_at};
 use crate::host::Host;
-use crate::roads::Course;
+use crate::roads::Execution;
 use crate::setting::Setting;
 use crate::twins::agree;
 use beeb_bits::{Clock, NoMemory};
@@ -185,7 +185,7 @@ fn cycle_of(part: Part, clock: Clock) -> u64 {
 }
 
 // Makes the course of a case.
-fn course(alloc: Global, chance: &mut Chance, case: Case) -> Result<Course, NoMemory> {
+fn execution(alloc: Global, chance: &mut Chance, case: Case) -> Result<Execution, NoMemory> {
     let clock = chance.clock();
     let mut setting = Setting::new(alloc, case.part)?;
     case.place(chance, &mut setting);
@@ -215,7 +215,7 @@ fn course(alloc: Global, chance: &mut Chance, case: Case) -> Result<Course, NoMe
     } else {
         Vec::new(alloc)
     };
-    Ok(Course {
+    Ok(Execution {
         clock,
         image: setting.image,
         script,
@@ -258,9 +258,9 @@ pub fn agrees(alloc: Global, seed: u64) -> Result<bool, NoMemory> {
         r,
         pointer: any_byte(&mut chance),
     };
-    let course = course(alloc, &mut chance, case)?;
+    let execution = execution(alloc, &mut chance, case)?;
     match part {
-        Part::Cmos => agree::<Course, ParaMachine>(alloc, &course, &mut chance),
-        Part::Nmos => agree::<Course, Host>(alloc, &course, &mut chance),
+        Part::Cmos => agree::<Execution, ParaMachine>(alloc, &execution, &mut chance),
+        Part::Nmos => agree::<Execution, Host>(alloc, &execution, &mut chance),
     }
 }

@@ -10,7 +10,7 @@ use cpu_alu::{DECIMAL, INTERRUPT, Regs};
 use op_table::Part;
 use std::alloc::Global;
 use tube_chip::{Answer, Lines, Op};
-use tube_party::{Ask, Closed, MOST, NO_LINES, Party, Rewinds};
+use tube_party::{Ask, NoPort, MOST, NO_LINES, Party, Rewinds};
 
 // A Tube with random answers: bytes to accesses, of which it keeps a sum, and lines that stay the
 // same for a while.
@@ -102,7 +102,7 @@ impl Tube {
     }
 
     // Returns a tick before which the lines stay as they are at tick `t`.
-    fn sure(&self, t: u64) -> u64 {
+    fn safe_until(&self, t: u64) -> u64 {
         if t < self.from {
             return self.from;
         }
@@ -122,7 +122,7 @@ fn step<M: Party>(machine: &mut M, until: u64, tube: &mut Tube)
 {
     let t = machine.due().0;
     let lines = tube.lines(t);
-    match machine.advance_seeing(Tick(until), &lines, Tick(tube.sure(t))) {
+    match machine.advance_seeing(Tick(until), &lines, Tick(tube.safe_until(t))) {
         Ask::Nothing => (),
         Ask::Access(t, op) => {
             let byte = tube.byte(t, op);
@@ -135,21 +135,21 @@ fn step<M: Party>(machine: &mut M, until: u64, tube: &mut Tube)
 // Advances speculatively with notes, as if the lines stayed as they are, as long as there is room,
 // or for some ticks.
 #[tactic(auto, using(tube_party::specs::Steps::left_pending))]
-fn note<M: Rewinds>(machine: &mut M, past: &mut M::Past, lines: &Lines, sure: Tick, more: Tick) {
+fn note<M: Rewinds>(machine: &mut M, past: &mut M::Past, lines: &Lines, safe_until: Tick, more: Tick) {
     let end = Tick(MOST);
-    let Some(Ask::Look(t)) = machine.advance_noting(end, lines, sure, past, &mut Closed) else {
+    let Some(Ask::Look(t)) = machine.advance_noting(end, lines, safe_until, past, &mut NoPort) else {
         return;
     };
     let first = Ask::Look(t);
-    let Ask::Look(t) = machine.advance_on(first, end, lines, more, past, &mut Closed) else {
+    let Ask::Look(t) = machine.advance_on(first, end, lines, more, past, &mut NoPort) else {
         return;
     };
     let second = Ask::Look(t);
-    let Ask::Look(t) = machine.advance_on(second, end, lines, more, past, &mut Closed) else {
+    let Ask::Look(t) = machine.advance_on(second, end, lines, more, past, &mut NoPort) else {
         return;
     };
     let third = Ask::Look(t);
-    let _ = machine.advance_on(third, end, lines, more, past, &mut Closed);
+    let _ = machine.advance_on(third, end, lines, more, past, &mut NoPort);
 }
 
 // Advances with notes and rolls back; or advances up to tick `until`.
@@ -165,13 +165,13 @@ fn go_ahead<M: Rewinds>(
     let t = machine.due().0;
     let lines = tube.lines(t);
     if chance.once_in(2) {
-        let _ = machine.advance_noting(Tick(until), &lines, Tick(tube.sure(t)), past, &mut Closed);
+        let _ = machine.advance_noting(Tick(until), &lines, Tick(tube.safe_until(t)), past, &mut NoPort);
         return;
     }
-    let sure = t.saturating_add(u64::from(chance.below(64)));
+    let safe_until = t.saturating_add(u64::from(chance.below(64)));
     let more = if chance.once_in(4) { 50_000 } else { 64 };
-    let more = sure.saturating_add(u64::from(chance.below(more)));
-    note(machine, past, &lines, Tick(sure), Tick(more));
+    let more = safe_until.saturating_add(u64::from(chance.below(more)));
+    note(machine, past, &lines, Tick(safe_until), Tick(more));
     machine.rewind(past);
 }
 
@@ -236,7 +236,7 @@ fn go_by_ticks<M: Stands>(machine: &mut M, end: u64, tube: &mut Tube) -> bool
 /// A machine whose registers can be read.
 pub trait Stands: Rewinds {
     /// Makes a machine at a course's beginning.
-    fn begun(alloc: Global, course: &Course) -> Result<Self, NoMemory>;
+    fn begun(alloc: Global, execution: &Execution) -> Result<Self, NoMemory>;
 
     fn part() -> Part;
 
@@ -250,7 +250,7 @@ pub trait Stands: Rewinds {
 /// stop at tick `begun`, lines change from tick `from` on, and both machines are compared at ticks
 /// `middle` and `end`.
 #[derive(Drop)]
-pub struct Course {
+pub struct Execution {
     pub clock: Clock,
     pub image: Vec<u8>,
     pub script: Vec<u8>,
@@ -261,7 +261,7 @@ pub struct Course {
     pub end: u64,
 }
 
-impl Course {
+impl Execution {
     /// Returns the course of a random program. Its entry code takes 15,134 cycles.
     pub fn of_program(
         chance: &mut Chance,
@@ -269,13 +269,13 @@ impl Course {
         cycle: u64,
         image: Vec<u8>,
         script: Vec<u8>,
-    ) -> Course
+    ) -> Execution
         requires { cycle ≤ 6 }
     {
         let begun = cycle * (15_100 + u64::from(chance.below(60) % 60));
         let middle = begun + u64::from(chance.below(3_000) % 3_000);
         let end = middle + u64::from(chance.below(3_000) % 3_000);
-        Course {
+        Execution {
             clock,
             image,
             script,
@@ -288,19 +288,19 @@ impl Course {
     }
 }
 
-impl<M: Stands> Tried<Course> for M {
-    fn make(alloc: Global, course: &Course) -> Result<Self, NoMemory> {
-        M::begun(alloc, course)
+impl<M: Stands> Tried<Execution> for M {
+    fn make(alloc: Global, execution: &Execution) -> Result<Self, NoMemory> {
+        M::begun(alloc, execution)
     }
 
     fn agrees(
         &mut self,
         other: &mut Self,
         alloc: Global,
-        course: &Course,
+        execution: &Execution,
         chance: &mut Chance,
     ) -> Result<bool, NoMemory> {
-        come_to_the_same(alloc, self, other, course, chance)
+        come_to_the_same(alloc, self, other, execution, chance)
     }
 }
 
@@ -310,20 +310,20 @@ fn come_to_the_same<M: Stands>(
     alloc: Global,
     far: &mut M,
     near: &mut M,
-    course: &Course,
+    execution: &Execution,
     chance: &mut Chance,
 ) -> Result<bool, NoMemory> {
     let mut past = M::past(alloc)?;
     let seed = u64::from(chance.word());
-    let mut far_tube = Tube::new(seed, course.from);
-    let mut near_tube = Tube::new(seed, course.from);
-    let begun = course.begun.min(MOST);
+    let mut far_tube = Tube::new(seed, execution.from);
+    let mut near_tube = Tube::new(seed, execution.from);
+    let begun = execution.begun.min(MOST);
     go_far(near, &mut past, begun, &mut near_tube, chance);
     // If `far` stops here too, its next instruction is done cycle by cycle.
     if chance.once_in(4) {
         go_far(far, &mut past, begun, &mut far_tube, chance);
     }
-    for end in [course.middle, course.end] {
+    for end in [execution.middle, execution.end] {
         let end = end.min(MOST);
         go_far(far, &mut past, end, &mut far_tube, chance);
         if !go_by_ticks(near, end, &mut near_tube)

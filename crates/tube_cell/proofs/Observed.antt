@@ -10,7 +10,7 @@ use Rattle.tube_chip.specs.declared.Lines.{Lines}
 use Rattle.tube_chip.specs.State.{State, lines_of}
 use Rattle.tube_chip.specs.Act.{Query, access, look, act, status}
 use Rattle.tube_chip.proofs.Rises.{status_leaves}
-use Rattle.tube_cell.specs.Views.{is_observation, same_lines, same_readings, trust_next}
+use Rattle.tube_cell.specs.Views.{is_observation, same_lines, same_readings, spec_horizon_next}
 
 -- ---- the chip stays
 
@@ -79,12 +79,12 @@ readings_same c =
     λ i. lines_same (lines_of c) i && s 1 i && s 2 i && s 3 i && s 4 i
 
 -- if the chip stays, so does the speculative horizon
-pub trust_stays : (s : Side) {c d : State} (t a : ℕ) → d ≡ c → trust_next s c d t a ≡ a
-trust_stays Host {c} t a same = ap (λ x. trust_next Host c x t a) same ∙ ap (λ b. cond b a (min a t)) (readings_same c)
-trust_stays Para t a same = refl
+pub spec_horizon_stays : (s : Side) {c d : State} (t a : ℕ) → d ≡ c → spec_horizon_next s c d t a ≡ a
+spec_horizon_stays Host {c} t a same = ap (λ x. spec_horizon_next Host c x t a) same ∙ ap (λ b. cond b a (min a t)) (readings_same c)
+spec_horizon_stays Para t a same = refl
 
 -- if the speculative horizon is at or below the tick, it stays too
-pub early_stays : (c d : State) (t a : ℕ) → a ≤ t → trust_next Host c d t a ≡ a
+pub early_stays : (c d : State) (t a : ℕ) → a ≤ t → spec_horizon_next Host c d t a ≡ a
 early_stays c d t a le = go (same_readings c d)
   where
     go : (b : Bool) → cond b a (min a t) ≡ a

@@ -14,20 +14,20 @@ use Rattle.tube_cell.specs.declared.local.Readings.{Readings}
 
 -- What the nine words represent: the chip, each side's horizon and the parasite's speculative
 -- horizon.
-pub record Known : Type 0 where
+pub record CellSnapshot : Type 0 where
   pub chip : State
   pub host : ℕ
   pub para : ℕ
   -- the parasite's speculative events lie below it
-  pub trust : ℕ
+  pub spec_horizon : ℕ
 
 -- the six words of the chip, both horizons, and the speculative horizon
-abbrev pub words_of : Known → List ℕ
-words_of k = packed_words k.chip ++ k.host ∷ k.para ∷ k.trust ∷ []
+abbrev pub words_of : CellSnapshot → List ℕ
+words_of k = packed_words k.chip ++ k.host ∷ k.para ∷ k.spec_horizon ∷ []
 
 -- at power-on
-abbrev pub new_known : Known
-new_known = record { chip = power_on; host = 0; para = 0; trust = 0 }
+abbrev pub new_snapshot : CellSnapshot
+new_snapshot = record { chip = power_on; host = 0; para = 0; spec_horizon = 0 }
 
 -- A pass is the whole before the split, and one side's after it. After the join the host's has both
 -- lists, and the parasite's is used up.
@@ -45,11 +45,11 @@ pub record View : Type 0 where
   pub theirs : List Event
   -- the parasite's speculative observations: the host keeps those below the speculative horizon
   -- found later
-  pub trusted : List Event
+  pub speculative : List Event
   -- events not yet published
   pub ahead : List Event
   -- the words as it last found or left them
-  pub known : Known
+  pub known : CellSnapshot
   -- the number of its exchanges that published an access
   pub commits : ℕ
   -- the number of rises of the other's bound, as it knows it
@@ -60,27 +60,27 @@ flip Host = Para
 flip Para = Host
 
 -- a side's own word, and the other's
-abbrev pub word_of : Side → Known → ℕ
+abbrev pub word_of : Side → CellSnapshot → ℕ
 word_of Host k = k.host
 word_of Para k = k.para
 
-abbrev pub word_of_other : Side → Known → ℕ
+abbrev pub word_of_other : Side → CellSnapshot → ℕ
 word_of_other Host k = k.para
 word_of_other Para k = k.host
 
 -- A side's bound is its word; for the parasite, the larger of its word and the speculative horizon.
 -- Each event that joins the side's list later is at the bound or after it.
-abbrev pub own_bound : Side → Known → ℕ
+abbrev pub own_bound : Side → CellSnapshot → ℕ
 own_bound Host k = k.host
-own_bound Para k = max k.para k.trust
+own_bound Para k = max k.para k.spec_horizon
 
 -- the other side's bound, with `theirs` as its word and this speculative horizon
 abbrev pub bound_at : Side → ℕ → ℕ → ℕ
-bound_at Host theirs trust = max theirs trust
-bound_at Para theirs trust = theirs
+bound_at Host theirs spec_horizon = max theirs spec_horizon
+bound_at Para theirs spec_horizon = theirs
 
-abbrev pub other_bound : Side → Known → ℕ
-other_bound s k = bound_at s (word_of_other s k) k.trust
+abbrev pub other_bound : Side → CellSnapshot → ℕ
+other_bound s k = bound_at s (word_of_other s k) k.spec_horizon
 
 -- of the host's and the parasite's value, the side's own
 abbrev pub pick : {X : Type 0} → Side → X → X → X
@@ -88,20 +88,20 @@ pick Host x y = x
 pick Para x y = y
 
 -- the words with this chip, own word, other's word and speculative horizon
-abbrev pub known_with : Side → State → ℕ → ℕ → ℕ → Known
-known_with Host c mine theirs trust = record { chip = c; host = mine; para = theirs; trust = trust }
-known_with Para c mine theirs trust = record { chip = c; host = theirs; para = mine; trust = trust }
+abbrev pub known_with : Side → State → ℕ → ℕ → ℕ → CellSnapshot
+known_with Host c mine theirs spec_horizon = record { chip = c; host = mine; para = theirs; spec_horizon = spec_horizon }
+known_with Para c mine theirs spec_horizon = record { chip = c; host = theirs; para = mine; spec_horizon = spec_horizon }
 
 -- The other's bound admits the host at ticks up to and including it, and the parasite below it.
-abbrev pub slack : Side → ℕ
-slack Host = 0
-slack Para = 1
+abbrev pub tie_offset : Side → ℕ
+tie_offset Host = 0
+tie_offset Para = 1
 
 abbrev pub admits : Side → ℕ → ℕ → Bool
-admits s bound tick = nat_le (tick + slack s) bound
+admits s bound tick = nat_le (tick + tie_offset s) bound
 
 abbrev pub Admits : Side → ℕ → ℕ → Type 0
-Admits s bound tick = tick + slack s ≤ bound
+Admits s bound tick = tick + tie_offset s ≤ bound
 
 -- one more than the tick of the last event
 abbrev pub past_last : List Event → ℕ
@@ -167,15 +167,15 @@ same_readings c d =
 
 -- The speculative horizon after an event of a side at tick `t` that turns chip `old` into `new`. If
 -- the host changes what the parasite observes, the horizon falls to `t`.
-abbrev pub trust_next : Side → State → State → ℕ → ℕ → ℕ
-trust_next Host old new t trust = if same_readings old new then trust else min trust t
-trust_next Para old new t trust = trust
+abbrev pub spec_horizon_next : Side → State → State → ℕ → ℕ → ℕ
+spec_horizon_next Host old new t spec_horizon = if same_readings old new then spec_horizon else min spec_horizon t
+spec_horizon_next Para old new t spec_horizon = spec_horizon
 
 -- the speculative horizon after event `e` at chip c
-abbrev pub trust_past : Side → State → Event → ℕ → ℕ
-trust_past s c e trust = trust_next s c (chip_after_event c e) e.tick trust
+abbrev pub spec_horizon_past : Side → State → Event → ℕ → ℕ
+spec_horizon_past s c e spec_horizon = spec_horizon_next s c (chip_after_event c e) e.tick spec_horizon
 
 -- the speculative horizon after a side's events, from chip c on
-abbrev pub trust_after : Side → State → ℕ → List Event → ℕ
-trust_after s c trust [] = trust
-trust_after s c trust (e ∷ events) = trust_after s (chip_after_event c e) (trust_past s c e trust) events
+abbrev pub spec_horizon_after : Side → State → ℕ → List Event → ℕ
+spec_horizon_after s c spec_horizon [] = spec_horizon
+spec_horizon_after s c spec_horizon (e ∷ events) = spec_horizon_after s (chip_after_event c e) (spec_horizon_past s c e spec_horizon) events

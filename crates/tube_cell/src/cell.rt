@@ -8,19 +8,19 @@ ghost use Rattle.tube_chip.specs.State.{lines_of};
 ghost use Rattle.tube_chip.specs.Act.{MayDo, answer_of};
 ghost use Rattle.tube_chip.specs.Events.{merge, after, IsLegal};
 ghost use Rattle.tube_chip.specs.Packing.{IsChip};
-ghost use Rattle.tube_cell.specs.Views.{one_side, rejoined, word_of_other, other_bound, slack, known_with, Admits, admits, AllBelow, words_of, shown_to, trust_after};
-ghost use Rattle.tube_cell.specs.Rules.{Kept, Found, published_view, entrusted_view, told_view, added_view, joined_view, Ended};
-ghost use Rattle.tube_cell.specs.Passes.{starts, own_horizon, Learns, access_at, lines_at, after_commit, after_raise, after_look, after_entrust, here, bound_here, after_add, after_publish};
-ghost use Rattle.tube_cell.specs.Steps.{MayPublish, MayLook, MayEntrust, MayPublishAndEntrust, Watches, LookedAt};
+ghost use Rattle.tube_cell.specs.Views.{one_side, rejoined, word_of_other, other_bound, tie_offset, known_with, Admits, admits, AllBelow, words_of, shown_to, spec_horizon_after};
+ghost use Rattle.tube_cell.specs.Rules.{CellInvariant, Found, published_view, speculated_view, told_view, added_view, joined_view, Ended};
+ghost use Rattle.tube_cell.specs.Passes.{starts, own_horizon, Learns, access_at, lines_at, after_commit, after_raise, after_look, after_speculate, here, bound_here, after_add, after_publish};
+ghost use Rattle.tube_cell.specs.Steps.{MayPublish, MayLook, MaySpeculate, MayPublishAndSpeculate, Watches, LookedAt};
 
-use crate::bell::Bell;
+use crate::waker::Waker;
 use crate::local::{Readings, operate, readings_of};
 use crate::rule::{
-    Adding, CellRule, Deeds, Ending, Entrusting, Halves, Learning, Looking, Moment, Parting,
-    PassView, Publishing, PublishingAndEntrusting, Wish,
+    Adding, CellRule, GhostEvents, Ending, Speculating, Halves, Learning, Looking, GhostTick, Parting,
+    PassView, Publishing, PublishingAndSpeculating, GhostUpdate,
 };
 use crate::words::{
-    bound_of, chip_of, is_admitted, next_words, power_on, renew, settle, trust_of, with_trust,
+    bound_of, chip_of, is_admitted, next_words, power_on, renew, settle, spec_horizon_of, with_spec_horizon,
     word_of,
 };
 use atomic_table::{Join, Split};
@@ -48,8 +48,8 @@ type Cell = RuledSeqCell<[u64; 9], PassView, CellRule, 9>;
 #[derive(Drop)]
 pub struct TubeCell {
     cell: Cell,
-    host_bell: Bell,
-    para_bell: Bell,
+    host_waker: Waker,
+    para_waker: Waker,
 }
 
 impl Model for TubeCell {
@@ -96,13 +96,13 @@ pub struct Pass {
 
 impl Model for Pass {
     ghost use Rattle.crossbeam_utils.specs.Seq.{cell_view};
-    ghost use Rattle.tube_cell.specs.Passes.{Carried, carried_of};
+    ghost use Rattle.tube_cell.specs.Passes.{PassState, pass_state_of};
     ghost use Rattle.tube_cell.specs.Steps.{IsPassOf, CutIs};
     ghost use Rattle.std.specs.Prelude.{ℕ};
 
-    ghost Value = { Carried };
+    ghost Value = { PassState };
 
-    ghost view = { λ s. carried_of s.seat.table_id s.side (cell_view s.seat) };
+    ghost view = { λ s. pass_state_of s.seat.table_id s.side (cell_view s.seat) };
 
     ghost invariant = { λ s. let v = cell_view s.seat in IsPassOf s.side s.words s.local v × CutIs s.side s.cut v };
 }
@@ -115,8 +115,8 @@ impl TubeCell {
         let (cell, seat) = Cell::ruled(alloc, power_on())?;
         let both = TubeCell {
             cell,
-            host_bell: Bell::new(),
-            para_bell: Bell::new(),
+            host_waker: Waker::new(),
+            para_waker: Waker::new(),
         };
         Ok((both, Whole { seat }))
     }
@@ -151,27 +151,27 @@ impl TubeCell {
 
     /// Returns a side's waker.
     #[inline(always)]
-    pub fn bell(&self, side: Side) -> &Bell {
+    pub fn waker(&self, side: Side) -> &Waker {
         match side {
-            Side::Host => &self.host_bell,
-            Side::Para => &self.para_bell,
+            Side::Host => &self.host_waker,
+            Side::Para => &self.para_waker,
         }
     }
 
     // Wakes the other side if it waits and `next` admits its step or changes the speculative
     // horizon.
     #[inline(always)]
-    fn ring(&self, side: Side, words: &[u64; 9], next: &[u64; 9]) {
+    fn signal(&self, side: Side, words: &[u64; 9], next: &[u64; 9]) {
         let other = match side {
             Side::Host => Side::Para,
             Side::Para => Side::Host,
         };
-        let Some(t) = self.bell(other).tick() else {
+        let Some(t) = self.waker(other).tick() else {
             return;
         };
-        let trust = trust_of(next);
-        if trust != trust_of(words) || is_admitted(other, bound_of(other, next, trust), t) {
-            self.bell(other).ring(t);
+        let spec_horizon = spec_horizon_of(next);
+        if spec_horizon != spec_horizon_of(words) || is_admitted(other, bound_of(other, next, spec_horizon), t) {
+            self.waker(other).signal(t);
         }
     }
 
@@ -199,8 +199,8 @@ impl TubeCell {
         ensures here { result.0 ≡ bound_here pass.now }
         ensures known { pass.now.ahead ≡ [] → result.0 ≡ other_bound pass.now.side pass.now.known }
     {
-        let trust = trust_of(&pass.words).min(pass.cut);
-        Tick(bound_of(pass.side, &pass.words, trust))
+        let spec_horizon = spec_horizon_of(&pass.words).min(pass.cut);
+        Tick(bound_of(pass.side, &pass.words, spec_horizon))
     }
 
     /// Returns `true` if the bound of `bound` admits the pass's side at `t`.
@@ -228,11 +228,11 @@ impl TubeCell {
     }
 
     /// Returns the parasite's speculative horizon, as the pass knows it.
-    pub fn trust(&self, pass: &Pass) -> Tick
+    pub fn spec_horizon(&self, pass: &Pass) -> Tick
         requires { pass.now.cell ≡ self.now }
-        ensures { result.0 ≡ pass.now.known.trust }
+        ensures { result.0 ≡ pass.now.known.spec_horizon }
     {
-        Tick(trust_of(&pass.words))
+        Tick(spec_horizon_of(&pass.words))
     }
 
     /// Sets the own horizon to `t`, by one exchange. Returns `false` only if the words differed
@@ -240,7 +240,7 @@ impl TubeCell {
     pub fn raise<R: Wait>(&self, rt: &R, pass: &mut Pass, t: Tick) -> bool
         requires cell { pass.old.cell ≡ self.now }
         requires published { pass.old.ahead ≡ [] }
-        requires none_trusted { pass.old.trusted ≡ [] }
+        requires none_speculative { pass.old.speculative ≡ [] }
         requires later { own_horizon pass.old ≤ t.0 }
         ensures raised { IsTrue result → pass.new ≡ after_raise pass.old t.0 }
         ensures horizon { IsTrue result → own_horizon pass.new ≡ t.0 }
@@ -256,11 +256,11 @@ impl TubeCell {
             None,
             &pass.local,
             t.0,
-            trust_of(&pass.words),
+            spec_horizon_of(&pass.words),
         );
         match raised {
             Ok(next) => {
-                self.ring(pass.side, &pass.words, &next);
+                self.signal(pass.side, &pass.words, &next);
                 pass.words = next;
                 true
             }
@@ -277,7 +277,7 @@ impl TubeCell {
     pub fn commit<R: Wait>(&self, rt: &R, pass: &mut Pass, t: Tick, op: Op) -> Option<u8>
         requires cell { pass.old.cell ≡ self.now }
         requires published { pass.old.ahead ≡ [] }
-        requires none_trusted { pass.old.trusted ≡ [] }
+        requires none_speculative { pass.old.speculative ≡ [] }
         requires operation { MayDo pass.old.side op }
         requires later { own_horizon pass.old ≤ t.0 }
         requires admitted { Admits pass.old.side (other_bound pass.old.side pass.old.known) t.0 }
@@ -288,7 +288,7 @@ impl TubeCell {
         ensures learns { IfNone result (Learns pass.old pass.new) }
         ensures missed { IfNone result (pass.new.known ≢ pass.old.known) }
     {
-        let (answer, trust) = operate(&mut pass.local, pass.side, op, t.0, trust_of(&pass.words));
+        let (answer, spec_horizon) = operate(&mut pass.local, pass.side, op, t.0, spec_horizon_of(&pass.words));
         match exchange::<Brand, R>(
             &self.cell,
             rt,
@@ -298,10 +298,10 @@ impl TubeCell {
             Some((t.0, op)),
             &pass.local,
             t.0 + 1,
-            trust,
+            spec_horizon,
         ) {
             Ok(next) => {
-                self.ring(pass.side, &pass.words, &next);
+                self.signal(pass.side, &pass.words, &next);
                 pass.words = next;
                 Some(answer)
             }
@@ -318,7 +318,7 @@ impl TubeCell {
     pub fn look<R: Wait>(&self, rt: &R, pass: &mut Pass, t: Tick) -> Option<Lines>
         requires cell { pass.old.cell ≡ self.now }
         requires published { pass.old.ahead ≡ [] }
-        requires none_trusted { pass.old.trusted ≡ [] }
+        requires none_speculative { pass.old.speculative ≡ [] }
         requires later { own_horizon pass.old ≤ t.0 }
         ensures lines { IfSome result (λ lines. lines ≡ lines_of pass.new.known.chip) }
         ensures looked { IfSome result (λ lines. Learns (after_look pass.old t.0 lines) pass.new) }
@@ -329,7 +329,7 @@ impl TubeCell {
     {
         let found = load_at::<Brand, R>(&self.cell, rt, &mut pass.seat, pass.side, t.0);
         settle(&mut pass.words, &mut pass.local, found);
-        let bound = bound_of(pass.side, &pass.words, trust_of(&pass.words));
+        let bound = bound_of(pass.side, &pass.words, spec_horizon_of(&pass.words));
         if is_admitted(pass.side, bound, t.0) {
             return Some(pass.local.lines());
         }
@@ -340,20 +340,20 @@ impl TubeCell {
     /// the known chip (`D`, supplied by the proof) join its list, and the speculative horizon
     /// becomes `t`. Returns `false` only if the words differed from those that the pass knew; it
     /// then knows the words found.
-    pub fn entrust<D: Deeds, R: Wait>(&self, rt: &R, pass: &mut Pass, t: Tick) -> bool
+    pub fn speculate<D: GhostEvents, R: Wait>(&self, rt: &R, pass: &mut Pass, t: Tick) -> bool
         requires cell { pass.old.cell ≡ self.now }
         requires side { pass.old.side ≡ Para }
         requires published { pass.old.ahead ≡ [] }
         requires later { own_horizon pass.old ≤ t.0 }
         requires watches { Watches Para (own_horizon pass.old) pass.old.known.chip D.events t.0 }
-        ensures entrusted { IsTrue result → pass.new ≡ after_entrust pass.old D.events t.0 }
+        ensures speculated { IsTrue result → pass.new ≡ after_speculate pass.old D.events t.0 }
         ensures horizon { IsTrue result → own_horizon pass.new ≡ t.0 }
         ensures learns { IsFalse result → Learns pass.old pass.new }
         ensures missed { IsFalse result → pass.new.known ≢ pass.old.known }
     {
-        match entrust_at::<Brand, R>(&self.cell, rt, &mut pass.seat, &pass.words, t.0) {
+        match speculate_at::<Brand, R>(&self.cell, rt, &mut pass.seat, &pass.words, t.0) {
             Ok(next) => {
-                self.ring(pass.side, &pass.words, &next);
+                self.signal(pass.side, &pass.words, &next);
                 pass.words = next;
                 true
             }
@@ -367,7 +367,7 @@ impl TubeCell {
     /// Answers an access by the local chip. The access stays unpublished.
     pub fn act<R: Wait>(&self, _rt: &R, pass: &mut Pass, t: Tick, op: Op) -> u8
         requires cell { pass.old.cell ≡ self.now }
-        requires none_trusted { pass.old.trusted ≡ [] }
+        requires none_speculative { pass.old.speculative ≡ [] }
         requires operation { MayDo pass.old.side op }
         requires later { own_horizon pass.old ≤ t.0 }
         requires admitted { Admits pass.old.side (bound_here pass.old) t.0 }
@@ -385,7 +385,7 @@ impl TubeCell {
     /// Answers a look by the local chip. The look stays unpublished.
     pub fn see<R: Wait>(&self, _rt: &R, pass: &mut Pass, t: Tick) -> Lines
         requires cell { pass.old.cell ≡ self.now }
-        requires none_trusted { pass.old.trusted ≡ [] }
+        requires none_speculative { pass.old.speculative ≡ [] }
         requires later { own_horizon pass.old ≤ t.0 }
         requires admitted { Admits pass.old.side (bound_here pass.old) t.0 }
         ensures lines { result ≡ lines_of (here pass.old) }
@@ -398,11 +398,11 @@ impl TubeCell {
 
     /// Adds a machine's observations of the local chip, all below `end`, to the unpublished events.
     /// The proof supplies them, as `D`.
-    pub fn see_all<D: Deeds, R: Wait>(&self, _rt: &R, pass: &mut Pass, _end: Tick)
+    pub fn see_all<D: GhostEvents, R: Wait>(&self, _rt: &R, pass: &mut Pass, _end: Tick)
         requires cell { pass.old.cell ≡ self.now }
-        requires none_trusted { pass.old.trusted ≡ [] }
+        requires none_speculative { pass.old.speculative ≡ [] }
         requires watches { Watches pass.old.side (own_horizon pass.old) (here pass.old) D.events _end.0 }
-        requires admitted { _end.0 + slack pass.old.side ≤ bound_here pass.old + 1 }
+        requires admitted { _end.0 + tie_offset pass.old.side ≤ bound_here pass.old + 1 }
         ensures added { pass.new ≡ after_add pass.old D.events }
         ensures horizon { (t : ℕ) → own_horizon pass.old ≤ t → AllBelow t D.events → own_horizon pass.new ≤ t }
         ensures here { here pass.new ≡ here pass.old }
@@ -417,13 +417,13 @@ impl TubeCell {
     /// unpublished.
     pub fn publish<R: Wait>(&self, rt: &R, pass: &mut Pass, h: Tick) -> bool
         requires cell { pass.old.cell ≡ self.now }
-        requires none_trusted { pass.old.trusted ≡ [] }
+        requires none_speculative { pass.old.speculative ≡ [] }
         requires later { own_horizon pass.old ≤ h.0 }
         ensures published { IsTrue result → pass.new ≡ after_publish pass.old h.0 }
         ensures learns { IsFalse result → Learns pass.old pass.new }
         ensures missed { IsFalse result → pass.new.known ≢ pass.old.known }
     {
-        let left = trust_of(&pass.words).min(pass.cut);
+        let left = spec_horizon_of(&pass.words).min(pass.cut);
         match exchange::<Brand, R>(
             &self.cell,
             rt,
@@ -436,7 +436,7 @@ impl TubeCell {
             left,
         ) {
             Ok(next) => {
-                self.ring(pass.side, &pass.words, &next);
+                self.signal(pass.side, &pass.words, &next);
                 pass.words = next;
                 pass.cut = u64::MAX;
                 true
@@ -453,7 +453,7 @@ impl TubeCell {
     /// from `h` on (`D`, supplied by the proof) join the list speculatively, and the speculative
     /// horizon becomes `t`. Returns `false` only if the words differed from those that the pass
     /// knew; it then knows the words found, and the events stay unpublished.
-    pub fn publish_and_entrust<D: Deeds, R: Wait>(
+    pub fn publish_and_speculate<D: GhostEvents, R: Wait>(
         &self,
         rt: &R,
         pass: &mut Pass,
@@ -462,16 +462,16 @@ impl TubeCell {
     ) -> bool
         requires cell { pass.old.cell ≡ self.now }
         requires side { pass.old.side ≡ Para }
-        requires none_trusted { pass.old.trusted ≡ [] }
+        requires none_speculative { pass.old.speculative ≡ [] }
         requires later { own_horizon pass.old ≤ h.0 }
         requires order { h.0 ≤ t.0 }
         requires watches { Watches Para h.0 (here pass.old) D.events t.0 }
-        ensures entrusted { IsTrue result → pass.new ≡ after_entrust (after_publish pass.old h.0) D.events t.0 }
+        ensures speculated { IsTrue result → pass.new ≡ after_speculate (after_publish pass.old h.0) D.events t.0 }
         ensures horizon { IsTrue result → own_horizon pass.new ≡ t.0 }
         ensures learns { IsFalse result → Learns pass.old pass.new }
         ensures missed { IsFalse result → pass.new.known ≢ pass.old.known }
     {
-        let told = publish_and_entrust_at::<Brand, D, R>(
+        let told = publish_and_speculate_at::<Brand, D, R>(
             &self.cell,
             rt,
             &mut pass.seat,
@@ -482,7 +482,7 @@ impl TubeCell {
         );
         match told {
             Ok(next) => {
-                self.ring(pass.side, &pass.words, &next);
+                self.signal(pass.side, &pass.words, &next);
                 pass.words = next;
                 pass.cut = u64::MAX;
                 true
@@ -500,7 +500,7 @@ impl TubeCell {
         requires cell { (host.cell ≡ self.now) × (para.cell ≡ self.now) }
         requires sides { (host.side ≡ Host) × (para.side ≡ Para) }
         requires published { (host.ahead ≡ []) × (para.ahead ≡ []) }
-        requires none_trusted { para.trusted ≡ [] }
+        requires none_speculative { para.speculative ≡ [] }
         ensures chip { result ≡ after (merge host.events para.events) }
         ensures legal { IsLegal (merge host.events para.events) }
     {
@@ -535,7 +535,7 @@ impl Pass {
 
 // Adds events to the view's unpublished ones. Only the proof reads `_side`, `_tick` and `_op`: they
 // name the event if it is one access or look.
-fn add<D: Deeds>(
+fn add<D: GhostEvents>(
     cell: &Cell,
     seat: &mut Seat<[u64; 9], PassView>,
     _side: Side,
@@ -553,7 +553,7 @@ fn add<D: Deeds>(
 // Publishes one access, or none, by one exchange that writes `chip` and the own horizon `word`.
 // Only the proof reads `_access`, which names the event. Returns the words written, or as `Err`
 // those found in place of the known ones.
-fn exchange<W: Wish, R: Wait>(
+fn exchange<W: GhostUpdate, R: Wait>(
     cell: &Cell,
     rt: &R,
     seat: &mut Seat<[u64; 9], PassView>,
@@ -562,12 +562,12 @@ fn exchange<W: Wish, R: Wait>(
     _access: Option<(u64, Op)>,
     chip: &Chip,
     word: u64,
-    trust: u64,
+    spec_horizon: u64,
 ) -> Result<[u64; 9], [u64; 9]>
     requires cell { seat.old.table_id ≡ cell.now.table.shared.table_id }
     requires words { words.now ≡ words_of (cell_view seat.old).known }
-    requires trust { let k = (cell_view seat.old).known in trust ≡ trust_after side k.chip k.trust W.events }
-    requires next { W.next ≡ known_with side chip.now word (word_of_other side (cell_view seat.old).known) trust }
+    requires spec_horizon { let k = (cell_view seat.old).known in spec_horizon ≡ spec_horizon_after side k.chip k.spec_horizon W.events }
+    requires next { W.next ≡ known_with side chip.now word (word_of_other side (cell_view seat.old).known) spec_horizon }
     requires may { MayPublish side W.events chip.now word (cell_view seat.old) }
     ensures cell { IsSamePass seat.old seat.new }
     ensures bounds { IsChip chip.now }
@@ -577,7 +577,7 @@ fn exchange<W: Wish, R: Wait>(
     ensures missed { IfErr result (λ found. found ≢ words.now) }
 {
     packing_is_one_to_one();
-    let next = next_words(side, chip, word, word_of(side, words), trust);
+    let next = next_words(side, chip, word, word_of(side, words), spec_horizon);
     match swap::<Publishing<W>, R>(cell, rt, seat, words, next) {
         Ok(_) => Ok(next),
         Err(found) => Err(found),
@@ -587,26 +587,26 @@ fn exchange<W: Wish, R: Wait>(
 // Puts events onto the parasite's list speculatively, by one exchange that sets the speculative
 // horizon and keeps the known chip. Returns the words written, or as `Err` those found in place of
 // the known ones.
-fn entrust_at<W: Wish, R: Wait>(
+fn speculate_at<W: GhostUpdate, R: Wait>(
     cell: &Cell,
     rt: &R,
     seat: &mut Seat<[u64; 9], PassView>,
     words: &[u64; 9],
-    trust: u64,
+    spec_horizon: u64,
 ) -> Result<[u64; 9], [u64; 9]>
     requires cell { seat.old.table_id ≡ cell.now.table.shared.table_id }
     requires words { words.now ≡ words_of (cell_view seat.old).known }
-    requires next { W.next ≡ record (cell_view seat.old).known { trust = trust } }
-    requires may { MayEntrust W.events trust (cell_view seat.old) }
+    requires next { W.next ≡ record (cell_view seat.old).known { spec_horizon = spec_horizon } }
+    requires may { MaySpeculate W.events spec_horizon (cell_view seat.old) }
     ensures cell { IsSamePass seat.old seat.new }
     ensures next { IfOk result (λ next. next ≡ words_of W.next) }
-    ensures entrusted { IfOk result (λ _. cell_view seat.new ≡ entrusted_view (cell_view seat.old) W.events W.next) }
+    ensures speculated { IfOk result (λ _. cell_view seat.new ≡ speculated_view (cell_view seat.old) W.events W.next) }
     ensures found { IfErr result (λ found. Found found (cell_view seat.old) (cell_view seat.new)) }
     ensures missed { IfErr result (λ found. found ≢ words.now) }
 {
     packing_is_one_to_one();
-    let next = with_trust(words, trust);
-    match swap::<Entrusting<W>, R>(cell, rt, seat, words, next) {
+    let next = with_spec_horizon(words, spec_horizon);
+    match swap::<Speculating<W>, R>(cell, rt, seat, words, next) {
         Ok(_) => Ok(next),
         Err(found) => Err(found),
     }
@@ -615,19 +615,19 @@ fn entrust_at<W: Wish, R: Wait>(
 // Publishes events and puts later ones onto the parasite's list speculatively, by one exchange that
 // writes `chip`, the own horizon `word` and the speculative horizon. Returns the words written, or
 // as `Err` those found in place of the known ones.
-fn publish_and_entrust_at<W: Wish, D: Deeds, R: Wait>(
+fn publish_and_speculate_at<W: GhostUpdate, D: GhostEvents, R: Wait>(
     cell: &Cell,
     rt: &R,
     seat: &mut Seat<[u64; 9], PassView>,
     words: &[u64; 9],
     chip: &Chip,
     word: u64,
-    trust: u64,
+    spec_horizon: u64,
 ) -> Result<[u64; 9], [u64; 9]>
     requires cell { seat.old.table_id ≡ cell.now.table.shared.table_id }
     requires words { words.now ≡ words_of (cell_view seat.old).known }
-    requires next { W.next ≡ known_with Para chip.now word (word_of_other Para (cell_view seat.old).known) trust }
-    requires may { MayPublishAndEntrust W.events chip.now word D.events trust (cell_view seat.old) }
+    requires next { W.next ≡ known_with Para chip.now word (word_of_other Para (cell_view seat.old).known) spec_horizon }
+    requires may { MayPublishAndSpeculate W.events chip.now word D.events spec_horizon (cell_view seat.old) }
     ensures cell { IsSamePass seat.old seat.new }
     ensures bounds { IsChip chip.now }
     ensures next { IfOk result (λ next. next ≡ words_of W.next) }
@@ -636,15 +636,15 @@ fn publish_and_entrust_at<W: Wish, D: Deeds, R: Wait>(
     ensures missed { IfErr result (λ found. found ≢ words.now) }
 {
     packing_is_one_to_one();
-    let next = next_words(Side::Para, chip, word, word_of(Side::Para, words), trust);
-    match swap::<PublishingAndEntrusting<W, D>, R>(cell, rt, seat, words, next) {
+    let next = next_words(Side::Para, chip, word, word_of(Side::Para, words), spec_horizon);
+    match swap::<PublishingAndSpeculating<W, D>, R>(cell, rt, seat, words, next) {
         Ok(_) => Ok(next),
         Err(found) => Err(found),
     }
 }
 
 // Loads the words once, for a look at tick `t`.
-fn load_at<M: Moment, R: Wait>(
+fn load_at<M: GhostTick, R: Wait>(
     cell: &Cell,
     rt: &R,
     seat: &mut Seat<[u64; 9], PassView>,
@@ -666,7 +666,7 @@ fn take_in(cell: &Cell, host: &mut Seat<[u64; 9], PassView>, para: &mut Seat<[u6
     requires para_cell { para.old.table_id ≡ cell.now.table.shared.table_id }
     requires host_role { (cell_view host.old).role ≡ one_side Host }
     requires para_role { (cell_view para.old).role ≡ one_side Para }
-    requires none_trusted { (cell_view para.old).trusted ≡ [] }
+    requires none_speculative { (cell_view para.old).speculative ≡ [] }
     ensures cell { IsSamePass host.old host.new }
     ensures joined { cell_view host.new ≡ joined_view (cell_view host.old) (cell_view para.old) }
 {
@@ -695,7 +695,7 @@ fn load<M: Outcome<[u64; 9], PassView>, R: Wait>(
     seat: &mut Seat<[u64; 9], PassView>,
 ) -> [u64; 9]
     requires cell { seat.old.table_id ≡ cell.now.table.shared.table_id }
-    requires rule { Turns Kept seat.old.id (cell_view seat.old) (λ x. x) M.then }
+    requires rule { Turns CellInvariant seat.old.id (cell_view seat.old) (λ x. x) M.then }
     ensures cell { IsSamePass seat.old seat.new }
     ensures rule { M.then (cell_view seat.old) result result (cell_view seat.new) }
 {
@@ -711,7 +711,7 @@ fn swap<M: Outcome<[u64; 9], PassView>, R: Wait>(
     next: [u64; 9],
 ) -> Result<[u64; 9], [u64; 9]>
     requires cell { seat.old.table_id ≡ cell.now.table.shared.table_id }
-    requires rule { Turns Kept seat.old.id (cell_view seat.old) (λ x. if pointwise nat_eq x words.now then next else x) M.then }
+    requires rule { Turns CellInvariant seat.old.id (cell_view seat.old) (λ x. if pointwise nat_eq x words.now then next else x) M.then }
     ensures cell { IsSamePass seat.old seat.new }
     ensures hit { IfOk result (λ x. (pointwise nat_eq x words.now ≡ true) × M.then (cell_view seat.old) x next (cell_view seat.new)) }
     ensures missed { IfErr result (λ x. (pointwise nat_eq x words.now ≡ false) × M.then (cell_view seat.old) x x (cell_view seat.new)) }
@@ -725,7 +725,7 @@ fn part<M: Split<PassView>>(
     seat: &mut Seat<[u64; 9], PassView>,
 ) -> Seat<[u64; 9], PassView>
     requires cell { seat.old.table_id ≡ cell.now.table.shared.table_id }
-    requires rule { Forks Kept seat.old.id (cell_view seat.old) (M.left (cell_view seat.old)) (M.right (cell_view seat.old)) }
+    requires rule { Forks CellInvariant seat.old.id (cell_view seat.old) (M.left (cell_view seat.old)) (M.right (cell_view seat.old)) }
     ensures kept { IsSamePass seat.old seat.new × (cell_view seat.new ≡ M.left (cell_view seat.old)) }
     ensures given { (result.table_id ≡ seat.old.table_id) × (cell_view result ≡ M.right (cell_view seat.old)) × (result.me.1 ≡ []) }
 {
@@ -739,7 +739,7 @@ fn unite<M: Join<PassView>>(
     other: Seat<[u64; 9], PassView>,
 )
     requires cell { (seat.old.table_id ≡ cell.now.table.shared.table_id) × (other.table_id ≡ seat.old.table_id) × (other.me.1 ≡ []) }
-    requires rule { Merges Kept seat.old.id (cell_view seat.old) other.id (cell_view other) (M.both (cell_view seat.old) (cell_view other)) M.spent }
+    requires rule { Merges CellInvariant seat.old.id (cell_view seat.old) other.id (cell_view other) (M.both (cell_view seat.old) (cell_view other)) M.spent }
     ensures { IsSamePass seat.old seat.new × (cell_view seat.new ≡ M.both (cell_view seat.old) (cell_view other)) }
 {
     cell.join_pass::<M>(seat, other);

@@ -2,17 +2,17 @@
 //! a whole.
 #![tactic(auto)]
 
-mod bell;
+mod waker;
 mod cell;
 mod local;
 mod rule;
 mod words;
 
 use beeb_bits::Crosses;
-pub use bell::Bell;
+pub use waker::Waker;
 pub use cell::{Pass, TubeCell, Whole};
 pub use local::Readings;
-pub use rule::Deeds;
+pub use rule::GhostEvents;
 
 impl Crosses for TubeCell {}
 

@@ -3,7 +3,7 @@ ghost use Rattle.std.specs.Prelude.{◌≡◌};
 ghost use Rattle.beeb_bits.specs.declared.Side.TheVariants.{Host, Para};
 ghost use Rattle.tube_chip.specs.State.{State};
 ghost use Rattle.tube_chip.specs.Act.{access, MayDo, answer_of, chip_after};
-ghost use Rattle.tube_cell.specs.Views.{is_observation, shown_to, readings_of, same_lines, same_readings, trust_next};
+ghost use Rattle.tube_cell.specs.Views.{is_observation, shown_to, readings_of, same_lines, same_readings, spec_horizon_next};
 
 use beeb_bits::Side;
 use tube_chip::{Chip, Lines, Op};
@@ -59,42 +59,42 @@ fn is_observation(op: Op) -> bool
 
 // Returns the speculative horizon after an operation of the host at `tick`, given what the parasite
 // could observe before and after it.
-fn trust_left(before: Readings, after: Readings, tick: u64, trust: u64) -> u64
-    ensures { (c d : State) → before ≡ readings_of c → after ≡ readings_of d → result ≡ trust_next Host c d tick trust }
+fn spec_horizon_left(before: Readings, after: Readings, tick: u64, spec_horizon: u64) -> u64
+    ensures { (c d : State) → before ≡ readings_of c → after ≡ readings_of d → result ≡ spec_horizon_next Host c d tick spec_horizon }
 {
     if same_readings(before, after) {
-        trust
+        spec_horizon
     } else {
-        trust.min(tick)
+        spec_horizon.min(tick)
     }
 }
 
 // Does an operation of the host at `tick`. Returns its answer and the speculative horizon after it.
-fn host_operates(chip: &mut Chip, op: Op, tick: u64, trust: u64) -> (u8, u64)
+fn host_operates(chip: &mut Chip, op: Op, tick: u64, spec_horizon: u64) -> (u8, u64)
     requires { MayDo Host op }
     ensures chip { chip.new ≡ chip_after chip.old Host op }
     ensures answer { result.0 ≡ answer_of chip.old Host op }
-    ensures trust { result.1 ≡ trust_next Host chip.old chip.new tick trust }
+    ensures spec_horizon { result.1 ≡ spec_horizon_next Host chip.old chip.new tick spec_horizon }
 {
-    if is_observation(op) || trust <= tick {
+    if is_observation(op) || spec_horizon <= tick {
         let answer = chip.apply(Side::Host, op);
-        return (answer, trust);
+        return (answer, spec_horizon);
     }
     let before = readings_of(chip, Side::Para);
     let answer = chip.apply(Side::Host, op);
     let after = readings_of(chip, Side::Para);
-    (answer, trust_left(before, after, tick, trust))
+    (answer, spec_horizon_left(before, after, tick, spec_horizon))
 }
 
 /// Does an operation of `side` at `tick`. Returns its answer and the speculative horizon after it.
-pub(crate) fn operate(chip: &mut Chip, side: Side, op: Op, tick: u64, trust: u64) -> (u8, u64)
+pub(crate) fn operate(chip: &mut Chip, side: Side, op: Op, tick: u64, spec_horizon: u64) -> (u8, u64)
     requires { MayDo side op }
     ensures chip { chip.new ≡ chip_after chip.old side op }
     ensures answer { result.0 ≡ answer_of chip.old side op }
-    ensures trust { result.1 ≡ trust_next side chip.old chip.new tick trust }
+    ensures spec_horizon { result.1 ≡ spec_horizon_next side chip.old chip.new tick spec_horizon }
 {
     match side {
-        Side::Host => host_operates(chip, op, tick, trust),
-        Side::Para => (chip.apply(Side::Para, op), trust),
+        Side::Host => host_operates(chip, op, tick, spec_horizon),
+        Side::Para => (chip.apply(Side::Para, op), spec_horizon),
     }
 }

@@ -20,57 +20,57 @@ impl Model for PassView {
 pub struct CellRule;
 
 impl Protocol<[u64; 9], PassView> for CellRule {
-    ghost use Rattle.tube_cell.specs.Rules.{Kept, whole};
+    ghost use Rattle.tube_cell.specs.Rules.{CellInvariant, whole};
 
-    ghost holds = { Kept };
+    ghost holds = { CellInvariant };
 
     ghost first = { whole };
 }
 
 /// What an exchange does: `events` join the list and `next` are the new words. No value of it
 /// exists: the proof of a call supplies it. The code of the call names `Brand` in its place.
-pub trait Wish {
+pub trait GhostUpdate {
     ghost use Rattle.std.specs.Prelude.{List};
     ghost use Rattle.tube_chip.specs.Events.{Event};
-    ghost use Rattle.tube_cell.specs.Views.{Known};
+    ghost use Rattle.tube_cell.specs.Views.{CellSnapshot};
 
     ghost events: { List Event };
 
-    ghost next: { Known };
+    ghost next: { CellSnapshot };
 }
 
-impl Wish for Brand {
+impl GhostUpdate for Brand {
     ghost use Rattle.std.specs.Prelude.{[]};
-    ghost use Rattle.tube_cell.specs.Views.{new_known};
+    ghost use Rattle.tube_cell.specs.Views.{new_snapshot};
 
     ghost events = { [] };
 
-    ghost next = { new_known };
+    ghost next = { new_snapshot };
 }
 
 /// Events that a machine did without the cell, which join the unpublished events or, speculatively,
 /// the list. The proof of a call supplies them, as for `GhostUpdate`.
-pub trait Deeds {
+pub trait GhostEvents {
     ghost use Rattle.std.specs.Prelude.{List};
     ghost use Rattle.tube_chip.specs.Events.{Event};
 
     ghost events: { List Event };
 }
 
-impl Deeds for Brand {
+impl GhostEvents for Brand {
     ghost use Rattle.std.specs.Prelude.{[]};
 
     ghost events = { [] };
 }
 
 /// The tick of a look. The proof of a call supplies it, as for `GhostUpdate`.
-pub trait Moment {
+pub trait GhostTick {
     ghost use Rattle.std.specs.Prelude.{ℕ};
 
     ghost tick: { ℕ };
 }
 
-impl Moment for Brand {
+impl GhostTick for Brand {
     ghost tick = { 0 };
 }
 
@@ -85,45 +85,45 @@ impl Outcome<[u64; 9], PassView> for Learning {
 
 /// An exchange: a raise without an event, or a commit of an access.
 pub struct Publishing<W> {
-    wish: PhantomData<W>,
+    update: PhantomData<W>,
 }
 
-impl<W: Wish> Outcome<[u64; 9], PassView> for Publishing<W> {
+impl<W: GhostUpdate> Outcome<[u64; 9], PassView> for Publishing<W> {
     ghost use Rattle.tube_cell.specs.Rules.{Publishes};
 
     ghost then = { Publishes W.events W.next };
 }
 
 /// An exchange that puts events onto the parasite's list speculatively.
-pub struct Entrusting<W> {
-    wish: PhantomData<W>,
+pub struct Speculating<W> {
+    update: PhantomData<W>,
 }
 
-impl<W: Wish> Outcome<[u64; 9], PassView> for Entrusting<W> {
-    ghost use Rattle.tube_cell.specs.Rules.{Entrusts};
+impl<W: GhostUpdate> Outcome<[u64; 9], PassView> for Speculating<W> {
+    ghost use Rattle.tube_cell.specs.Rules.{Speculates};
 
-    ghost then = { Entrusts W.events W.next };
+    ghost then = { Speculates W.events W.next };
 }
 
 /// An exchange that publishes events of the parasite and puts later ones onto its list
 /// speculatively.
-pub struct PublishingAndEntrusting<W, D> {
-    wish: PhantomData<W>,
-    deeds: PhantomData<D>,
+pub struct PublishingAndSpeculating<W, D> {
+    update: PhantomData<W>,
+    events: PhantomData<D>,
 }
 
-impl<W: Wish, D: Deeds> Outcome<[u64; 9], PassView> for PublishingAndEntrusting<W, D> {
-    ghost use Rattle.tube_cell.specs.Rules.{PublishesAndEntrusts};
+impl<W: GhostUpdate, D: GhostEvents> Outcome<[u64; 9], PassView> for PublishingAndSpeculating<W, D> {
+    ghost use Rattle.tube_cell.specs.Rules.{PublishesAndSpeculates};
 
-    ghost then = { PublishesAndEntrusts W.events D.events W.next };
+    ghost then = { PublishesAndSpeculates W.events D.events W.next };
 }
 
 /// A load that adds a look to the list if the words admit it.
 pub struct Looking<M> {
-    moment: PhantomData<M>,
+    tick: PhantomData<M>,
 }
 
-impl<M: Moment> Outcome<[u64; 9], PassView> for Looking<M> {
+impl<M: GhostTick> Outcome<[u64; 9], PassView> for Looking<M> {
     ghost use Rattle.tube_cell.specs.Rules.{Looks};
 
     ghost then = { Looks M.tick };
@@ -159,10 +159,10 @@ impl Join<PassView> for Halves {
 
 /// Adds events to a view's unpublished ones. (The part that is split off holds nothing.)
 pub struct Adding<D> {
-    deeds: PhantomData<D>,
+    events: PhantomData<D>,
 }
 
-impl<D: Deeds> Split<PassView> for Adding<D> {
+impl<D: GhostEvents> Split<PassView> for Adding<D> {
     ghost use Rattle.tube_cell.specs.Rules.{added_view, spent_view};
 
     ghost left = { λ v. added_view v D.events };

@@ -16,19 +16,19 @@ use Rattle.tube_chip.specs.declared.Answer.TheVariants.{Byte}
 use Rattle.tube_chip.specs.declared.Lines.{Lines}
 use Rattle.tube_chip.specs.declared.Op.{Op}
 use Rattle.tube_chip.specs.Act.{access}
-use Rattle.tube_party.specs.Moves.{Talks, IsAnswered, IsAnsweredAgain, shown_lines}
+use Rattle.tube_party.specs.Transitions.{Talks, IsAnswered, IsAnsweredAgain, shown_lines}
 use Rattle.tube_party.specs.Steps.{talks_on}
-use Rattle.tube_machine.specs.Wiring.{Wiring, IsWired, StaysPlain}
-use Rattle.tube_machine.specs.Step.{At, at_of, is_break, asks, asks_by, after_look, closed_to, next_state, moves_of}
+use Rattle.tube_machine.specs.BusModel.{BusModel, IsWired, StaysPlain}
+use Rattle.tube_machine.specs.Step.{At, at_of, is_break, asks, asks_by, after_look, closed_to, next_state, transitions_of}
 use Rattle.tube_machine.specs.Exchange.{IsAtTube, IsPassing, owed_at}
 use Rattle.tube_machine.specs.Lawful.{asked_closed, break_closed, next_closed}
 use Rattle.tube_machine.specs.NoBreak.{no-break, plain-asks}
 use Rattle.tube_machine.specs.Whole.{reach_of, IsMemory, StaysAtRest, IsOnward, IsServed}
-use Rattle.tube_machine.proofs.UnderWay.{IsUnderWay, IsFree, at-same, begins, caught-up, at-look, came-there}
+use Rattle.tube_machine.proofs.InProgress.{IsInProgress, IsFree, at-same, begins, caught-up, at-look, came-there}
 use Rattle.tube_machine.proofs.WholeSteps.{Closes, next-more, carried-closed, to-tube, look-on, whole-behind, onward}
 use Rattle.tube_machine.proofs.Taken.{at-tube, taken}
 
-module _ {part : Part} {B D : Type 0} {w : Wiring B} {plain : B → Lines → Bool} {answers : D → ℕ → Op → ℕ → D → Type 0} {lines : Lines} where
+module _ {part : Part} {B D : Type 0} {w : BusModel B} {plain : B → Lines → Bool} {answers : D → ℕ → Op → ℕ → D → Type 0} {lines : Lines} where
   -- steps without such accesses
   pub served-onward : {bound : ℕ} {old new : At B} {d : D} → IsOnward part w plain lines bound old new → IsServed part w plain answers lines bound old d new d
   served-onward on = grind arith
@@ -37,10 +37,10 @@ module _ {part : Part} {B D : Type 0} {w : Wiring B} {plain : B → Lines → Bo
   pub served-then : {bound : ℕ} {old mid new : At B} {d f e : D} → IsServed part w plain answers lines bound old d mid f → IsServed part w plain answers lines bound mid f new e
       → IsServed part w plain answers lines bound old d new e
   served-then {old = old} {mid} {new} {d} {f} {e} a b = record {
-    talks = λ until sure in_run early.
-        let one = a.talks until sure in_run early in
-        let two = b.talks until sure in_run early in
-        talks_on (moves_of part w) answers until lines sure one.0 two.0 old mid new d f e one.1 two.1;
+    talks = λ until safe_until in_run early.
+        let one = a.talks until safe_until in_run early in
+        let two = b.talks until safe_until in_run early in
+        talks_on (transitions_of part w) answers until lines safe_until one.0 two.0 old mid new d f e one.1 two.1;
     alike =
         let x = a.alike in
         let y = b.alike in
@@ -54,14 +54,14 @@ module _ {part : Part} {B D : Type 0} {w : Wiring B} {plain : B → Lines → Bo
   -- steps that are served up to a tick are served up to a later one
   pub served-wider : {end bound : ℕ} {old new : At B} {d e : D} → end ≤ bound → IsServed part w plain answers lines end old d new e → IsServed part w plain answers lines bound old d new e
   served-wider high a = record {
-    talks = λ until sure in_run early. a.talks until sure (omega (arith, in_run, high)) (omega (arith, early, high));
+    talks = λ until safe_until in_run early. a.talks until safe_until (omega (arith, in_run, high)) (omega (arith, early, high));
     alike =
         let x = a.alike in
         record { goes_on = x.goes_on; closed = x.closed; cycle = x.cycle; free = λ far far_on clear. x.free far (omega (arith, far_on, high)) clear; is_plain = x.is_plain };
   }
 
 -- from a bus whose devices need not be closed yet as far as it counts
-module _ (part : Part) {B D : Type 0} {w : Wiring B} (wired : IsWired w) {reads writes : ℕ → Bool} (memory : IsMemory w reads writes)
+module _ (part : Part) {B D : Type 0} {w : BusModel B} (wired : IsWired w) {reads writes : ℕ → Bool} (memory : IsMemory w reads writes)
     {rests : B → Lines → Bool → ℕ → Type 0} (stays_at_rest : StaysAtRest w writes rests) {plain : B → Lines → Bool} (stays : StaysPlain w plain)
     (answers : D → ℕ → Op → ℕ → D → Type 0) (bound byte : ℕ) {lines : Lines} {masks : Bool} {quiet n : ℕ} {m : B} {r : Regs} {o : LastAccess} {asked : Op}
     (cycle : n ≡ w.cycle m) (first : plain m lines ≡ true) (free : IsFree part w bound m)
@@ -119,9 +119,9 @@ module _ (part : Part) {B D : Type 0} {w : Wiring B} (wired : IsWired w) {reads 
     closed_to_start : w.closed (w.close m u) ≤ from + 1
     closed_to_start = let is = wired.closed m u in omega (arith, is, before, low)
 
-    to-there : (until sure : ℕ) → bound ≤ until → IsUnderWay part w plain bound n until lines sure (starts u from) there from
-    to-there until sure in_run =
-        to-tube part wired memory stays_at_rest stays bound until lines sure n (starts u from) masks quiet c (w.close m 0) last (outside from).next (at_tube 0) o.cycles
+    to-there : (until safe_until : ℕ) → bound ≤ until → IsInProgress part w plain bound n until lines safe_until (starts u from) there from
+    to-there until safe_until in_run =
+        to-tube part wired memory stays_at_rest stays bound until lines safe_until n (starts u from) masks quiet c (w.close m 0) last (outside from).next (at_tube 0) o.cycles
         (starts u from) from from came.0 (top from)
         (record {
           way = caught-up part wired stays (cycle ∙ sym (wired.cycle_close m u)) (begins part Instruction r) closed_to_start (free_to u bound free) (λ is. is) (0, refl);
@@ -165,16 +165,16 @@ module _ (part : Part) {B D : Type 0} {w : Wiring B} (wired : IsWired w) {reads 
         at-same (ap (fresh Instruction) (sym ((outside from).regs byte))) (sym (wired.again m (top from + 1) (top from + n) (omega (arith, some))) ∙ ap (w.close b) tick) tick
         ∙ look-on part wired memory stays_at_rest stays on b over_there.due (plain_to (top from + 1)) rest_on (omega (arith, still, some)) held_on
 
-    behind-look : (until sure : ℕ) → bound ≤ until → bound ≤ sure → IsUnderWay part w plain bound n until lines sure over_there (ended from) (top from + n)
-    behind-look until sure in_run early =
+    behind-look : (until safe_until : ℕ) → bound ≤ until → bound ≤ safe_until → IsInProgress part w plain bound n until lines safe_until over_there (ended from) (top from + n)
+    behind-look until safe_until in_run early =
         at-look part wired stays cycle_on ((outside from).over byte) (omega (arith, closed_on)) (free_to (top from + 1) bound free) (plain_to (top from + 1))
         (omega (arith, fits, in_run, some)) (omega (arith, fits, early, some)) (omega (arith, fits, some)) looked
 
-    talk : (until sure : ℕ) → bound ≤ until → bound ≤ sure → (j : ℕ) × Talks (moves_of part w) answers until (shown_lines lines sure) j (starts u from) d (ended from) e
-    talk until sure in_run early =
-        let way = to-there until sure in_run in
+    talk : (until safe_until : ℕ) → bound ≤ until → bound ≤ safe_until → (j : ℕ) × Talks (transitions_of part w) answers until (shown_lines lines safe_until) j (starts u from) d (ended from) e
+    talk until safe_until in_run early =
+        let way = to-there until safe_until in_run in
         let v : ℕ = owed_at n from (top from) (w.closed came.0) in
-        let one : IsAnswered (moves_of part w) answers until (closed_to w there v) d over_there e = record {
+        let one : IsAnswered (transitions_of part w) answers until (closed_to w there v) d over_there e = record {
           op = asked;
           byte = byte;
           below = omega (arith, fits, in_run, some);
@@ -189,7 +189,7 @@ module _ (part : Part) {B D : Type 0} {w : Wiring B} (wired : IsWired w) {reads 
             e,
             way.looks,
             one,
-            (refl, came-there part wired stays (behind-look until sure in_run early)),
+            (refl, came-there part wired stays (behind-look until safe_until in_run early)),
           ),
         )
 
@@ -222,13 +222,13 @@ module _ (part : Part) {B D : Type 0} {w : Wiring B} (wired : IsWired w) {reads 
     closed_then s t high before = let is = wired.closed m t in omega (arith, is, before, high)
 
     -- the branch
-    branched : (s : ℕ) → w.closed m ≤ s + 1 → s + n * k ≤ bound → (far until sure : ℕ) → bound ≤ far → bound ≤ until → bound ≤ sure → IsFree part w far (w.close m s) →
-        IsUnderWay part w plain far n until lines sure (behind s) (at (s + n * k)) (s + n * k)
-    branched s before fits far until sure far_on in_run early clear =
-        let begun : IsUnderWay part w plain far n until lines sure (behind s) (behind s) s =
+    branched : (s : ℕ) → w.closed m ≤ s + 1 → s + n * k ≤ bound → (far until safe_until : ℕ) → bound ≤ far → bound ≤ until → bound ≤ safe_until → IsFree part w far (w.close m s) →
+        IsInProgress part w plain far n until lines safe_until (behind s) (at (s + n * k)) (s + n * k)
+    branched s before fits far until safe_until far_on in_run early clear =
+        let begun : IsInProgress part w plain far n until lines safe_until (behind s) (behind s) s =
         caught-up part wired stays (cycle ∙ sym (wired.cycle_close m s)) (begins part Instruction (outcome part o r byte))
         (closed_then s s (omega arith) before) clear (λ is. is) (0, refl) in
-        (whole-behind part wired memory stays_at_rest stays far until lines sure n (behind s) masks quiet k s s (outcome part o r byte) r m m goes (omega arith)
+        (whole-behind part wired memory stays_at_rest stays far until lines safe_until n (behind s) masks quiet k s s (outcome part o r byte) r m m goes (omega arith)
         begun (back s) before (omega (arith, fits, far_on)) (omega (arith, fits, in_run)) (omega (arith, fits, early)) (omega (arith, fits, room))
         (stays_at_rest.close m lines masks quiet s rest (omega (arith, fits, room))) ((outside 0).masks byte ∙ sym held) (plain_to s)).0
 

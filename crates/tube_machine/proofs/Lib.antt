@@ -1,4 +1,4 @@
-pub mod UnderWay
+pub mod InProgress
 pub mod Taken
 pub mod Spends
 pub mod Lengths

@@ -7,7 +7,7 @@ use Rattle.op_table.specs.declared.names.Part.TheVariants.{Cmos}
 use Rattle.cpu_alu.specs.declared.Cycle.{Cycle}
 use Rattle.cpu_core.specs.State as cpu
 use Rattle.cpu_core.specs.Sequences.{next_cycle, after_byte, shown_byte, halted}
-use Rattle.tube_machine.specs.Exchange.{Spent, spent, HasSpent, ready}
+use Rattle.tube_machine.specs.Exchange.{NoteBudget, spent, HasSpent, ready}
 
 -- each access is one more cycle that was seen
 pub seen-on : (part : Part) (s on : cpu.State) (byte : ℕ) → on ≡ after_byte part s byte → halted part s ≡ false → length on.seen ≡ length s.seen + 1
@@ -20,16 +20,16 @@ seen-more part s on byte gave is = seen-on part s on byte gave (ap (λ (p : Part
 pub one-more : (c n : ℕ) → c * (n + 1) ≡ c * n + c
 one-more c n = mul-add c n 1 ∙ ap (λ (k : ℕ). c * n + k) (mul-one c)
 
-pub none-spent : {counts : Type 0} {cycle sure : ℕ} {old : Spent} → HasSpent counts cycle sure old old
+pub none-spent : {counts : Type 0} {cycle safe_until : ℕ} {old : NoteBudget} → HasSpent counts cycle safe_until old old
 none-spent = record { room = λ is. omega arith; late = λ is top high late. late }
 
 -- and on from there
-pub spent-on : {counts : Type 0} {cycle sure : ℕ} {old mid new : Spent} → HasSpent counts cycle sure old mid → HasSpent counts cycle sure mid new → HasSpent counts cycle sure old new
+pub spent-on : {counts : Type 0} {cycle safe_until : ℕ} {old mid new : NoteBudget} → HasSpent counts cycle safe_until old mid → HasSpent counts cycle safe_until mid new → HasSpent counts cycle safe_until old new
 spent-on a b = record { room = λ is. omega (arith, a.room is, b.room is); late = λ is top high late. b.late is top high (a.late is top high late) }
 
 -- an access
-pub spent-more : {counts : Type 0} {cycle sure room due seen : ℕ} {old now : Spent} → HasSpent counts cycle sure old now → now.room ≤ room + 1
-    → (counts → due ≡ now.due + cycle) → (counts → seen ≡ now.seen + 1) → HasSpent counts cycle sure old (spent due room seen)
+pub spent-more : {counts : Type 0} {cycle safe_until room due seen : ℕ} {old now : NoteBudget} → HasSpent counts cycle safe_until old now → now.room ≤ room + 1
+    → (counts → due ≡ now.due + cycle) → (counts → seen ≡ now.seen + 1) → HasSpent counts cycle safe_until old (spent due room seen)
 spent-more {cycle = cycle} {room = room} {now = now} so_far one there more = record {
   room = λ is.
       let least : cycle * now.room ≤ cycle * (room + 1) = mul-le-mul_left cycle one in
@@ -38,8 +38,8 @@ spent-more {cycle = cycle} {room = room} {now = now} so_far one there more = rec
 }
 
 -- some cycles and a look, up to a tick
-pub spent-whole : {counts : Type 0} {cycle sure : ℕ} (k : ℕ) {room due seen : ℕ} {old now : Spent} → HasSpent counts cycle sure old now → now.room ≤ room + k
-    → now.due + cycle * k ≤ due → due ≤ sure → HasSpent counts cycle sure old (spent due room seen)
+pub spent-whole : {counts : Type 0} {cycle safe_until : ℕ} (k : ℕ) {room due seen : ℕ} {old now : NoteBudget} → HasSpent counts cycle safe_until old now → now.room ≤ room + k
+    → now.due + cycle * k ≤ due → due ≤ safe_until → HasSpent counts cycle safe_until old (spent due room seen)
 spent-whole {cycle = cycle} k {room} {now = now} so_far few here early = record {
   room = λ is.
       let least : cycle * now.room ≤ cycle * (room + k) = mul-le-mul_left cycle few in
@@ -60,5 +60,5 @@ ready-on part c due on = by (next_cycle part c) on
     by None h = absurd (cc)
 
 -- what holds if something holds, holds if more holds
-pub spent-if : {counts fewer : Type 0} {cycle sure : ℕ} {old new : Spent} → (fewer → counts) → HasSpent counts cycle sure old new → HasSpent fewer cycle sure old new
+pub spent-if : {counts fewer : Type 0} {cycle safe_until : ℕ} {old new : NoteBudget} → (fewer → counts) → HasSpent counts cycle safe_until old new → HasSpent fewer cycle safe_until old new
 spent-if to so_far = record { room = λ is. so_far.room (to is); late = λ is. so_far.late (to is) }

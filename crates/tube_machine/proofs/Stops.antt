@@ -15,15 +15,15 @@ use Rattle.tube_chip.specs.declared.Op.TheVariants as op
 use Rattle.tube_chip.specs.declared.Lines.{Lines}
 use Rattle.tube_chip.specs.declared.Answer.{Answer}
 use Rattle.tube_chip.specs.declared.Answer.TheVariants.{Seen}
-use Rattle.tube_party.specs.Moves.{Looks, Hears, IsAsk, IsUnsure, shown_lines}
+use Rattle.tube_party.specs.Transitions.{Looks, Hears, IsAsk, IsUnsure, shown_lines}
 use Rattle.tube_party.specs.Steps.{After}
 use Rattle.tube_party.specs.declared.party.Ask.{Ask}
-use Rattle.tube_machine.specs.Wiring.{Wiring, IsWired}
-use Rattle.tube_machine.specs.Step.{At, is_break, after_break, asks, byte_of, after_step, closed_to, next_state, moves_of}
+use Rattle.tube_machine.specs.BusModel.{BusModel, IsWired}
+use Rattle.tube_machine.specs.Step.{At, is_break, after_break, asks, byte_of, after_step, closed_to, next_state, transitions_of}
 use Rattle.tube_machine.specs.Lawful.{lawful}
-use Rattle.tube_machine.specs.Exchange.{Spent, HasSpent, IsSilent, IsCramped, ready}
+use Rattle.tube_machine.specs.Exchange.{NoteBudget, HasSpent, IsSilent, IsBudgetExhausted, ready}
 use Rattle.tube_machine.specs.NoBreak.{plain-next}
-use Rattle.tube_machine.proofs.UnderWay.{Came}
+use Rattle.tube_machine.proofs.InProgress.{Came}
 use Rattle.tube_machine.proofs.Spends.{seen-more}
 use Rattle.tube_machine.proofs.Lengths.{few_seen}
 
@@ -39,11 +39,11 @@ alone-parts true true false is = (refl, (refl, refl))
 alone-parts _ _ _ is = cc
 
 -- if no room is left, the run began with little of it
-pub cramped : {counts : Type 0} {n sure : ℕ} {first last : Spent} → HasSpent counts n sure first last → counts → last.room ≡ 0 → last.seen < 16 → IsCramped n sure first.due first.room
-cramped {n = n} {sure} {first} {last} all is none few =
+pub cramped : {counts : Type 0} {n safe_until : ℕ} {first last : NoteBudget} → HasSpent counts n safe_until first last → counts → last.room ≡ 0 → last.seen < 16 → IsBudgetExhausted n safe_until first.due first.room
+cramped {n = n} {safe_until} {first} {last} all is none few =
     let no_room : n * last.room ≡ 0 = ap (λ (k : ℕ). n * k) none ∙ mul-zero n in
     let some_seen : n * last.seen ≤ n * 15 = mul-le-mul_left n (omega (arith, few)) in
-    omega (arith, all.room is, all.late is (max sure first.due) (omega arith) (omega arith), no_room, some_seen)
+    omega (arith, all.room is, all.late is (max safe_until first.due) (omega arith) (omega arith), no_room, some_seen)
 
 -- if a sequence is not over, fewer than sixteen cycles of it were seen
 pub few : (part : Part) (c : cpu.State) → part ≡ Cmos → IsSome (next_cycle part c) → length c.seen < 16
@@ -54,7 +54,7 @@ few part c is on = few_seen c (some-of (next_cycle Cmos c) (subst (λ (p : Part)
     some-of None h = absurd (cc)
 
 -- a break step below a tick, without a Tube, asks nothing
-module _ (part : Part) {B : Type 0} (w : Wiring B) where
+module _ (part : Part) {B : Type 0} (w : BusModel B) where
   pub breaks-alone : (s : At B) (n : ℕ) → (nat_lt s.due n && is_break part w s && not (w.has_tube s.bus)) ≡ true →
       (s.due < n) × ((new : At B) → new ≡ after_break part w (closed_to w s (s.due + 1)) → IsSilent part w s new)
   breaks-alone s n is =
@@ -66,7 +66,7 @@ module _ (part : Part) {B : Type 0} (w : Wiring B) where
         ),
       )
 
-module _ (part : Part) {B : Type 0} (w : Wiring B) (wired : IsWired w) where
+module _ (part : Part) {B : Type 0} (w : BusModel B) (wired : IsWired w) where
   -- no step changes the length of a cycle
   step-cycle : (o : Option Cycle) (s : At B) (a : Option Answer) → w.cycle (after_step part w o s a).bus ≡ w.cycle s.bus
   step-cycle o s a = grind arith
@@ -78,31 +78,31 @@ module _ (part : Part) {B : Type 0} (w : Wiring B) (wired : IsWired w) where
   pub next-cycle : (s : At B) (a : Option Answer) → w.cycle (next_state part w s a).bus ≡ w.cycle s.bus
   next-cycle s a = cycle-by (is_break part w s) (next_cycle part s.cpu) (closed_to w s (s.due + 1)) a ∙ wired.cycle_close s.bus (s.due + 1)
 
-  module _ (n : ℕ) (lines : Lines) (sure : ℕ) where
-    looks-cycle-by : (k : ℕ) (s last : At B) (o : Option Query) → ((u : At B) → Looks (moves_of part w) n (shown_lines lines sure) k u last → w.cycle last.bus ≡ w.cycle u.bus)
-        → After (moves_of part w) n lines sure k s last o → w.cycle last.bus ≡ w.cycle s.bus
+  module _ (n : ℕ) (lines : Lines) (safe_until : ℕ) where
+    looks-cycle-by : (k : ℕ) (s last : At B) (o : Option Query) → ((u : At B) → Looks (transitions_of part w) n (shown_lines lines safe_until) k u last → w.cycle last.bus ≡ w.cycle u.bus)
+        → After (transitions_of part w) n lines safe_until k s last o → w.cycle last.bus ≡ w.cycle s.bus
     looks-cycle-by k s last None on h = on (next_state part w s None) h ∙ next-cycle s None
     looks-cycle-by k s last (Some q) on h = on (next_state part w s (Some (Seen lines))) h.2 ∙ next-cycle s (Some (Seen lines))
 
-    pub looks-cycle : (k : ℕ) (s last : At B) → Looks (moves_of part w) n (shown_lines lines sure) k s last → w.cycle last.bus ≡ w.cycle s.bus
+    pub looks-cycle : (k : ℕ) (s last : At B) → Looks (transitions_of part w) n (shown_lines lines safe_until) k s last → w.cycle last.bus ≡ w.cycle s.bus
     looks-cycle zero s last h = ap (λ (x : At B). w.cycle x.bus) (sym h)
     looks-cycle (suc k) s last h = looks-cycle-by k s last (asks part w s) (λ u on. looks-cycle k u last on) h.1
 
     -- one more step that asks nothing
-    pub more : (s new : At B) → s.due < n → IsSilent part w s new → Came part w n lines sure s new
+    pub more : (s new : At B) → s.due < n → IsSilent part w s new → Came part w n lines safe_until s new
     more s new low done = grind arith
 
     -- one more look, of any kind
-    pub more-look : (s new : At B) → s.due < n → s.due < sure → is_break part w s ≡ false → next_cycle part s.cpu ≡ None → new ≡ next_state part w s (Some (Seen lines))
-        → Came part w n lines sure s new
+    pub more-look : (s new : At B) → s.due < n → s.due < safe_until → is_break part w s ≡ false → next_cycle part s.cpu ≡ None → new ≡ next_state part w s (Some (Seen lines))
+        → Came part w n lines safe_until s new
     more-look s new low early h over is = grind arith
 
     -- a look that is not below `safe_until`, or none below n
-    unsure-by : (last new : At B) (ask : Ask) → IsAsk (moves_of part w) n last ask new → (is_break part w last ≡ true) ⊎ (min n sure ≤ last.due) → IsUnsure sure ask
+    unsure-by : (last new : At B) (ask : Ask) → IsAsk (transitions_of part w) n last ask new → (is_break part w last ≡ true) ⊎ (min n safe_until ≤ last.due) → IsUnsure safe_until ask
     unsure-by last new ask is late = grind arith
 
     pub stops-at-look : {D : Type 0} {answers : D → ℕ → Op → ℕ → D → Type 0} {d : D} {last new : At B} {ask : Ask} →
-        IsAsk (moves_of part w) n last ask new → (is_break part w last ≡ true) ⊎ (min n sure ≤ last.due) → Hears (moves_of part w) answers n (shown_lines lines sure) last d ask new d
+        IsAsk (transitions_of part w) n last ask new → (is_break part w last ≡ true) ⊎ (min n safe_until ≤ last.due) → Hears (transitions_of part w) answers n (shown_lines lines safe_until) last d ask new d
     stops-at-look {last = last} {new} {ask} is late = record { accesses = 0; last = last; talks = (refl, (0, refl)); asked = is; unsure = unsure-by last new ask is late }
 
   -- the tick rises

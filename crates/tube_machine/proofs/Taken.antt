@@ -8,14 +8,14 @@ use Rattle.cpu_core.specs.Sequences.{next_cycle, after_byte, halted}
 use Rattle.tube_chip.specs.declared.Answer.{Answer}
 use Rattle.tube_chip.specs.declared.Answer.TheVariants.{Byte, Seen}
 use Rattle.tube_chip.specs.declared.Lines.{Lines}
-use Rattle.tube_machine.specs.Wiring.{Wiring, IsWired}
+use Rattle.tube_machine.specs.BusModel.{BusModel, IsWired}
 use Rattle.tube_machine.specs.Step.{At, at_of, is_break, asks, asks_by, asks_reset, byte_of, after_cycle, after_step, closed_to, next_state}
 use Rattle.tube_machine.specs.Exchange.{IsAtTube, IsAskedByte, LeavesBus}
 use Rattle.tube_machine.specs.NoBreak.{plain-asks, plain-next}
 use Rattle.tube_chip.specs.declared.Op.{Op}
 use Rattle.tube_chip.specs.declared.Op.TheVariants as op
 use Rattle.tube_chip.specs.Act.{access}
-use Rattle.tube_party.specs.Moves.{FitsAnswer}
+use Rattle.tube_party.specs.Transitions.{FitsAnswer}
 
 -- what a write shows does not depend on a byte
 after_byte-write : (part : Part) (s : cpu.State) (at v byte : ℕ) → next_cycle part s ≡ Some (Write at v) → after_byte part s byte ≡ after_byte part s 0
@@ -30,7 +30,7 @@ none-seen : (b : Bool) (o : Op) (l : Lines) → MatchOption (if b then Some (acc
 none-seen true o l asked = asked
 none-seen false o l asked = asked
 
-module _ (part : Part) {B : Type 0} (w : Wiring B) where
+module _ (part : Part) {B : Type 0} (w : BusModel B) where
   over-by : (breaks : Bool) (b : B) (c : Option Cycle) (l : Lines) → MatchOption (if breaks then asks_reset w b else asks_by w b c) ⊥ (λ q. FitsAnswer q (Seen l)) → c ≡ None
   over-by true b c l asked = absurd (none-seen (w.has_tube b) op.Reset l asked)
   over-by false b None l asked = refl

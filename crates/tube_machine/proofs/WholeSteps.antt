@@ -14,12 +14,12 @@ use Rattle.cpu_core.specs.State as cpu
 use Rattle.cpu_core.specs.Sequences.{next_cycle, after_byte, halted, starting, is_start, after, sequence_at_look, fresh}
 use Rattle.cpu_whole.specs.Whole.{Reach, Carried, IsDone, is_plain, shows, leaves}
 use Rattle.tube_chip.specs.declared.Lines.{Lines}
-use Rattle.tube_machine.specs.Wiring.{Wiring, IsWired, StaysPlain}
+use Rattle.tube_machine.specs.BusModel.{BusModel, IsWired, StaysPlain}
 use Rattle.tube_machine.specs.Step.{At, at_of, closed_to, after_look}
 use Rattle.tube_machine.specs.Exchange.{IsQuick, IsAtTube}
 use Rattle.tube_machine.specs.Whole.{reach_of, IsMemory, IsAtRest, StaysAtRest, IsOnward}
 use Rattle.tube_machine.proofs.Spends.{one-more, seen-on}
-use Rattle.tube_machine.proofs.UnderWay.{IsUnderWay, IsFree, at-same, plain-look, came-there, quick-more, quick-past, quick-plain}
+use Rattle.tube_machine.proofs.InProgress.{IsInProgress, IsFree, at-same, plain-look, came-there, quick-more, quick-past, quick-plain}
 
 pub next-more : (c n : ℕ) → c * suc n ≡ c * n + c
 next-more c n = let same : suc n ≡ n + 1 = omega arith in ap (λ (k : ℕ). c * k) same ∙ one-more c n
@@ -73,7 +73,7 @@ module _ (part : Part) where
           let same : last ≡ s = stays-halted g t (suc k) s m last there is h in
           cc
 
-module _ (part : Part) {B : Type 0} {w : Wiring B} (wired : IsWired w) {reads writes : ℕ → Bool} (memory : IsMemory w reads writes) where
+module _ (part : Part) {B : Type 0} {w : BusModel B} (wired : IsWired w) {reads writes : ℕ → Bool} (memory : IsMemory w reads writes) where
   abbrev reach : Reach B
   reach = reach_of w reads writes
 
@@ -139,10 +139,10 @@ module _ (part : Part) {B : Type 0} {w : Wiring B} (wired : IsWired w) {reads wr
           let looked = plain-look part w x lines (stays.resets c lines (stays.close b lines (t + 1) ∙ is_plain)) in
           sym (looked ∙ rw (sequence, rested.taken))
 
-      module _ (far until : ℕ) (lines : Lines) (sure n : ℕ) (start : At B) (masks : Bool) (quiet : ℕ) where
+      module _ (far until : ℕ) (lines : Lines) (safe_until n : ℕ) (start : At B) (masks : Bool) (quiet : ℕ) where
         -- the middle of an instruction that began at tick t
         pub record IsMid (t : ℕ) (s : At B) (since : ℕ) : Type 0 where
-          pub way : IsUnderWay part w plain far n until lines sure start s since
+          pub way : IsInProgress part w plain far n until lines safe_until start s since
           pub tick : s.due ≡ t + n * length s.cpu.seen
           pub before : w.closed s.bus ≤ s.due + 1
           pub rest : rests s.bus lines masks quiet
@@ -201,7 +201,7 @@ module _ (part : Part) {B : Type 0} {w : Wiring B} (wired : IsWired w) {reads wr
 
           -- all its accesses up to that one are plain: they are steps, and then comes that access
           pub to-tube : (k : ℕ) (s : At B) (since t : ℕ) (there : B) (top : ℕ) → IsMid t s since → Carried reach t part k s.cpu s.bus last there →
-              s.due + n * k ≡ top → top ≤ far → top ≤ until → top ≤ quiet → IsUnderWay part w plain far n until lines sure start (at_of last there top) since
+              s.due + n * k ≡ top → top ≤ far → top ≤ until → top ≤ quiet → IsInProgress part w plain far n until lines safe_until start (at_of last there top) since
           to-tube zero s since t there top mid h fits far_on in_run still =
               let same : s ≡ at_of last there top = at-same h.0 h.1 (omega (arith, fits)) in
               rw same at mid.way
@@ -226,7 +226,7 @@ module _ (part : Part) {B : Type 0} {w : Wiring B} (wired : IsWired w) {reads wr
         -- the last access of an instruction is quick, and the look after it leads to new
         pub record IsLast (since : ℕ) (new : At B) : Type 0 where
           pub s : At B
-          pub way : IsUnderWay part w plain far n until lines sure start s since
+          pub way : IsInProgress part w plain far n until lines safe_until start s since
           pub c : Cycle
           pub byte : ℕ
           pub b : B
@@ -237,7 +237,7 @@ module _ (part : Part) {B : Type 0} {w : Wiring B} (wired : IsWired w) {reads wr
           pub tick : s.due + n ≡ new.due
           pub looked : new ≡ after_look part w (closed_to w (at_of (after_byte part s.cpu byte) b (s.due + (n - 1))) (s.due + (n - 1) + 1)) lines
 
-        pub whole-last : (k due : ℕ) (r new : Regs) (m there : B) → 0 < k → IsUnderWay part w plain far n until lines sure start (at_of (fresh Instruction r) m due) due →
+        pub whole-last : (k due : ℕ) (r new : Regs) (m there : B) → 0 < k → IsInProgress part w plain far n until lines safe_until start (at_of (fresh Instruction r) m due) due →
             IsDone part reach due r m k new there → w.closed m ≤ due + 1 → due + n * k ≤ far → due + n * k ≤ until → due + n * k ≤ quiet → rests m lines masks quiet
             → has_flag r.p INTERRUPT ≡ masks → plain start.bus lines ≡ true →
             IsLast due (at_of (fresh Instruction new) (w.close there (due + n * k)) (due + n * k)) × rests (w.close there (due + n * k)) lines masks quiet
@@ -282,10 +282,10 @@ module _ (part : Part) {B : Type 0} {w : Wiring B} (wired : IsWired w) {reads wr
             )
 
         -- an instruction done whole, and the look after it
-        pub whole-on : (k due : ℕ) (r new : Regs) (m there : B) → 0 < k → IsUnderWay part w plain far n until lines sure start (at_of (fresh Instruction r) m due) due →
-            IsDone part reach due r m k new there → w.closed m ≤ due + 1 → due + n * k ≤ far → due + n * k ≤ until → due + n * k ≤ sure → due + n * k ≤ quiet →
+        pub whole-on : (k due : ℕ) (r new : Regs) (m there : B) → 0 < k → IsInProgress part w plain far n until lines safe_until start (at_of (fresh Instruction r) m due) due →
+            IsDone part reach due r m k new there → w.closed m ≤ due + 1 → due + n * k ≤ far → due + n * k ≤ until → due + n * k ≤ safe_until → due + n * k ≤ quiet →
             rests m lines masks quiet → has_flag r.p INTERRUPT ≡ masks → plain start.bus lines ≡ true →
-            IsUnderWay part w plain far n until lines sure start (at_of (fresh Instruction new) (w.close there (due + n * k)) (due + n * k))
+            IsInProgress part w plain far n until lines safe_until start (at_of (fresh Instruction new) (w.close there (due + n * k)) (due + n * k))
             (due + n * k) × rests (w.close there (due + n * k)) lines masks quiet
         whole-on k due r new m there more way done before far_on in_run early still rest held first =
             let last = whole-last k due r new m there more way done before far_on in_run still rest held first in
@@ -299,10 +299,10 @@ module _ (part : Part) {B : Type 0} {w : Wiring B} (wired : IsWired w) {reads wr
             )
 
         -- as above, from a bus whose devices need not be closed yet as far as it counts
-        pub whole-behind : (k due u : ℕ) (r new : Regs) (m there : B) → 0 < k → u ≤ due → IsUnderWay part w plain far n until lines sure start (at_of (fresh Instruction r) (w.close m u) due) due →
-            IsDone part reach due r m k new there → w.closed m ≤ due + 1 → due + n * k ≤ far → due + n * k ≤ until → due + n * k ≤ sure → due + n * k ≤ quiet →
+        pub whole-behind : (k due u : ℕ) (r new : Regs) (m there : B) → 0 < k → u ≤ due → IsInProgress part w plain far n until lines safe_until start (at_of (fresh Instruction r) (w.close m u) due) due →
+            IsDone part reach due r m k new there → w.closed m ≤ due + 1 → due + n * k ≤ far → due + n * k ≤ until → due + n * k ≤ safe_until → due + n * k ≤ quiet →
             rests (w.close m u) lines masks quiet → has_flag r.p INTERRUPT ≡ masks → plain start.bus lines ≡ true →
-            IsUnderWay part w plain far n until lines sure start (at_of (fresh Instruction new) (w.close there (due + n * k)) (due + n * k))
+            IsInProgress part w plain far n until lines safe_until start (at_of (fresh Instruction new) (w.close there (due + n * k)) (due + n * k))
             (due + n * k) × rests (w.close there (due + n * k)) lines masks quiet
         whole-behind k due u r new m there more low way done before far_on in_run early still rest held first =
             let top : ℕ = due + n * k in
@@ -313,13 +313,13 @@ module _ (part : Part) {B : Type 0} {w : Wiring B} (wired : IsWired w) {reads wr
             (whole-on k due r new (w.close m u) c.0 more way again (omega (arith, closed, before, low)) far_on in_run early still rest held first)
 
 -- the result of whole instructions
-pub onward : (part : Part) {B : Type 0} {w : Wiring B} (wired : IsWired w) {plain : B → Lines → Bool} (stays : StaysPlain w plain) {lines : Lines} {n bound : ℕ} {start s : At B} →
-    ((far until sure : ℕ) → bound ≤ far → bound ≤ until → bound ≤ sure → IsFree part w far start.bus → IsUnderWay part w plain far n until lines sure start s s.due) →
+pub onward : (part : Part) {B : Type 0} {w : BusModel B} (wired : IsWired w) {plain : B → Lines → Bool} (stays : StaysPlain w plain) {lines : Lines} {n bound : ℕ} {start s : At B} →
+    ((far until safe_until : ℕ) → bound ≤ far → bound ≤ until → bound ≤ safe_until → IsFree part w far start.bus → IsInProgress part w plain far n until lines safe_until start s s.due) →
     IsFree part w bound start.bus → n ≡ w.cycle start.bus → w.closed s.bus ≤ s.due + 1 → plain start.bus lines ≡ true → IsOnward part w plain lines bound start s
 onward part wired stays {bound = bound} way free cycle before first =
     let here = way bound bound bound (omega arith) (omega arith) (omega arith) free in
     record {
-      looks = λ until sure in_run early. came-there part wired stays (way bound until sure (omega arith) in_run early free);
+      looks = λ until safe_until in_run early. came-there part wired stays (way bound until safe_until (omega arith) in_run early free);
       alike = record {
         goes_on = here.goes_on;
         closed = before;

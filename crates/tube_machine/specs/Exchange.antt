@@ -10,7 +10,7 @@ use Rattle.tube_chip.specs.Act.{access}
 use Rattle.tube_chip.specs.declared.Answer.TheVariants.{Byte}
 use Rattle.tube_chip.specs.declared.Lines.{Lines}
 use Rattle.tube_chip.specs.declared.Op.{Op}
-use Rattle.tube_party.specs.Moves.{FitsAnswer, IsAnswered, Talks, Hears, shown_lines}
+use Rattle.tube_party.specs.Transitions.{FitsAnswer, IsAnswered, Talks, Hears, shown_lines}
 use Rattle.tube_machine.specs.declared.bus.Done.{Done}
 use Rattle.tube_machine.specs.declared.bus.Unable.{Unable}
 use Rattle.tube_machine.specs.declared.bus.Unable.TheVariants.{Tube, Full}
@@ -18,10 +18,10 @@ use Rattle.tube_machine.specs.declared.steps.Left.{Left}
 use Rattle.tube_machine.specs.declared.steps.Left.TheVariants as left
 use Rattle.tube_machine.specs.declared.run.Stop.{Stop}
 use Rattle.tube_machine.specs.declared.run.Stop.TheVariants.{Look, Access, End}
-use Rattle.tube_machine.specs.Wiring.{Wiring}
-use Rattle.tube_machine.specs.Step.{At, is_break, asks, asks_by, byte_of, next_state, moves_of}
+use Rattle.tube_machine.specs.BusModel.{BusModel}
+use Rattle.tube_machine.specs.Step.{At, is_break, asks, asks_by, byte_of, next_state, transitions_of}
 
-module _ {B : Type 0} (w : Wiring B) where
+module _ {B : Type 0} (w : BusModel B) where
   -- an access that the Tube answers
   abbrev pub IsAtTube : B → Cycle → Type 0
   IsAtTube b (Read at) = (w.has_tube b && w.is_tube at) ≡ true
@@ -65,7 +65,7 @@ owed_at cycle since due closed = if nat_lt since due then due - (cycle - 1) else
 abbrev pub behind : ℕ → ℕ → ℕ
 behind from due = if nat_lt from due then due else 0
 
-module _ (part : Part) {B : Type 0} (w : Wiring B) where
+module _ (part : Part) {B : Type 0} (w : BusModel B) where
   -- the next step is done, and asks nothing
   abbrev pub IsSilent : At B → At B → Type 0
   IsSilent old new = (asks part w old ≡ None) × (new ≡ next_state part w old None)
@@ -89,28 +89,28 @@ module _ (part : Part) {B : Type 0} (w : Wiring B) where
 
 -- The next step is done, possibly by the port's answer; or it asks the Tube; or it cannot be noted.
 -- The port goes from d to e.
-module _ (part : Part) {B D : Type 0} (w : Wiring B) (answers : D → ℕ → Op → ℕ → D → Type 0) where
+module _ (part : Part) {B D : Type 0} (w : BusModel B) (answers : D → ℕ → Op → ℕ → D → Type 0) where
   abbrev pub IsDone : At B → D → Result (Unit {0}) Unable → At B → D → Type 0
   IsDone old d (Ok x) new e =
-      (IsSilent part w old new × (d ≡ e)) ⊎ ((is_break part w old ≡ false) × IsAnswered (moves_of part w) answers (old.due + 1) old d new e)
+      (IsSilent part w old new × (d ≡ e)) ⊎ ((is_break part w old ≡ false) × IsAnswered (transitions_of part w) answers (old.due + 1) old d new e)
   IsDone old d (Err (Tube o)) new e = (asks part w old ≡ Some (access o)) × (new ≡ old) × (d ≡ e)
   IsDone old d (Err Full) new e = (new ≡ old) × (d ≡ e)
 
 -- A machine at tick `due`, with room for `room` notes, in a sequence of which `seen` cycles were
 -- done.
-pub record Spent : Type 0 where
+pub record NoteBudget : Type 0 where
   pub due : ℕ
   pub room : ℕ
   pub seen : ℕ
 
-abbrev pub spent : ℕ → ℕ → ℕ → Spent
+abbrev pub spent : ℕ → ℕ → ℕ → NoteBudget
 spent due room seen = record { due = due; room = room; seen = seen }
 
 -- If `counts` holds: at most one note was made for each cycle. For each tick `top` from
 -- `safe_until` on, the present sequence began by `top` if the one before did.
-pub record HasSpent (counts : Type 0) (cycle sure : ℕ) (old new : Spent) : Type 0 where
+pub record HasSpent (counts : Type 0) (cycle safe_until : ℕ) (old new : NoteBudget) : Type 0 where
   pub room : counts → old.due + cycle * old.room ≤ new.due + cycle * new.room
-  pub late : counts → (top : ℕ) → sure ≤ top → old.due ≤ top + cycle * old.seen → new.due ≤ top + cycle * new.seen
+  pub late : counts → (top : ℕ) → safe_until ≤ top → old.due ≤ top + cycle * old.seen → new.due ≤ top + cycle * new.seen
 
 -- the tick of the first access: `due`, or the tick after it if a look is at `due`
 abbrev pub ready : Part → cpu.State → ℕ → ℕ
@@ -118,22 +118,22 @@ ready part c due = if is_none (next_cycle part c) then due + 1 else due
 
 -- The cost of steps up to an access, of a CMOS part: at most a note for each cycle, and no sequence
 -- that began too late. Of other stops nothing is said.
-abbrev pub Spends : Part → ℕ → ℕ → Spent → Stop → Spent → Type 0
-Spends part cycle sure old Access new = HasSpent (part ≡ Cmos) cycle sure old new
-Spends part cycle sure old _ new = Unit {0}
+abbrev pub Spends : Part → ℕ → ℕ → NoteBudget → Stop → NoteBudget → Type 0
+Spends part cycle safe_until old Access new = HasSpent (part ≡ Cmos) cycle safe_until old new
+Spends part cycle safe_until old _ new = Unit {0}
 
 -- The steps of a run ask nothing, see these lines, or are accesses that the port answers. They lead
 -- to a look, of which nothing more is said, or to an ask. The port goes from d to e. Of a run that
 -- cannot be noted nothing is said.
-module _ (part : Part) {B D : Type 0} (w : Wiring B) (answers : D → ℕ → Op → ℕ → D → Type 0) where
+module _ (part : Part) {B D : Type 0} (w : BusModel B) (answers : D → ℕ → Op → ℕ → D → Type 0) where
   abbrev pub IsRun : ℕ → Lines → ℕ → At B → D → Left → At B → D → Type 0
-  IsRun until lines sure old d left.Full new e = Unit {0}
-  IsRun until lines sure old d (left.Asked ask) new e = Hears (moves_of part w) answers until (shown_lines lines sure) old d ask new e
-  IsRun until lines sure old d left.Look new e =
-      ((j : ℕ) × Talks (moves_of part w) answers until (shown_lines lines sure) j old d new e) × (next_cycle part new.cpu ≡ None)
+  IsRun until lines safe_until old d left.Full new e = Unit {0}
+  IsRun until lines safe_until old d (left.Asked ask) new e = Hears (transitions_of part w) answers until (shown_lines lines safe_until) old d ask new e
+  IsRun until lines safe_until old d left.Look new e =
+      ((j : ℕ) × Talks (transitions_of part w) answers until (shown_lines lines safe_until) j old d new e) × (next_cycle part new.cpu ≡ None)
 
 -- The notes of a run from tick `from` had room for at most the cycles up to `safe_until`, plus 15:
 -- each note is of a write, which takes a cycle, and fewer than 16 cycles of the last sequence are
 -- done.
-abbrev pub IsCramped : ℕ → ℕ → ℕ → ℕ → Type 0
-IsCramped cycle sure from room = from + cycle * room ≤ max sure from + cycle * 15
+abbrev pub IsBudgetExhausted : ℕ → ℕ → ℕ → ℕ → Type 0
+IsBudgetExhausted cycle safe_until from room = from + cycle * room ≤ max safe_until from + cycle * 15

@@ -10,14 +10,14 @@ use Rattle.tube_chip.specs.declared.Op.{Op}
 use Rattle.tube_chip.specs.declared.Op.TheVariants as op
 use Rattle.tube_chip.specs.declared.Answer.{Answer}
 use Rattle.tube_chip.specs.Act.{access, MayDo}
-use Rattle.tube_party.specs.Moves.{IsLawful, IsPermitted, MayAsk}
-use Rattle.tube_machine.specs.Wiring.{Wiring, IsWired}
-use Rattle.tube_machine.specs.Step.{At, is_break, asks_by, asks_reset, byte_of, after_break, after_step, closed_to, lines_in, next_state, moves_of}
+use Rattle.tube_party.specs.Transitions.{IsLawful, IsPermitted, MayAsk}
+use Rattle.tube_machine.specs.BusModel.{BusModel, IsWired}
+use Rattle.tube_machine.specs.Step.{At, is_break, asks_by, asks_reset, byte_of, after_break, after_step, closed_to, lines_in, next_state, transitions_of}
 
 later : (over : Bool) (t n : ℕ) → 1 < n → t < (if over then t + (n - 1) else t + n)
 later over t n some = grind arith
 
-module _ (part : Part) {B : Type 0} (w : Wiring B) (wired : IsWired w) where
+module _ (part : Part) {B : Type 0} (w : BusModel B) (wired : IsWired w) where
   looks_by : (resets prst : Bool) (s held reset taken : At B) → s.due < held.due → s.due < reset.due → s.due < taken.due →
       s.due < (if resets then (if prst then held else reset) else taken).due
   looks_by resets prst s held reset taken a b c = grind arith
@@ -53,7 +53,7 @@ module _ (part : Part) {B : Type 0} (w : Wiring B) (wired : IsWired w) where
       (if breaks then asks_reset w (w.close b t) else asks_by w (w.close b t) c) ≡ (if breaks then asks_reset w b else asks_by w b c)
   asked_closed breaks c b t = grind arith
 
-  pub lawful : IsLawful (moves_of part w)
+  pub lawful : IsLawful (transitions_of part w)
   lawful = record {
     rises = λ s a. rises_by (is_break part w s) (next_cycle part s.cpu) (closed_to w s (s.due + 1)) a;
     within = λ s. omega arith;
@@ -67,14 +67,14 @@ module _ (part : Part) {B : Type 0} (w : Wiring B) (wired : IsWired w) where
     };
   }
 
-module _ {B : Type 0} (w : Wiring B) where
+module _ {B : Type 0} (w : BusModel B) where
   permitted_by : (breaks : Bool) (side : Side) (b : B) (c : Option Cycle) → (breaks ≡ true → MayDo side op.Reset) → MayAsk side (if breaks then asks_reset w b else asks_by w b c)
   permitted_by breaks side b c may = grind arith
 
-module _ (part : Part) {B : Type 0} (w : Wiring B) where
+module _ (part : Part) {B : Type 0} (w : BusModel B) where
   -- A machine may play a side that may ask for the reset operation, or any side, if no break is
   -- ever pending.
-  pub may_play : (plays : Side → Bool) → ((b : B) (t : ℕ) (side : Side) → IsTrue (plays side) → w.pending b t ≡ true → MayDo side op.Reset) → IsPermitted (moves_of part w) plays
+  pub may_play : (plays : Side → Bool) → ((b : B) (t : ℕ) (side : Side) → IsTrue (plays side) → w.pending b t ≡ true → MayDo side op.Reset) → IsPermitted (transitions_of part w) plays
   may_play plays may s side plays_it = permitted_by w (is_break part w s) side s.bus (next_cycle part s.cpu) (λ breaks. may s.bus s.due side plays_it (pending_at (w.pending s.bus s.due) _ breaks))
     where
       pending_at : (p q : Bool) → (p && q) ≡ true → p ≡ true

@@ -1,4 +1,4 @@
-pub mod Wiring
+pub mod BusModel
 pub mod Step
 pub mod Lawful
 pub mod Exchange

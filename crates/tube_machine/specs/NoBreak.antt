@@ -4,10 +4,10 @@ use Rattle.std.proofs.Common.{ap}
 use Rattle.op_table.specs.declared.names.Part.{Part}
 use Rattle.cpu_core.specs.Sequences.{next_cycle, halted}
 use Rattle.tube_chip.specs.declared.Answer.{Answer}
-use Rattle.tube_machine.specs.Wiring.{Wiring}
+use Rattle.tube_machine.specs.BusModel.{BusModel}
 use Rattle.tube_machine.specs.Step.{At, is_last_tick, is_break, after_break, asks, asks_by, asks_reset, after_step, closed_to, next_state}
 
-module _ (part : Part) {B : Type 0} (w : Wiring B) where
+module _ (part : Part) {B : Type 0} (w : BusModel B) where
   -- A step at whose tick no break is pending is an access or a look.
   pub no-break : (s : At B) → w.pending s.bus s.due ≡ false → is_break part w s ≡ false
   no-break s none = ap (λ (p : Bool). p && (is_none (next_cycle part s.cpu) || (halted part s.cpu && is_last_tick (w.cycle s.bus) s.due))) none

@@ -4,7 +4,7 @@ use Rattle.cpu_core.specs.Sequences.{starting}
 use Rattle.beeb_bits.specs.declared.Tick.{Tick}
 use Rattle.tube_chip.specs.declared.Answer.TheVariants.{Seen}
 use Rattle.tube_party.specs.declared.party.Ask.TheVariants.{Look}
-use Rattle.tube_party.specs.Moves.{Moves, Shown, Advances}
+use Rattle.tube_party.specs.Transitions.{Transitions, Shown, Advances}
 use Rattle.tube_machine.specs.Step.{At}
 use Rattle.tube_machine.specs.declared.pass.Passing.{Passing}
 use Rattle.tube_machine.specs.declared.pass.Passing.TheVariants.{Before, Elsewhere, Same}
@@ -20,14 +20,14 @@ abbrev pub over_at : {B : Type 0} → (B → ℕ → Option ℕ) → Passing →
 over_at peek passing s = (starting s.cpu ≡ true) × IsOver passing s.due s.cpu.regs.pc (peek s.bus)
 
 -- Steps below tick n that ask nothing, and then a look below `safe_until`, which sees the lines.
-pub record ToLook {S : Type 0} (m : Moves S) (n : ℕ) (v : Shown) (s on : S) : Type 0 where
+pub record ToLook {S : Type 0} (m : Transitions S) (n : ℕ) (v : Shown) (s on : S) : Type 0 where
   pub tick : Tick
   pub last : S
   pub goes : Advances m n s (Look tick) last
-  pub sure : tick.0 < v.sure
+  pub safe_until : tick.0 < v.safe_until
   pub next : on ≡ m.next last (Some (Seen v.lines))
 
 -- k such runs up to a look and past it, each from a state of which `over` holds
-abbrev pub Passes : {S : Type 0} → Moves S → (S → Type 0) → ℕ → Shown → ℕ → S → S → Type 0
+abbrev pub Passes : {S : Type 0} → Transitions S → (S → Type 0) → ℕ → Shown → ℕ → S → S → Type 0
 Passes m over n v zero s last = s ≡ last
 Passes {S} m over n v (suc k) s last = over s × ((u : S) × (ToLook m n v s u × Passes m over n v k u last))

@@ -16,8 +16,8 @@ use Rattle.tube_chip.specs.declared.Op.TheVariants as op
 use Rattle.tube_chip.specs.declared.Answer.{Answer}
 use Rattle.tube_chip.specs.declared.Answer.TheVariants.{Byte, Seen}
 use Rattle.tube_chip.specs.Act.{Query, access, look}
-use Rattle.tube_party.specs.Moves.{Moves}
-use Rattle.tube_machine.specs.Wiring.{Wiring}
+use Rattle.tube_party.specs.Transitions.{Transitions}
+use Rattle.tube_machine.specs.BusModel.{BusModel}
 
 -- A processor at its bus.
 pub record At (B : Type 0) : Type 0 where
@@ -49,7 +49,7 @@ lines_in (Some (Seen l)) = l
 abbrev pub begin_leaves : {B : Type 0} → At B → cpu.State → B → At B
 begin_leaves s c b = record { cpu = c; bus = b; due = s.due + 1 }
 
-module _ {B : Type 0} (w : Wiring B) where
+module _ {B : Type 0} (w : BusModel B) where
   -- A break step asks for the reset operation, if there is a Tube.
   abbrev pub asks_reset : B → Option Query
   asks_reset b = if w.has_tube b then Some (access op.Reset) else None
@@ -69,7 +69,7 @@ module _ {B : Type 0} (w : Wiring B) where
   abbrev pub closed_to : At B → ℕ → At B
   closed_to s t = record s { bus = w.close s.bus t }
 
-module _ (part : Part) {B : Type 0} (w : Wiring B) where
+module _ (part : Part) {B : Type 0} (w : BusModel B) where
   -- The step at the tick of a look, or at the last tick of a halted cycle, is a break step if a
   -- break is pending.
   abbrev pub is_break : At B → Bool
@@ -120,8 +120,8 @@ module _ (part : Part) {B : Type 0} (w : Wiring B) where
       if is_break s then after_break closed else after_step (next_cycle part s.cpu) closed answer
 
   -- The steps of the machine. No state counts as closed past its next step.
-  abbrev pub moves_of : Moves (At B)
-  moves_of = record {
+  abbrev pub transitions_of : Transitions (At B)
+  transitions_of = record {
     due = λ s. s.due;
     asks = asks;
     next = next_state;

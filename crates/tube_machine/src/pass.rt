@@ -4,9 +4,9 @@ ghost use Rattle.cpu_alu.specs.Flags.{has_flag};
 ghost use Rattle.cpu_alu.specs.declared.flags.TheConstants.{INTERRUPT};
 ghost use Rattle.cpu_core.specs.Sequences.{starting};
 ghost use Rattle.cpu_whole.specs.Whole as whole;
-ghost use Rattle.tube_party.specs.Moves.{shown_lines};
+ghost use Rattle.tube_party.specs.Transitions.{shown_lines};
 ghost use Rattle.tube_machine.specs.Passing.{IsOver, Passes, over_at};
-ghost use Rattle.tube_machine.specs.Step.{at_of, moves_of};
+ghost use Rattle.tube_machine.specs.Step.{at_of, transitions_of};
 ghost use Rattle.tube_machine.specs.Whole.{reach_of};
 
 use crate::bus::TubeBus;
@@ -64,11 +64,11 @@ fn whole_if_over<N, B: TubeBus<N>>(
     notes: &mut N,
     passing: Passing,
 ) -> u64
-    requires closed { (B.wiring).closed (B.state bus.old) ≤ t + 1 }
+    requires closed { (B.bus_model).closed (B.state bus.old) ≤ t + 1 }
     requires room { t < 2 ^ 40 }
     ensures over { 0 < result → IsOver passing t (regs.old).pc (B.peek (B.state bus.old)) }
-    ensures closed { 0 < result → (B.wiring).closed (B.state bus.new) ≤ t + (B.wiring).cycle (B.state bus.old) * result }
-    ensures done { let reach = reach_of B.wiring B.reads B.writes in
+    ensures closed { 0 < result → (B.bus_model).closed (B.state bus.new) ≤ t + (B.bus_model).cycle (B.state bus.old) * result }
+    ensures done { let reach = reach_of B.bus_model B.reads B.writes in
         0 < result → whole.IsDone part reach t regs.old (B.state bus.old) result regs.new (B.state bus.new) }
     ensures still { result ≡ 0 → (regs.new ≡ regs.old) × (B.state bus.new ≡ B.state bus.old) }
     ensures noted { B.before notes.new bus.new ≡ B.before notes.old bus.old }
@@ -97,16 +97,16 @@ fn pass_whole<N, P: Processor, B: TubeBus<N>>(
 ) -> u64
     requires room { bound ≤ 2 ^ 30 }
     requires from { from ≤ bound }
-    requires before { (B.wiring).closed (B.state bus.old) ≤ from + 1 }
+    requires before { (B.bus_model).closed (B.state bus.old) ≤ from + 1 }
     requires plain { B.plain (B.state bus.old) lines.now ≡ true }
-    requires free { (t : ℕ) → t < bound → (B.wiring).pending (B.state bus.old) t ≡ false }
+    requires free { (t : ℕ) → t < bound → (B.bus_model).pending (B.state bus.old) t ≡ false }
     requires starts { starting (P.core cpu.old) ≡ true }
     requires rests { B.rests (B.state bus.old) lines.now (has_flag (P.core cpu.old).regs.p INTERRUPT) quiet }
-    ensures before { (B.wiring).closed (B.state bus.new) ≤ result + 1 }
+    ensures before { (B.bus_model).closed (B.state bus.new) ≤ result + 1 }
     ensures passes { let old = at_of (P.core cpu.old) (B.state bus.old) from in
         let new = at_of (P.core cpu.new) (B.state bus.new) result in
-        (until sure : ℕ) → bound ≤ until → bound ≤ sure →
-        (k : ℕ) × Passes (moves_of P.part B.wiring) (over_at B.peek passing) until (shown_lines lines.now sure) k old new }
+        (until safe_until : ℕ) → bound ≤ until → bound ≤ safe_until →
+        (k : ℕ) × Passes (transitions_of P.part B.bus_model) (over_at B.peek passing) until (shown_lines lines.now safe_until) k old new }
     ensures noted { B.before notes.new bus.new ≡ B.before notes.old bus.old }
 {
     let cycle = bus.cycle();
@@ -145,18 +145,18 @@ pub fn pass_over<N, P: Processor, B: TubeBus<N>>(
     notes: &mut N,
     until: Tick,
     lines: &Lines,
-    sure: Tick,
+    safe_until: Tick,
     passing: Passing,
 )
     requires room { until.0 ≤ 2 ^ 30 }
-    requires before { (B.wiring).closed (B.state bus.old) ≤ due.old + 1 }
-    ensures before { (B.wiring).closed (B.state bus.new) ≤ due.new + 1 }
+    requires before { (B.bus_model).closed (B.state bus.old) ≤ due.old + 1 }
+    ensures before { (B.bus_model).closed (B.state bus.new) ≤ due.new + 1 }
     ensures passes { let old = at_of (P.core cpu.old) (B.state bus.old) due.old in
         let new = at_of (P.core cpu.new) (B.state bus.new) due.new in
-        (k : ℕ) × Passes (moves_of P.part B.wiring) (over_at B.peek passing) until.0 (shown_lines lines.now sure.0) k old new }
+        (k : ℕ) × Passes (transitions_of P.part B.bus_model) (over_at B.peek passing) until.0 (shown_lines lines.now safe_until.0) k old new }
     ensures noted { B.before notes.new bus.new ≡ B.before notes.old bus.old }
 {
-    let bound = bound_of::<N, B>(bus, until.0, sure.0, bus.break_tick(), lines);
+    let bound = bound_of::<N, B>(bus, until.0, safe_until.0, bus.break_tick(), lines);
     if *due >= bound || !cpu.starting() {
         return;
     }

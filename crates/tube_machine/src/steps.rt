@@ -4,16 +4,16 @@ ghost use Rattle.std.specs.Prelude.{◌≡◌, ◌≤◌, ◌<◌, ◌+◌, ◌-
 ghost use Rattle.op_table.specs.declared.Part.TheVariants.{Cmos};
 ghost use Rattle.cpu_core.specs.Sequences.{next_cycle, after_byte, halted};
 ghost use Rattle.tube_chip.specs.declared.Answer.TheVariants.{Byte, Seen};
-ghost use Rattle.tube_party.specs.Moves.{Sees, Hears, IsAsk, IsAskedFor, close_leaves, shown_lines};
-ghost use Rattle.tube_machine.specs.Step.{at_of, moves_of, asks, closed_to, next_state, is_last_tick, is_break, after_break, after_cycle};
-ghost use Rattle.tube_machine.specs.Exchange.{ready, IsDone, LeavesBus, IsRun, IsCramped, IsAskedByte};
+ghost use Rattle.tube_party.specs.Transitions.{Sees, Hears, IsAsk, IsAskedFor, close_leaves, shown_lines};
+ghost use Rattle.tube_machine.specs.Step.{at_of, transitions_of, asks, closed_to, next_state, is_last_tick, is_break, after_break, after_cycle};
+ghost use Rattle.tube_machine.specs.Exchange.{ready, IsDone, LeavesBus, IsRun, IsBudgetExhausted, IsAskedByte};
 
 use crate::bus::{TubeBus, Unable};
 use crate::processor::Processor;
 use crate::run::{Stop, go_quick};
 use beeb_bits::Tick;
 use tube_chip::{Answer, Lines, Op};
-use tube_party::{Ask, Closed, Desk};
+use tube_party::{Ask, NoPort, TubePort};
 
 /// Where a run stops.
 #[derive(Clone, Copy, Debug, PartialEq, Eq)]
@@ -30,7 +30,7 @@ pub enum Left {
 #[inline(always)]
 fn is_pending<N, B: TubeBus<N>>(bus: &B, t: u64) -> bool
     requires { t < 2 ^ 63 }
-    ensures { result ≡ (B.wiring).pending (B.state bus.now) t }
+    ensures { result ≡ (B.bus_model).pending (B.state bus.now) t }
 {
     bus.break_tick() <= t
 }
@@ -48,7 +48,7 @@ fn is_last_tick(cycle: u64, t: u64) -> bool
 #[inline(always)]
 fn is_break<N, P: Processor, B: TubeBus<N>>(cpu: &P, bus: &B, due: u64) -> bool
     requires { due < 2 ^ 63 }
-    ensures { result ≡ is_break P.part B.wiring (at_of (P.core cpu.now) (B.state bus.now) due) }
+    ensures { result ≡ is_break P.part B.bus_model (at_of (P.core cpu.now) (B.state bus.now) due) }
 {
     is_pending::<N, B>(bus, due) && (cpu.last() || cpu.halted() && is_last_tick(bus.cycle(), due))
 }
@@ -59,10 +59,10 @@ fn is_break<N, P: Processor, B: TubeBus<N>>(cpu: &P, bus: &B, due: u64) -> bool
 fn shut<N, P: Processor, B: TubeBus<N>>(cpu: &P, bus: &mut B, due: u64, until: Tick)
     requires room { until.0 < 2 ^ 40 }
     requires low { until.0 ≤ due }
-    requires before { (B.wiring).closed (B.state bus.old) ≤ due + 1 }
-    ensures before { (B.wiring).closed (B.state bus.new) ≤ due + 1 }
+    requires before { (B.bus_model).closed (B.state bus.old) ≤ due + 1 }
+    ensures before { (B.bus_model).closed (B.state bus.new) ≤ due + 1 }
     ensures shut { at_of (P.core cpu.now) (B.state bus.new) due
-        ≡ close_leaves (moves_of P.part B.wiring) (at_of (P.core cpu.now) (B.state bus.old) due) until.0 }
+        ≡ close_leaves (transitions_of P.part B.bus_model) (at_of (P.core cpu.now) (B.state bus.old) due) until.0 }
     ensures kept { (notes : N) → B.before notes bus.new ≡ B.before notes bus.old }
 {
     if bus.closed() < until.0 {
@@ -76,12 +76,12 @@ fn shut<N, P: Processor, B: TubeBus<N>>(cpu: &P, bus: &mut B, due: u64, until: T
 pub fn look<N, P: Processor, B: TubeBus<N>>(cpu: &P, bus: &mut B, due: u64, until: Tick) -> Ask
     requires room { until.0 < 2 ^ 40 }
     requires over { next_cycle P.part (P.core cpu.now) ≡ None }
-    requires asks { due < until.0 → IsSome (asks P.part B.wiring (at_of (P.core cpu.now) (B.state bus.old) due)) }
-    requires before { (B.wiring).closed (B.state bus.old) ≤ due + 1 }
-    ensures before { (B.wiring).closed (B.state bus.new) ≤ due + 1 }
+    requires asks { due < until.0 → IsSome (asks P.part B.bus_model (at_of (P.core cpu.now) (B.state bus.old) due)) }
+    requires before { (B.bus_model).closed (B.state bus.old) ≤ due + 1 }
+    ensures before { (B.bus_model).closed (B.state bus.new) ≤ due + 1 }
     ensures asks { let old = at_of (P.core cpu.now) (B.state bus.old) due in
         let new = at_of (P.core cpu.now) (B.state bus.new) due in
-        IsAsk (moves_of P.part B.wiring) until.0 old result new }
+        IsAsk (transitions_of P.part B.bus_model) until.0 old result new }
     ensures kept { (notes : N) → B.before notes bus.new ≡ B.before notes bus.old }
 {
     if due < until.0 {
@@ -110,9 +110,9 @@ fn end_cycle<N, P: Processor, B: TubeBus<N>>(
     requires few { ticks < 2 ^ 8 }
     requires goes_on { IsSome (next_cycle P.part (P.core cpu.old)) }
     ensures cycled { let old = at_of (P.core cpu.old) (B.state bus.now) due in
-        let breaks = (B.wiring).pending old.bus (due + (ticks - 1)) && halted P.part old.cpu in
+        let breaks = (B.bus_model).pending old.bus (due + (ticks - 1)) && halted P.part old.cpu in
         at_of (P.core cpu.new) (B.state bus.now) result
-        ≡ after_cycle P.part B.wiring old breaks (after_byte P.part old.cpu byte) ticks }
+        ≡ after_cycle P.part B.bus_model old breaks (after_byte P.part old.cpu byte) ticks }
     ensures later { due < result }
 {
     let last_tick = due + (ticks - 1);
@@ -129,13 +129,13 @@ fn end_cycle<N, P: Processor, B: TubeBus<N>>(
 #[inline(never)]
 fn take_break<N, P: Processor, B: TubeBus<N>>(cpu: &mut P, bus: &mut B, due: &mut u64)
     requires room { due.old < 2 ^ 40 }
-    requires before { (B.wiring).closed (B.state bus.old) ≤ due.old + 1 }
-    requires breaks { is_break P.part B.wiring (at_of (P.core cpu.old) (B.state bus.old) due.old) ≡ true }
-    ensures before { (B.wiring).closed (B.state bus.new) ≤ due.new + 1 }
+    requires before { (B.bus_model).closed (B.state bus.old) ≤ due.old + 1 }
+    requires breaks { is_break P.part B.bus_model (at_of (P.core cpu.old) (B.state bus.old) due.old) ≡ true }
+    ensures before { (B.bus_model).closed (B.state bus.new) ≤ due.new + 1 }
     ensures broken { let old = at_of (P.core cpu.old) (B.state bus.old) due.old in
         at_of (P.core cpu.new) (B.state bus.new) due.new
-        ≡ after_break P.part B.wiring (closed_to B.wiring old (due.old + 1)) }
-    ensures kept { (B.wiring).has_tube (B.state bus.old) ≡ false → (notes : N) → B.before notes bus.new ≡ B.before notes bus.old }
+        ≡ after_break P.part B.bus_model (closed_to B.bus_model old (due.old + 1)) }
+    ensures kept { (B.bus_model).has_tube (B.state bus.old) ≡ false → (notes : N) → B.before notes bus.new ≡ B.before notes bus.old }
 {
     bus.take_break(*due);
     cpu.begin_reset();
@@ -148,7 +148,7 @@ fn take_break<N, P: Processor, B: TubeBus<N>>(cpu: &mut P, bus: &mut B, due: &mu
 fn breaks_alone<N, P: Processor, B: TubeBus<N>>(cpu: &P, bus: &B, due: u64, until: Tick) -> bool
     requires { until.0 ≤ 2 ^ 30 }
     ensures { let s = at_of (P.core cpu.now) (B.state bus.now) due in
-        result ≡ (nat_lt due until.0 && is_break P.part B.wiring s && not ((B.wiring).has_tube s.bus)) }
+        result ≡ (nat_lt due until.0 && is_break P.part B.bus_model s && not ((B.bus_model).has_tube s.bus)) }
 {
     due < until.0 && is_break::<N, P, B>(cpu, bus, due) && !bus.has_tube()
 }
@@ -157,13 +157,13 @@ fn breaks_alone<N, P: Processor, B: TubeBus<N>>(cpu: &P, bus: &B, due: u64, unti
 #[inline(never)]
 fn pass_byte<N, P: Processor, B: TubeBus<N>>(cpu: &mut P, bus: &mut B, due: &mut u64, byte: u8)
     requires room { due.old < 2 ^ 32 }
-    requires before { (B.wiring).closed (B.state bus.old) ≤ due.old + 1 }
-    requires access { is_break P.part B.wiring (at_of (P.core cpu.old) (B.state bus.old) due.old) ≡ false }
-    requires passing { LeavesBus P.part B.wiring (at_of (P.core cpu.old) (B.state bus.old) due.old) }
-    ensures before { (B.wiring).closed (B.state bus.new) ≤ due.new + 1 }
+    requires before { (B.bus_model).closed (B.state bus.old) ≤ due.old + 1 }
+    requires access { is_break P.part B.bus_model (at_of (P.core cpu.old) (B.state bus.old) due.old) ≡ false }
+    requires passing { LeavesBus P.part B.bus_model (at_of (P.core cpu.old) (B.state bus.old) due.old) }
+    ensures before { (B.bus_model).closed (B.state bus.new) ≤ due.new + 1 }
     ensures taken { let old = at_of (P.core cpu.old) (B.state bus.old) due.old in
         at_of (P.core cpu.new) (B.state bus.new) due.new
-        ≡ next_state P.part B.wiring old (Some (Byte byte)) }
+        ≡ next_state P.part B.bus_model old (Some (Byte byte)) }
     ensures kept { (notes : N) → B.before notes bus.new ≡ B.before notes bus.old }
 {
     bus.close(*due + 1);
@@ -174,20 +174,20 @@ fn pass_byte<N, P: Processor, B: TubeBus<N>>(cpu: &mut P, bus: &mut B, due: &mut
 // Does the access of the next step, or its break, if it asks nothing or the port answers it;
 // otherwise returns what it asks. Kept out of the loop, whose frame has no room for it.
 #[inline(never)]
-fn access<N, P: Processor, B: TubeBus<N>, D: Desk>(
+fn access<N, P: Processor, B: TubeBus<N>, D: TubePort>(
     cpu: &mut P,
     bus: &mut B,
     due: &mut u64,
     notes: &mut N,
-    desk: &mut D,
+    port: &mut D,
 ) -> Result<(), Unable>
     requires room { due.old < 2 ^ 32 }
     requires goes_on { IsSome (next_cycle P.part (P.core cpu.old)) }
-    requires before { (B.wiring).closed (B.state bus.old) ≤ due.old + 1 }
-    ensures before { (B.wiring).closed (B.state bus.new) ≤ due.new + 1 }
+    requires before { (B.bus_model).closed (B.state bus.old) ≤ due.old + 1 }
+    ensures before { (B.bus_model).closed (B.state bus.new) ≤ due.new + 1 }
     ensures done { let old = at_of (P.core cpu.old) (B.state bus.old) due.old in
         let new = at_of (P.core cpu.new) (B.state bus.new) due.new in
-        IsDone P.part B.wiring D.answers old (D.state desk.old) result new (D.state desk.new) }
+        IsDone P.part B.bus_model D.answers old (D.state port.old) result new (D.state port.new) }
     ensures noted { B.before notes.new bus.new ≡ B.before notes.old bus.old }
     ensures room { B.room notes.old ≤ B.room notes.new + 1 }
     ensures full { result ≡ Err Unable.Full → (B.endless ≡ false) × (B.room notes.old ≡ 0) }
@@ -199,9 +199,9 @@ fn access<N, P: Processor, B: TubeBus<N>, D: Desk>(
         take_break::<N, P, B>(cpu, bus, due);
         return Ok(());
     }
-    if desk.is_asked_each() {
+    if port.answers_single_accesses() {
         if let Some(op) = bus.asked(cpu.want()) {
-            let Some(byte) = desk.ask(Tick(*due), op) else {
+            let Some(byte) = port.ask(Tick(*due), op) else {
                 return Err(Unable::Tube(op));
             };
             pass_byte::<N, P, B>(cpu, bus, due, byte);
@@ -215,35 +215,35 @@ fn access<N, P: Processor, B: TubeBus<N>, D: Desk>(
 
 /// Does steps in a row, with the accesses that the port answers, and returns where they stop.
 #[inline(always)]
-pub fn carry_on<N, P: Processor, B: TubeBus<N>, D: Desk>(
+pub fn carry_on<N, P: Processor, B: TubeBus<N>, D: TubePort>(
     cpu: &mut P,
     bus: &mut B,
     due: &mut u64,
     notes: &mut N,
     until: Tick,
     lines: &Lines,
-    sure: Tick,
-    desk: &mut D,
+    safe_until: Tick,
+    port: &mut D,
 ) -> Left
     requires room { until.0 ≤ 2 ^ 30 }
-    requires before { (B.wiring).closed (B.state bus.old) ≤ due.old + 1 }
-    ensures before { (B.wiring).closed (B.state bus.new) ≤ due.new + 1 }
+    requires before { (B.bus_model).closed (B.state bus.old) ≤ due.old + 1 }
+    ensures before { (B.bus_model).closed (B.state bus.new) ≤ due.new + 1 }
     ensures ran { let old = at_of (P.core cpu.old) (B.state bus.old) due.old in
         let new = at_of (P.core cpu.new) (B.state bus.new) due.new in
-        IsRun P.part B.wiring D.answers until.0 lines.now sure.0 old (D.state desk.old) result new (D.state desk.new) }
+        IsRun P.part B.bus_model D.answers until.0 lines.now safe_until.0 old (D.state port.old) result new (D.state port.new) }
     ensures noted { B.before notes.new bus.new ≡ B.before notes.old bus.old }
     ensures full { let from = ready P.part (P.core cpu.old) due.old in
-        let cramped = IsCramped ((B.wiring).cycle (B.state bus.old)) sure.0 from (B.room notes.old) in
+        let cramped = IsBudgetExhausted ((B.bus_model).cycle (B.state bus.old)) safe_until.0 from (B.room notes.old) in
         result ≡ Left.Full → (B.endless ≡ false) × (P.part ≡ Cmos → cramped) }
 {
     loop {
         let (at, stop) = go_quick::<N, P, B, D>(
-            cpu, bus, notes, *due, until.0, sure.0, lines, desk,
+            cpu, bus, notes, *due, until.0, safe_until.0, lines, port,
         );
         *due = at;
         match stop {
             Stop::Look => return Left::Look,
-            Stop::Access => match access::<N, P, B, D>(cpu, bus, due, notes, desk) {
+            Stop::Access => match access::<N, P, B, D>(cpu, bus, due, notes, port) {
                 Ok(()) => (),
                 Err(Unable::Tube(op)) => return Left::Asked(Ask::Access(Tick(*due), op)),
                 Err(Unable::Full) => return Left::Full,
@@ -260,13 +260,13 @@ pub fn carry_on<N, P: Processor, B: TubeBus<N>, D: Desk>(
 #[inline(never)]
 fn take_byte<N, P: Processor, B: TubeBus<N>>(cpu: &mut P, bus: &mut B, due: &mut u64, byte: u8)
     requires room { due.old < 2 ^ 32 }
-    requires before { (B.wiring).closed (B.state bus.old) ≤ due.old + 1 }
-    requires access { is_break P.part B.wiring (at_of (P.core cpu.old) (B.state bus.old) due.old) ≡ false }
-    requires asked { IsAskedByte P.part B.wiring (at_of (P.core cpu.old) (B.state bus.old) due.old) }
-    ensures before { (B.wiring).closed (B.state bus.new) ≤ due.new + 1 }
+    requires before { (B.bus_model).closed (B.state bus.old) ≤ due.old + 1 }
+    requires access { is_break P.part B.bus_model (at_of (P.core cpu.old) (B.state bus.old) due.old) ≡ false }
+    requires asked { IsAskedByte P.part B.bus_model (at_of (P.core cpu.old) (B.state bus.old) due.old) }
+    ensures before { (B.bus_model).closed (B.state bus.new) ≤ due.new + 1 }
     ensures taken { let old = at_of (P.core cpu.old) (B.state bus.old) due.old in
         at_of (P.core cpu.new) (B.state bus.new) due.new
-        ≡ next_state P.part B.wiring old (Some (Byte byte)) }
+        ≡ next_state P.part B.bus_model old (Some (Byte byte)) }
 {
     bus.close(*due + 1);
     bus.answered(cpu.want());
@@ -283,13 +283,13 @@ pub fn take_lines<N, P: Processor, B: TubeBus<N>>(
     lines: &Lines,
 )
     requires room { due.old < 2 ^ 40 }
-    requires before { (B.wiring).closed (B.state bus.old) ≤ due.old + 1 }
-    requires look { is_break P.part B.wiring (at_of (P.core cpu.old) (B.state bus.old) due.old) ≡ false }
+    requires before { (B.bus_model).closed (B.state bus.old) ≤ due.old + 1 }
+    requires look { is_break P.part B.bus_model (at_of (P.core cpu.old) (B.state bus.old) due.old) ≡ false }
     requires over { next_cycle P.part (P.core cpu.old) ≡ None }
-    ensures before { (B.wiring).closed (B.state bus.new) ≤ due.new + 1 }
+    ensures before { (B.bus_model).closed (B.state bus.new) ≤ due.new + 1 }
     ensures taken { let old = at_of (P.core cpu.old) (B.state bus.old) due.old in
         at_of (P.core cpu.new) (B.state bus.new) due.new
-        ≡ next_state P.part B.wiring old (Some (Seen lines.now)) }
+        ≡ next_state P.part B.bus_model old (Some (Seen lines.now)) }
 {
     bus.close(*due + 1);
     if !bus.resets(lines) {
@@ -319,46 +319,46 @@ pub fn advance_seeing<N, P: Processor, B: TubeBus<N>>(
     notes: &mut N,
     until: Tick,
     lines: &Lines,
-    sure: Tick,
+    safe_until: Tick,
 ) -> Ask
     requires room { until.0 ≤ 2 ^ 30 }
-    requires before { (B.wiring).closed (B.state bus.old) ≤ due.old + 1 }
+    requires before { (B.bus_model).closed (B.state bus.old) ≤ due.old + 1 }
     requires endless { B.endless ≡ true }
-    ensures before { (B.wiring).closed (B.state bus.new) ≤ due.new + 1 }
+    ensures before { (B.bus_model).closed (B.state bus.new) ≤ due.new + 1 }
     ensures sees { let old = at_of (P.core cpu.old) (B.state bus.old) due.old in
         let new = at_of (P.core cpu.new) (B.state bus.new) due.new in
-        Sees (moves_of P.part B.wiring) until.0 (shown_lines lines.now sure.0) old result new }
+        Sees (transitions_of P.part B.bus_model) until.0 (shown_lines lines.now safe_until.0) old result new }
 {
-    advance_at::<N, P, B, Closed>(cpu, bus, due, notes, until, lines, sure, &mut Closed)
+    advance_at::<N, P, B, NoPort>(cpu, bus, due, notes, until, lines, safe_until, &mut NoPort)
 }
 
 /// Does what `advance_seeing` does, and the accesses that the port answers.
 #[inline(always)]
-pub fn advance_at<N, P: Processor, B: TubeBus<N>, D: Desk>(
+pub fn advance_at<N, P: Processor, B: TubeBus<N>, D: TubePort>(
     cpu: &mut P,
     bus: &mut B,
     due: &mut u64,
     notes: &mut N,
     until: Tick,
     lines: &Lines,
-    sure: Tick,
-    desk: &mut D,
+    safe_until: Tick,
+    port: &mut D,
 ) -> Ask
     requires room { until.0 ≤ 2 ^ 30 }
-    requires before { (B.wiring).closed (B.state bus.old) ≤ due.old + 1 }
+    requires before { (B.bus_model).closed (B.state bus.old) ≤ due.old + 1 }
     requires endless { B.endless ≡ true }
-    ensures before { (B.wiring).closed (B.state bus.new) ≤ due.new + 1 }
+    ensures before { (B.bus_model).closed (B.state bus.new) ≤ due.new + 1 }
     ensures hears { let old = at_of (P.core cpu.old) (B.state bus.old) due.old in
         let new = at_of (P.core cpu.new) (B.state bus.new) due.new in
-        Hears (moves_of P.part B.wiring) D.answers until.0 (shown_lines lines.now sure.0) old (D.state desk.old) result new (D.state desk.new) }
+        Hears (transitions_of P.part B.bus_model) D.answers until.0 (shown_lines lines.now safe_until.0) old (D.state port.old) result new (D.state port.new) }
 {
     loop {
-        match carry_on::<N, P, B, D>(cpu, bus, due, notes, until, lines, sure, desk) {
+        match carry_on::<N, P, B, D>(cpu, bus, due, notes, until, lines, safe_until, port) {
             Left::Asked(ask) => return ask,
             Left::Look => {
                 if breaks_alone::<N, P, B>(cpu, bus, *due, until) {
                     take_break::<N, P, B>(cpu, bus, due);
-                } else if *due >= until.0.min(sure.0) || is_break::<N, P, B>(cpu, bus, *due) {
+                } else if *due >= until.0.min(safe_until.0) || is_break::<N, P, B>(cpu, bus, *due) {
                     return look::<N, P, B>(cpu, bus, *due, until);
                 } else {
                     take_lines::<N, P, B>(cpu, bus, due, lines);
@@ -378,13 +378,13 @@ pub fn answer<N, P: Processor, B: TubeBus<N>>(
     answer: Answer,
 )
     requires room { due.old < 2 ^ 32 }
-    requires before { (B.wiring).closed (B.state bus.old) ≤ due.old + 1 }
+    requires before { (B.bus_model).closed (B.state bus.old) ≤ due.old + 1 }
     requires asked { let old = at_of (P.core cpu.old) (B.state bus.old) due.old in
-        IsAskedFor (moves_of P.part B.wiring) 1073741824 old answer }
-    ensures before { (B.wiring).closed (B.state bus.new) ≤ due.new + 1 }
+        IsAskedFor (transitions_of P.part B.bus_model) 1073741824 old answer }
+    ensures before { (B.bus_model).closed (B.state bus.new) ≤ due.new + 1 }
     ensures taken { let old = at_of (P.core cpu.old) (B.state bus.old) due.old in
         at_of (P.core cpu.new) (B.state bus.new) due.new
-        ≡ next_state P.part B.wiring old (Some answer) }
+        ≡ next_state P.part B.bus_model old (Some answer) }
 {
     match answer {
         Answer::Byte(byte) => {

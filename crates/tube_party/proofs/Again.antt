@@ -4,7 +4,7 @@ use Rattle.std.specs.Prelude.{Bool}
 use Rattle.tube_chip.specs.State.{State}
 use Rattle.tube_chip.specs.declared.Op.{Op}
 use Rattle.tube_party.specs.CodePassing.{StaysSeen}
-use Rattle.tube_party.specs.Moves.{IsAnsweredAgain}
+use Rattle.tube_party.specs.Transitions.{IsAnsweredAgain}
 
 pub still-seen : (is_read : Bool) (c d : State) → d ≡ c → StaysSeen is_read c d
 still-seen is_read c d same = subst (StaysSeen is_read c) (sym same) (refl, refl, λ _ number is. refl)

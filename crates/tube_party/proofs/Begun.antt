@@ -10,7 +10,7 @@ use Rattle.tube_chip.specs.Act.{Query, act}
 use Rattle.tube_chip.specs.Events.{Event}
 use Rattle.tube_trace.specs.declared.Entry.{Entry}
 use Rattle.tube_trace.specs.Entries.{accesses}
-use Rattle.tube_party.specs.Moves.{Moves, IsLawful}
+use Rattle.tube_party.specs.Transitions.{Transitions, IsLawful}
 use Rattle.tube_party.specs.Reference.{Seat, World, step_if_due, tick, ticks, start, reference}
 use Rattle.tube_party.specs.GoingOn.{entries_below, ShorterRunIsBeginning}
 use Rattle.tube_party.proofs.Runs.{event}
@@ -42,7 +42,7 @@ grown_later : (k j : ℕ) (l grown : List Event) → k ≤ j → Grown j l grown
 grown_later k j l grown le a =
     record { more = a.more; is = a.is; late = All-weaker (λ e. j ≤ e.tick) (λ e. k ≤ e.tick) (λ e h. omega arith) a.more a.late }
 
-step_grown_by : {S : Type 0} (m : Moves S) (side : Side) (k : ℕ) (x : Seat S) (due : Bool) (o : Option Query) → nat_eq (m.due x.state) k ≡ due → m.asks x.state ≡ o
+step_grown_by : {S : Type 0} (m : Transitions S) (side : Side) (k : ℕ) (x : Seat S) (due : Bool) (o : Option Query) → nat_eq (m.due x.state) k ≡ due → m.asks x.state ≡ o
     → Grown k x.list (step_if_due m side k x).list
 step_grown_by m side k x false o d q = rw d (grown_not k x.list)
 step_grown_by m side k x true None d q = rw (d, q) (grown_not k x.list)
@@ -52,10 +52,10 @@ step_grown_by m side k x true (Some y) d q =
     let low : k ≤ m.due x.state = omega (arith, at) in
     rw (d, q) (record { more = e ∷ []; is = refl; late = All-cons (λ z. k ≤ z.tick) e [] low (All-nil (λ z. k ≤ z.tick)) })
 
-step_grown : {S : Type 0} (m : Moves S) (side : Side) (k : ℕ) (x : Seat S) → Grown k x.list (step_if_due m side k x).list
+step_grown : {S : Type 0} (m : Transitions S) (side : Side) (k : ℕ) (x : Seat S) → Grown k x.list (step_if_due m side k x).list
 step_grown m side k x = step_grown_by m side k x (nat_eq (m.due x.state) k) (m.asks x.state) refl refl
 
-module _ {S T : Type 0} (h : Moves S) (p : Moves T) where
+module _ {S T : Type 0} (h : Transitions S) (p : Transitions T) where
   tick_grown : (k : ℕ) (w : World S T) → Grown k w.list (tick h p k w).list
   tick_grown k w =
       let a : Seat S = step_if_due h Host k (seat w.host w.chip w.list) in
@@ -77,7 +77,7 @@ below_none at [] high = refl
 below_none at (x ∷ xs) high =
     rw (le-ltb (x.tick).0 at (All-head (λ e. at ≤ (e.tick).0) x xs high)) (below_none at xs (All-tail (λ e. at ≤ (e.tick).0) x xs high))
 
-pub shorter_run : {S T : Type 0} (h : Moves S) (p : Moves T) → IsLawful h → IsLawful p → ShorterRunIsBeginning h p
+pub shorter_run : {S T : Type 0} (h : Transitions S) (p : Transitions T) → IsLawful h → IsLawful p → ShorterRunIsBeginning h p
 shorter_run {S} {T} h p lh lp s t at n le =
     let w : World S T = ticks h p at 0 (start s t) in
     let g = ticks_grown h p (n - at) at w in

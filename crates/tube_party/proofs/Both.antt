@@ -12,20 +12,20 @@ use Rattle.beeb_bits.specs.declared.Side.{Side}
 use Rattle.beeb_bits.specs.declared.Side.TheVariants.{Host, Para}
 use Rattle.tube_party.specs.declared.party.Ask.{Ask}
 use Rattle.tube_party.specs.declared.party.Ask.TheVariants.{Nothing}
-use Rattle.tube_party.specs.Moves.{Moves, SeesHirqAlone, IsAsk, Advances, close_leaves, shown_lines}
+use Rattle.tube_party.specs.Transitions.{Transitions, SeesHirqAlone, IsAsk, Advances, close_leaves, shown_lines}
 use Rattle.tube_party.specs.Reference.{ticks, step_leaves, with_host}
 use Rattle.tube_party.specs.GoingOn.{IsLike, reference_from}
 use Rattle.tube_trace.specs.Entries.{accesses}
 use Rattle.tube_party.specs.OneThread.{IsKept, Played, IsPlayed}
-use Rattle.tube_party.specs.Turn.{first_of, ticks_left, note_all_leaves, IsSure}
+use Rattle.tube_party.specs.Turn.{first_of, ticks_left, note_all_leaves, IsSafe}
 use Rattle.tube_party.specs.CodeAtWork.{Acts}
 use Rattle.tube_party.specs.CodePassing.{StaysSeen}
 use Rattle.tube_party.proofs.Ticks.{seat, world, rest, host_silent, para_next, para_silent}
 use Rattle.tube_party.proofs.Runs.{event, Steps, Over, Silent, Asking, steps_of, Glances, Here, Past, Seeing, glances_rise}
 use Rattle.tube_party.proofs.Kept.{kept_own, kept_more, kept_beside}
 use Rattle.tube_party.specs.Logs.{at_most_one}
-use Rattle.tube_party.proofs.Ways.{IsIdle, IsWay, way_of_looks, course_of, no_way, seen_still, all_own, cut_back, none_of}
-use Rattle.tube_party.proofs.UnderWay.{Run, Part, part, seated, onward, IsAt, IsGoing, Mark}
+use Rattle.tube_party.proofs.Ways.{IsIdle, IsWay, way_of_looks, execution_of, no_way, seen_still, all_own, cut_back, none_of}
+use Rattle.tube_party.proofs.InProgress.{Run, Part, part, seated, onward, IsAt, IsGoing, Mark}
 use Rattle.tube_party.proofs.Early.{alike, like_on, no_access, like_ticks, IsEarly, early_host, free_look, para_does}
 use Rattle.tube_party.proofs.First.{IsFirst, host_first, para_first, not_first, none_left}
 
@@ -37,11 +37,11 @@ abbrev pub left_as : {S T : Type 0} → Part S → Part T → State → Played S
 left_as a b c = record { host = a.state; para = b.state; chip = c; host_list = a.list; para_list = b.list; host_count = a.count; para_count = b.count }
 
 -- an ask leaves the ticks from its own on
-ticks_are : {S : Type 0} (r : Moves S) (n : ℕ) (last s : S) (ask : Ask) → IsAsk r n last ask s → ticks_left n ask ≡ n - r.due last
+ticks_are : {S : Type 0} (r : Transitions S) (n : ℕ) (last s : S) (ask : Ask) → IsAsk r n last ask s → ticks_left n ask ≡ n - r.due last
 ticks_are r n last s ask h = grind arith
 
 -- the ticks left of the parasite's ask, or of its rollback point: a rollback leaves fewer
-abbrev pub rest_of : {T : Type 0} → Moves T → ℕ → Bool → T → Ask → ℕ
+abbrev pub rest_of : {T : Type 0} → Transitions T → ℕ → Bool → T → Ask → ℕ
 rest_of p n true mark ask = (n - p.due mark) + (n - p.due mark) + 1
 rest_of p n false mark ask = ticks_left n ask + ticks_left n ask
 
@@ -53,18 +53,18 @@ kept_alike : {side : Side} {l m : List Event} {keep : ℕ} {list : List Entry} {
 kept_alike {keep = keep} same k = record { list_is = k.list_is ∙ ap (take keep) same; count_is = k.count_is ∙ ap length same }
 
 -- looks that are safe by what a party asks come at most `tie_offset` ticks after its step
-pub in_time : {S : Type 0} (r : Moves S) (n slack sure : ℕ) (s last : S) (ask : Ask) → IsAsk r n last ask s → IsSure slack ask sure → (x : ℕ) → x < n → x < sure
-    → x < r.due last + slack
-in_time r n slack sure s last ask is told x low early = grind arith
+pub in_time : {S : Type 0} (r : Transitions S) (n tie_offset safe_until : ℕ) (s last : S) (ask : Ask) → IsAsk r n last ask s → IsSafe tie_offset ask safe_until → (x : ℕ) → x < n → x < safe_until
+    → x < r.due last + tie_offset
+in_time r n tie_offset safe_until s last ask is told x low early = grind arith
 
 -- the state that asks is the last of the steps
-pub stood : {S : Type 0} (r : Moves S) (n : ℕ) (last new : S) (ask : Ask) → IsAsk r n last ask new → ask ≢ Nothing → new ≡ last
+pub stood : {S : Type 0} (r : Transitions S) (n : ℕ) (last new : S) (ask : Ask) → IsAsk r n last ask new → ask ≢ Nothing → new ≡ last
 stood r n last new ask asked some = grind arith
 
 -- The host's looks below a tick see the lines as the chip shows them: by what the parasite asks
 -- they come in time, or each sees the host's request alone, and the chip enables none.
-abbrev pub IsSeen : {S : Type 0} → Moves S → State → Ask → ℕ → Type 0
-IsSeen h c ask sure = IsSure 1 ask sure ⊎ (SeesHirqAlone h × (c.flags.q ≡ false))
+abbrev pub IsSeen : {S : Type 0} → Transitions S → State → Ask → ℕ → Type 0
+IsSeen h c ask safe_until = IsSafe 1 ask safe_until ⊎ (SeesHirqAlone h × (c.flags.q ≡ false))
 
 module _ {S T : Type 0} (r : Run S T) where
   open r use {h, p, lh, lp, n}
@@ -87,15 +87,15 @@ module _ {S T : Type 0} (r : Run S T) where
       → rest_of p n false mark ask2 < rest_of p n ahead mark ask
   back_smaller t ask ask2 false is way asked = cc
   back_smaller {last = last} t ask ask2 true is way asked =
-      let rise = (course_of p lp n way.runs).few in
+      let rise = (execution_of p lp n way.runs).few in
       omega (arith, ticks_are p n last t ask2 asked)
 
   -- each of the host's looks below a tick may be done at once
   abbrev IsEarlyLook : ℕ → T → State → Type 0
-  IsEarlyLook sure t c = (u : S) (l : List Event) → h.due u < n → h.due u < sure → h.asks u ≡ Some look → IsEarly h p lh lp n u t c look l
+  IsEarlyLook safe_until t c = (u : S) (l : List Event) → h.due u < n → h.due u < safe_until → h.asks u ≡ Some look → IsEarly h p lh lp n u t c look l
 
   -- the reference continues as it would after them
-  host_saw : (c : State) {sure : ℕ} {last u : S} (t : T) (l : List Event) → IsEarlyLook sure t c → Glances h n (shown_lines (lines_of c) sure) last u
+  host_saw : (c : State) {safe_until : ℕ} {last u : S} (t : T) (l : List Event) → IsEarlyLook safe_until t c → Glances h n (shown_lines (lines_of c) safe_until) last u
       → IsLike (onward r u t c l) (onward r last t c l)
   host_saw c t l early Here = alike refl
   host_saw c t l early (Past {s = u} low is on) =
@@ -152,24 +152,24 @@ module _ {S T : Type 0} {r : Run S T} where
       → list ≡ note_all_leaves keep mark.list entries → count ≡ mark.count + length entries
       → IsAt r ask_h a (part last list count) c
   catch_up {mark = mark} {c = c} w way first list_is count_is =
-      let course = course_of p lp n way.runs in
-      let own = all_own way.events (λ k e low. (course.each k e low).0) in
+      let execution = execution_of p lp n way.runs in
+      let own = all_own way.events (λ k e low. (execution.each k e low).0) in
       record {
         host_last = w.host_last;
         events = w.events ++ way.events;
         host_asked = w.host_asked;
         same = like_on w.same (alike (para_does h p lh lp n w.host_last c w.events way.runs way.idle
-            (λ k e low. first _ (course.each k e low).1 (way.early k e low) (course.each k e low).2)));
+            (λ k e low. first _ (execution.each k e low).1 (way.early k e low) (execution.each k e low).2)));
         host_kept = kept_beside way.events (ap accesses own.1) w.host_kept;
         para_kept =
             moved_kept (list_is ∙ ap (note_all_leaves keep mark.list) (sym way.noted)) (count_is ∙ ap (λ x. mark.count + length x) (sym way.noted))
             (rw own.0 at (kept_more way.events w.para_kept));
         host_few = w.host_few;
-        para_few = omega (arith, w.para_few, course.few, count_is, ap length way.noted);
+        para_few = omega (arith, w.para_few, execution.few, count_is, ap length way.noted);
       }
 
   -- so are the parasite's looks that are safe by what the host asks
-  pub goes_along : {until : ℕ} {ask_h : Ask} {a : Part S} {b : Part T} {c : State} {last : T} → IsAt r ask_h a b c → IsSure 0 ask_h until
+  pub goes_along : {until : ℕ} {ask_h : Ask} {a : Part S} {b : Part T} {c : State} {last : T} → IsAt r ask_h a b c → IsSafe 0 ask_h until
       → Glances p n (shown_lines (lines_of c) until) last b.state → IsAt r ask_h a (moved b last) c
   goes_along {until} {ask_h} {a} w told looks =
       catch_up w (way_of_looks looks) (λ x low early _. omega (arith, in_time h n 0 until a.state w.host_last ask_h w.host_asked told x low early)) refl
@@ -265,9 +265,9 @@ module _ {S T : Type 0} {r : Run S T} where
 
 -- ---- The host's turn
 
-module _ {S T : Type 0} {r : Run S T} {ahead : Bool} {from : Mark T} {ask_h ask_p : Ask} {a a2 : Part S} {b : Part T} {c c2 : State} {last : S} {sure : ℕ}
+module _ {S T : Type 0} {r : Run S T} {ahead : Bool} {from : Mark T} {ask_h ask_p : Ask} {a a2 : Part S} {b : Part T} {c c2 : State} {last : S} {safe_until : ℕ}
     (ask2 : Ask) (s3 : S) (w : IsGoing r ahead from ask_h ask_p a b c) (e : first_of ask_h ask_p ≡ Some Host) (d : Acts r.h Host r.keep (seated a c) (seated a2 c2))
-    (looks : Glances r.h r.n (shown_lines (lines_of c2) sure) last a2.state) (asked : IsAsk r.h r.n last ask2 s3) where
+    (looks : Glances r.h r.n (shown_lines (lines_of c2) safe_until) last a2.state) (asked : IsAsk r.h r.n last ask2 s3) where
   open r use {h, p, lh, lp, n}
 
   first : IsFirst h p n 0 a.state w.at.host_last w.last ask_h
@@ -290,12 +290,12 @@ module _ {S T : Type 0} {r : Run S T} {ahead : Bool} {from : Mark T} {ask_h ask_
           (λ er. w.way.noted ∙ none_of w.entries (omega (arith, w.count_is, (w.back is).2, none er is)))
 
   -- so its looks may be done at once if they come in time, or see its own request alone
-  early_look : All (IsIdle c2) w.way.events → IsSeen h c2 ask_p sure → IsEarlyLook r sure w.mark.state c2
+  early_look : All (IsIdle c2) w.way.events → IsSeen h c2 ask_p safe_until → IsEarlyLook r safe_until w.mark.state c2
   early_look still (inl told) = λ u l low early asks.
-      early_host h p lh lp n u c2 look l low (omega (arith, in_time p n 1 sure b.state w.last ask_p w.asked told (h.due u) low early)) asks w.way.runs still still
+      early_host h p lh lp n u c2 look l low (omega (arith, in_time p n 1 safe_until b.state w.last ask_p w.asked told (h.due u) low early)) asks w.way.runs still still
   early_look still (inr free) = λ u l low early asks. free_look h p lh lp n u w.mark.state c2 l free.0 free.1 low asks
 
-  pub host_goes : (is_read : Bool) → (is_read ≡ false → ahead ≡ true → b.count ≡ from.count) → (ahead ≡ true → StaysSeen is_read c c2) → IsSeen h c2 ask_p sure
+  pub host_goes : (is_read : Bool) → (is_read ≡ false → ahead ≡ true → b.count ≡ from.count) → (ahead ≡ true → StaysSeen is_read c c2) → IsSeen h c2 ask_p safe_until
       → IsGoing r ahead from ask2 ask_p (moved a2 s3) b c2
   host_goes is_read none stays seen =
       let s = a.state in
@@ -383,7 +383,7 @@ module _ {S T : Type 0} {r : Run S T} {ahead : Bool} {from : Mark T} {ask_h ask_
 
       old : (x : Bool) → ahead ≡ x → (n - p.due b.state) + (n - p.due b.state) ≤ rest_of p n x from.state ask_p
       old false is = omega (arith, ap p.due para_is_first.here, ticks_are p n w.last b.state ask_p w.asked)
-      old true is = omega (arith, ap p.due para_is_first.here, ap p.due (w.back is).0, (course_of p lp n w.way.runs).few)
+      old true is = omega (arith, ap p.due para_is_first.here, ap p.due (w.back is).0, (execution_of p lp n w.way.runs).few)
 
       new : (x : Bool) → ahead2 ≡ x → rest_of p n x mark2 ask2 < (n - p.due b.state) + (n - p.due b.state)
       new true is = omega (arith, up, low, far is)

@@ -15,7 +15,7 @@ use Rattle.tube_chip.specs.declared.Answer.{Answer}
 use Rattle.beeb_bits.specs.declared.Side.{Side}
 use Rattle.beeb_bits.specs.declared.Side.TheVariants.{Host, Para}
 use Rattle.tube_trace.specs.Entries.{accesses}
-use Rattle.tube_party.specs.Moves.{Moves, IsLawful, SeesHirqAlone}
+use Rattle.tube_party.specs.Transitions.{Transitions, IsLawful, SeesHirqAlone}
 use Rattle.tube_party.specs.GoingOn.{IsLike}
 use Rattle.tube_party.specs.Reference.{World, step_leaves, step_if_due, with_host, para_part, tick, ticks}
 use Rattle.tube_party.proofs.Ticks.{seat, world, host_done, still, same_or_above, host_here, host_next, para_next, para_silent}
@@ -68,13 +68,13 @@ none_asked : (c : State) → c.flags.q ≡ false → (lines_of c).hirq ≡ false
 none_asked c off = ap (λ b. b && not (is_empty c.to_host.r4)) off
 
 -- what a step of a side does, for any list before it
-record Form {S : Type 0} (m : Moves S) (side : Side) (k : ℕ) (s : S) (c : State) : Type 0 where
+record Form {S : Type 0} (m : Transitions S) (side : Side) (k : ℕ) (s : S) (c : State) : Type 0 where
   state : S
   chip : State
   more : List Event
   is : (l : List Event) → step_if_due m side k (seat s c l) ≡ seat state chip (l ++ more)
 
-abbrev form_of_step : {S : Type 0} (m : Moves S) (side : Side) (k : ℕ) (s : S) (c : State) (due : Bool) (o : Option Query) → nat_eq (m.due s) k ≡ due → m.asks s ≡ o
+abbrev form_of_step : {S : Type 0} (m : Transitions S) (side : Side) (k : ℕ) (s : S) (c : State) (due : Bool) (o : Option Query) → nat_eq (m.due s) k ≡ due → m.asks s ≡ o
     → Form m side k s c
 form_of_step m side k s c false o d q = record { state = s; chip = c; more = []; is = λ l. rw d (ap (seat s c) (sym (append-nil l))) }
 form_of_step m side k s c true None d q = record
@@ -86,7 +86,7 @@ form_of_step m side k s c true (Some x) d q = record {
   is = λ l. rw (d, q) refl;
 }
 
-module _ {S T : Type 0} (h : Moves S) (p : Moves T) (lh : IsLawful h) (lp : IsLawful p) where
+module _ {S T : Type 0} (h : Transitions S) (p : Transitions T) (lh : IsLawful h) (lp : IsLawful p) where
   -- a tick, for any list before it
   record TickForm (k : ℕ) (s : S) (t : T) (c : State) : Type 0 where
     host : S

@@ -4,7 +4,7 @@ use Rattle.beeb_bits.specs.declared.Side.{Side}
 use Rattle.beeb_bits.specs.declared.Side.TheVariants.{Host, Para}
 use Rattle.tube_party.specs.declared.party.Ask.{Ask}
 use Rattle.tube_party.specs.declared.party.Ask.TheVariants.{Nothing, Access, Look}
-use Rattle.tube_party.specs.Moves.{Moves, IsAsk}
+use Rattle.tube_party.specs.Transitions.{Transitions, IsAsk}
 use Rattle.tube_party.specs.Turn.{IsPending, first_of, first_due, tick_of}
 
 -- the tick of an ask
@@ -28,31 +28,31 @@ due_order : (t u : ℕ) → (first_due t u ≡ Para) × (u < t) ⊎ (first_due t
 due_order t u = grind arith
 
 -- an ask for an access, or a look, at its own tick
-record Waits {S : Type 0} (r : Moves S) (n : ℕ) (s last : S) (ask : Ask) (x : ℕ) : Type 0 where
+record Waits {S : Type 0} (r : Transitions S) (n : ℕ) (s last : S) (ask : Ask) (x : ℕ) : Type 0 where
   pending : IsPending r n s ask
   here : s ≡ last
   tick : x ≡ r.due last
   below : r.due last < n
 
 -- what an ask says of a party
-abbrev Told : {S : Type 0} → Moves S → ℕ → S → S → Ask → Option ℕ → Type 0
+abbrev Told : {S : Type 0} → Transitions S → ℕ → S → S → Ask → Option ℕ → Type 0
 Told r n s last ask None = n ≤ r.due last
 Told r n s last ask (Some x) = Waits r n s last ask x
 
-told : {S : Type 0} (r : Moves S) (n : ℕ) (s last : S) (ask : Ask) → IsAsk r n last ask s → Told r n s last ask (asked_at ask)
+told : {S : Type 0} (r : Transitions S) (n : ℕ) (s last : S) (ask : Ask) → IsAsk r n last ask s → Told r n s last ask (asked_at ask)
 told r n s last ask a = grind arith
 
 -- the ask is pending, and the other party's next step is at least `tie_offset` ticks after it
-pub record IsFirst {S T : Type 0} (r : Moves S) (other : Moves T) (n slack : ℕ) (s last : S) (last2 : T) (ask : Ask) : Type 0 where
+pub record IsFirst {S T : Type 0} (r : Transitions S) (other : Transitions T) (n tie_offset : ℕ) (s last : S) (last2 : T) (ask : Ask) : Type 0 where
   pub pending : IsPending r n s ask
   pub here : s ≡ last
   pub below : r.due last < n
-  pub first : r.due last + slack ≤ other.due last2
+  pub first : r.due last + tie_offset ≤ other.due last2
 
-pub tick_of_first : {S : Type 0} (r : Moves S) (n : ℕ) (s last : S) (ask : Ask) → IsPending r n s ask → s ≡ last → tick_of ask ≡ r.due last
+pub tick_of_first : {S : Type 0} (r : Transitions S) (n : ℕ) (s last : S) (ask : Ask) → IsPending r n s ask → s ≡ last → tick_of ask ≡ r.due last
 tick_of_first r n s last ask h here = grind arith
 
-module _ {S T : Type 0} (h : Moves S) (p : Moves T) (n : ℕ) (s hl : S) (t pl : T) (a b : Ask) (ah : IsAsk h n hl a s) (bp : IsAsk p n pl b t) where
+module _ {S T : Type 0} (h : Transitions S) (p : Transitions T) (n : ℕ) (s hl : S) (t pl : T) (a b : Ask) (ah : IsAsk h n hl a s) (bp : IsAsk p n pl b t) where
   pub host_first : first_of a b ≡ Some Host → IsFirst h p n 0 s hl pl a
   host_first e = by (asked_at a) (asked_at b) (told h n s hl a ah) (told p n t pl b bp) (sym (first_is a b) ∙ e)
     where

@@ -10,7 +10,7 @@ use Rattle.beeb_bits.specs.declared.Side.TheVariants.{Host, Para}
 use Rattle.tube_chip.specs.Act.{Query, act}
 use Rattle.tube_chip.specs.declared.Answer.{Answer}
 use Rattle.tube_chip.specs.Events.{Event, of_side, is_side}
-use Rattle.tube_party.specs.Moves.{Moves, IsLawful}
+use Rattle.tube_party.specs.Transitions.{Transitions, IsLawful}
 use Rattle.tube_party.specs.Reference.{Seat, World, step_leaves, step_if_due, tick, ticks, start, reference, IsFollowed, ReferenceIsFollowed}
 use Rattle.tube_party.proofs.Runs.{event, Steps, Over, Silent, Asking, runs_of, steps_append}
 use Rattle.tube_party.proofs.Kept.{of_side-append}
@@ -35,7 +35,7 @@ other_event side l e is =
     ∙ append-nil (of_side side l)
 
 -- a side's part of a tick
-module _ {S : Type 0} (m : Moves S) (lm : IsLawful m) (side : Side) (n : ℕ) (s : S) (k : ℕ) (low : k < n) (i : ℕ) (to : Side) (on : IsTrue (before k side i to)) where
+module _ {S : Type 0} (m : Transitions S) (lm : IsLawful m) (side : Side) (n : ℕ) (s : S) (k : ℕ) (low : k < n) (i : ℕ) (to : Side) (on : IsTrue (before k side i to)) where
   -- what it leaves
   record Parted (x y : Seat S) : Type 0 where
     pub runs : Steps m side n y.state s (of_side side y.list)
@@ -71,7 +71,7 @@ module _ {S : Type 0} (m : Moves S) (lm : IsLawful m) (side : Side) (n : ℕ) (s
         subst (Parted x) (sym (still m side k x up)) (record { runs = runs; due = up; listed = listed_on k i side to x.chip x.list on listed; other = λ o no. refl })
   ]
 
-module _ {S T : Type 0} (h : Moves S) (p : Moves T) (lh : IsLawful h) (lp : IsLawful p) (s : S) (t : T) (n : ℕ) where
+module _ {S T : Type 0} (h : Transitions S) (p : Transitions T) (lh : IsLawful h) (lp : IsLawful p) (s : S) (t : T) (n : ℕ) where
   -- the reference run before tick k
   pub record SoFar (k : ℕ) (w : World S T) : Type 0 where
     pub host_runs : Steps h Host n w.host s (of_side Host w.list)
@@ -126,8 +126,8 @@ module _ {S T : Type 0} (h : Moves S) (p : Moves T) (lh : IsLawful h) (lp : IsLa
         chip = so_far.listed.chip;
       }
 
-pub all_earlier : {S T : Type 0} (h : Moves S) (p : Moves T) → IsLawful h → IsLawful p → (s : S) (t : T) (n : ℕ) → All (IsEarlier n Host) (reference h p s t n).list
+pub all_earlier : {S T : Type 0} (h : Transitions S) (p : Transitions T) → IsLawful h → IsLawful p → (s : S) (t : T) (n : ℕ) → All (IsEarlier n Host) (reference h p s t n).list
 all_earlier h p lh lp s t n = (so_far h p lh lp s t n).listed.earlier
 
-pub reference_followed : {S T : Type 0} (h : Moves S) (p : Moves T) → IsLawful h → IsLawful p → ReferenceIsFollowed h p
+pub reference_followed : {S T : Type 0} (h : Transitions S) (p : Transitions T) → IsLawful h → IsLawful p → ReferenceIsFollowed h p
 reference_followed h p lh lp s t n = followed h p lh lp s t n

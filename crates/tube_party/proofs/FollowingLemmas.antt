@@ -16,7 +16,7 @@ use Rattle.tube_chip.specs.Events.{Event, is_side}
 use Rattle.tube_trace.specs.declared.Entry.{Entry}
 use Rattle.tube_trace.specs.Entries.{accesses}
 use Rattle.tube_party.specs.declared.replaying.Doing.{Doing}
-use Rattle.tube_party.specs.Moves.{Moves, IsLawful}
+use Rattle.tube_party.specs.Transitions.{Transitions, IsLawful}
 use Rattle.tube_party.specs.Replay.{Numbered, Ended, own_from, same_op, is_that, next_line, finish_leaves, differs, doing_of, one_step, replay_from, replay_of, chip_before}
 use Rattle.tube_party.specs.CodeCursor.{Misses}
 use Rattle.tube_party.specs.ReplayLaws.{own_below, IsAnsweredBy, FollowsTrace, ReplayIsFollowing, difference, IsDifference, DiffersAt, ReplayTellsDifference}
@@ -99,7 +99,7 @@ first_of_own t side op b rest (x ∷ own) e =
       rest_is = tail;
     }
 
-module _ {S : Type 0} (m : Moves S) (lawful : IsLawful m) (side : Side) (trace : List Entry) (n : ℕ) where
+module _ {S : Type 0} (m : Transitions S) (lawful : IsLawful m) (side : Side) (trace : List Entry) (n : ℕ) where
   abbrev Told : Event → Type 0
   Told e = IsAnsweredBy trace e.tick e.side e.query e.answer
 
@@ -297,9 +297,9 @@ module _ {S : Type 0} (m : Moves S) (lawful : IsLawful m) (side : Side) (trace :
       (takes_all d.agreed d.left (goes_all m side trace n s) d.own d.agrees d.answered (steps_of m side n d.steps d.runs))
       d.differs
 
-pub replay_following : {S : Type 0} (m : Moves S) → IsLawful m → ReplayIsFollowing m
+pub replay_following : {S : Type 0} (m : Transitions S) → IsLawful m → ReplayIsFollowing m
 replay_following m lawful side trace n s ended =
     (λ e. let c = comes_all m lawful side trace n s in follows_by m lawful side trace n s ended c c.ends e, replayed_of m lawful side trace n s ended)
 
-pub replay_differs : {S : Type 0} (m : Moves S) → IsLawful m → ReplayTellsDifference m
+pub replay_differs : {S : Type 0} (m : Transitions S) → IsLawful m → ReplayTellsDifference m
 replay_differs m lawful side trace n s line what stopped = (differs_of m lawful side trace n s stopped line what, place_of m lawful side trace n s stopped line what)

@@ -17,7 +17,7 @@ use Rattle.tube_chip.proofs.Merged.{rises_tail}
 use Rattle.tube_trace.specs.declared.Entry.{Entry}
 use Rattle.tube_trace.specs.Entries.{entry_of, accesses, event_of, events_of}
 use Rattle.tube_trace.proofs.MergeLemmas.{accesses_back}
-use Rattle.tube_party.specs.Moves.{Moves, IsLawful}
+use Rattle.tube_party.specs.Transitions.{Transitions, IsLawful}
 use Rattle.tube_party.specs.Replay.{chip_before}
 use Rattle.tube_party.proofs.Runs.{event, IsOf, Steps, Over, Silent, Asking}
 use Rattle.tube_party.proofs.Listed.{before-then}
@@ -256,7 +256,7 @@ rises_from t u side q a (f ∷ l) lt from rises =
 line_on : (side : Side) (t u : ℕ) (l : List Event) → t ≤ u → IsLine side u l → IsLine side t l
 line_on side t u l le x = record { rises = x.rises; each = x.each; from = All-weaker (λ e. u ≤ e.tick) (λ e. t ≤ e.tick) (λ e h. omega arith) l x.from }
 
-module _ {S : Type 0} (m : Moves S) (lawful : IsLawful m) (side : Side) (n : ℕ) where
+module _ {S : Type 0} (m : Transitions S) (lawful : IsLawful m) (side : Side) (n : ℕ) where
   pub line_of_runs : {last s : S} {events : List Event} → Steps m side n last s events → IsLine side (m.due s) events
   line_of_runs {last} Over = record { rises = tt; each = All-nil (IsOf side); from = All-nil (λ e. m.due last ≤ e.tick) }
   line_of_runs (Silent {s = s} {events = events} low none on) =

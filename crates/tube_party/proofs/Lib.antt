@@ -17,7 +17,7 @@ pub mod Kept
 pub mod Noted
 pub mod Ways
 pub mod Early
-pub mod UnderWay
+pub mod InProgress
 pub mod Both
 pub mod Again
 pub mod Passing

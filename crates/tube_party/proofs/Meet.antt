@@ -8,7 +8,7 @@ use Rattle.tube_chip.specs.Act.{Query, act}
 use Rattle.tube_chip.specs.Events.{Event, merge, after, after_from, IsAnsweredFrom}
 use Rattle.tube_chip.specs.declared.Answer.{Answer}
 use Rattle.beeb_bits.specs.declared.Side.TheVariants.{Host, Para}
-use Rattle.tube_party.specs.Moves.{Moves, IsLawful, close_leaves}
+use Rattle.tube_party.specs.Transitions.{Transitions, IsLawful, close_leaves}
 use Rattle.tube_party.specs.Reference.{step_leaves, with_host, ticks, close_both_leaves, LegalMergeIsReference}
 use Rattle.tube_party.proofs.Runs.{event, Steps, Over, Silent, Asking, steps_of}
 use Rattle.tube_party.proofs.Ticks.{seat, world, host_done, rest, host_next, host_silent, para_next, para_silent}
@@ -19,7 +19,7 @@ merge_first a b host para le = rw (le-ltb b.tick a.tick le) refl
 pub merge_second : (a b : Event) (host para : List Event) → b.tick < a.tick → merge (a ∷ host) (b ∷ para) ≡ b ∷ merge (a ∷ host) para
 merge_second a b host para lt = rw (lt-ltb b.tick a.tick lt) refl
 
-module _ {S T : Type 0} (h : Moves S) (p : Moves T) (lh : IsLawful h) (lp : IsLawful p) (n : ℕ) (m : S) (v : T) (over_m : n ≤ h.due m) (over_v : n ≤ p.due v) where
+module _ {S T : Type 0} (h : Transitions S) (p : Transitions T) (lh : IsLawful h) (lp : IsLawful p) (n : ℕ) (m : S) (v : T) (over_m : n ≤ h.due m) (over_v : n ≤ p.due v) where
   -- from here the reference does exactly the events
   abbrev Goes : S → T → State → List Event → List Event → Type 0
   Goes s t c l events = ticks h p n 0 (world s t c l) ≡ world m v (after_from c events) (l ++ events)
@@ -86,7 +86,7 @@ module _ {S T : Type 0} (h : Moves S) (p : Moves T) (lh : IsLawful h) (lp : IsLa
   meets (Silent {s = s} low none on) = λ t b c l para ok. host_silent h p lh lp n 0 s t c l (omega arith) (omega arith) none ∙ meets on t b c l para ok
   meets (Asking {s = s} {others = others} q a low is on) = host_asks s q a others low is (meets on)
 
-pub legal_merge : {S T : Type 0} (h : Moves S) (p : Moves T) → IsLawful h → IsLawful p → LegalMergeIsReference h p
+pub legal_merge : {S T : Type 0} (h : Transitions S) (p : Transitions T) → IsLawful h → IsLawful p → LegalMergeIsReference h p
 legal_merge h p lh lp s u t v a b n fa fb legal =
     ap (close_both_leaves h p n)
     (meets h p lh lp n fa.last fb.last fa.over fb.over (steps_of h Host n fa.steps fa.runs) _ _ power_on [] (steps_of p Para n fb.steps fb.runs) legal.answered)

@@ -13,26 +13,26 @@ use Rattle.tube_party.specs.declared.log.Log.{Log}
 use Rattle.tube_party.specs.declared.log.LogMark.{LogMark}
 use Rattle.tube_party.specs.declared.party.Ask.{Ask}
 use Rattle.tube_party.specs.declared.party.Ask.TheVariants.{Access}
-use Rattle.tube_party.specs.Moves.{Moves, SeesHirqAlone, IsAsk, Hears, IsAnswered, shown_lines}
-use Rattle.tube_party.specs.Turn.{IsPending, first_of, tick_of, ticks_left, IsSure, note_leaves, note_all_leaves}
+use Rattle.tube_party.specs.Transitions.{Transitions, SeesHirqAlone, IsAsk, Hears, IsAnswered, shown_lines}
+use Rattle.tube_party.specs.Turn.{IsPending, first_of, tick_of, ticks_left, IsSafe, note_leaves, note_all_leaves}
 use Rattle.tube_party.specs.CodeAtWork.{Acts, at_work, own_of}
 use Rattle.tube_party.specs.Logs.{HasNoted}
 use Rattle.tube_party.specs.Steps.{talks_rise}
-use Rattle.tube_party.specs.CodePassing.{Attended, StaysSeen, IsPassed, chip_behind, passed_entry}
+use Rattle.tube_party.specs.CodePassing.{ChipPortState, StaysSeen, IsPassed, chip_behind, passed_entry}
 use Rattle.tube_party.specs.CodeStanding.{Standing, IsGone, IsRolledBack, para_turn}
 use Rattle.tube_party.proofs.Runs.{Talking, Last, Next, talking_of}
 use Rattle.tube_party.proofs.Ways.{IsWay, glance_leaves, way_of_looks, way_first, way_on}
 use Rattle.tube_party.proofs.First.{IsFirst, host_first, tick_of_first}
-use Rattle.tube_party.proofs.UnderWay.{Run, Part, part_of, seated, IsAt, IsGoing, Mark}
+use Rattle.tube_party.proofs.InProgress.{Run, Part, part_of, seated, IsAt, IsGoing, Mark}
 use Rattle.tube_party.proofs.Both.{rest_of, IsSeen, in_time, stands, stood, host_goes, host_smaller, para_step, para_turns, para_smaller, goes_along, goes_on}
 use Rattle.tube_party.proofs.Both.{rolled_back, back_smaller}
 
 -- if an access comes before a tick that is safe by what the parasite asks, the host comes first
-still_first : (t : Tick) (sure : ℕ) (op : Op) (ask_p : Ask) → t.0 < sure → IsSure 1 ask_p sure → first_of (Access t op) ask_p ≡ Some Host
-still_first t sure op ask_p early told = grind arith
+still_first : (t : Tick) (safe_until : ℕ) (op : Op) (ask_p : Ask) → t.0 < safe_until → IsSafe 1 ask_p safe_until → first_of (Access t op) ask_p ≡ Some Host
+still_first t safe_until op ask_p early told = grind arith
 
 -- the chip after what the host asks
-behind_is : {S : Type 0} (h : Moves S) (n : ℕ) (s : S) (c : State) (ask : Ask) (q : Query) → IsPending h n s ask → h.asks s ≡ Some q
+behind_is : {S : Type 0} (h : Transitions S) (n : ℕ) (s : S) (c : State) (ask : Ask) (q : Query) → IsPending h n s ask → h.asks s ≡ Some q
     → (act c Host q).0 ≡ chip_behind c ask
 behind_is h n s c ask q pending asks = grind arith
 
@@ -42,7 +42,7 @@ abbrev pub other : Side → Side
 other Host = Para
 other Para = Host
 
-abbrev pub log_of : Side → Attended → Log
+abbrev pub log_of : Side → ChipPortState → Log
 log_of Host d = d.host
 log_of Para d = d.para
 
@@ -54,13 +54,13 @@ own_none : (side : Side) (tick : ℕ) (op : Op) (byte : ℕ) → own_of (other s
 own_none Host tick op byte = refl
 own_none Para tick op byte = refl
 
-noted_in : (side : Side) {tick : ℕ} {op : Op} {byte : ℕ} {d f : Attended} → IsPassed d tick op byte f
+noted_in : (side : Side) {tick : ℕ} {op : Op} {byte : ℕ} {d f : ChipPortState} → IsPassed d tick op byte f
     → HasNoted (own_of side (passed_entry d.turn tick op byte)) (log_of side d) (log_of side f)
 noted_in Host x = x.host_noted
 noted_in Para x = x.para_noted
 
 -- The other side's log is unchanged.
-other_stays : (side : Side) {tick : ℕ} {op : Op} {byte : ℕ} {d f : Attended} → d.turn ≡ side → IsPassed d tick op byte f
+other_stays : (side : Side) {tick : ℕ} {op : Op} {byte : ℕ} {d f : ChipPortState} → d.turn ≡ side → IsPassed d tick op byte f
     → ((log_of (other side) f).list.items ≡ (log_of (other side) d).list.items) × ((log_of (other side) f).count ≡ (log_of (other side) d).count)
 other_stays side {tick} {op} {byte} {d} turn x =
     let noted = noted_in (other side) x in
@@ -73,9 +73,9 @@ other_stays side {tick} {op} {byte} {d} turn x =
 
 -- Among its steps from t to last, `entries` are the reads of status registers: they left the chip
 -- unchanged, and were noted.
-pub record HasRead {T : Type 0} (p : Moves T) (n sure keep : ℕ) (t last : T) (d e : Attended) : Type 0 where
+pub record HasRead {T : Type 0} (p : Transitions T) (n safe_until keep : ℕ) (t last : T) (d e : ChipPortState) : Type 0 where
   pub entries : List Entry
-  pub way : IsWay p n sure d.chip t last entries
+  pub way : IsWay p n safe_until d.chip t last entries
   pub chip_is : e.chip ≡ d.chip
   pub list_is : e.para.list.items ≡ note_all_leaves keep d.para.list.items entries
   pub count_is : e.para.count ≡ d.para.count + length entries
@@ -84,9 +84,9 @@ pub record HasRead {T : Type 0} (p : Moves T) (n sure keep : ℕ) (t last : T) (
   pub host_count : e.host.count ≡ d.host.count
   pub host_keep : e.host.keep ≡ d.host.keep
 
-para_reads : {T : Type 0} {p : Moves T} {n sure keep : ℕ} {lines : Lines} {last : T} {e : Attended} {t : T} {d : Attended}
-    → lines ≡ lines_of d.chip → d.turn ≡ Para → d.is_read ≡ true → d.sure ≡ sure → d.para.keep ≡ keep
-    → Talking p IsPassed n (shown_lines lines sure) last e t d → HasRead p n sure keep t last d e
+para_reads : {T : Type 0} {p : Transitions T} {n safe_until keep : ℕ} {lines : Lines} {last : T} {e : ChipPortState} {t : T} {d : ChipPortState}
+    → lines ≡ lines_of d.chip → d.turn ≡ Para → d.is_read ≡ true → d.safe_until ≡ safe_until → d.para.keep ≡ keep
+    → Talking p IsPassed n (shown_lines lines safe_until) last e t d → HasRead p n safe_until keep t last d e
 para_reads same turn ahead until kept (Last looks) =
     record {
       entries = [];
@@ -99,10 +99,10 @@ para_reads same turn ahead until kept (Last looks) =
       host_count = refl;
       host_keep = refl;
     }
-para_reads {p = p} {n} {sure} {keep} {last = last} {d = d} same turn ahead until kept (Next {at = at} {on} {f = f} looks answered talks) =
+para_reads {p = p} {n} {safe_until} {keep} {last = last} {d = d} same turn ahead until kept (Next {at = at} {on} {f = f} looks answered talks) =
     let passed = answered.answered in
     let chip_is : f.chip ≡ d.chip = (rw turn at passed.chip_is) ∙ glance_leaves d.chip (access answered.op) (passed.reads ahead turn) in
-    let more = para_reads (same ∙ ap lines_of (sym chip_is)) (passed.turn_is ∙ turn) (passed.is_read_is ∙ ahead) (passed.sure_is ∙ until) (passed.para_noted.keep_is ∙ kept) talks in
+    let more = para_reads (same ∙ ap lines_of (sym chip_is)) (passed.turn_is ∙ turn) (passed.is_read_is ∙ ahead) (passed.safe_until_is ∙ until) (passed.para_noted.keep_is ∙ kept) talks in
     let noted = rw turn at passed.para_noted in
     let count_is : f.para.count ≡ d.para.count + 1 = noted.count_is in
     let host = other_stays Para turn passed in
@@ -111,7 +111,7 @@ para_reads {p = p} {n} {sure} {keep} {last = last} {d = d} same turn ahead until
       entries = x ∷ more.entries;
       way = way_on (way_of_looks (rw same at looks))
           (way_first answered.below answered.asks answered.goes (omega (arith, passed.early, until)) (passed.reads ahead turn) (rw turn at passed.byte_is)
-          (subst (λ z. IsWay p n sure z on last more.entries) chip_is more.way));
+          (subst (λ z. IsWay p n safe_until z on last more.entries) chip_is more.way));
       chip_is = more.chip_is ∙ chip_is;
       list_is = more.list_is ∙ ap (λ z. note_all_leaves keep z more.entries) (noted.list_is ∙ ap (λ z. note_leaves z d.para.list.items x) kept);
       count_is = omega (arith, more.count_is, count_is);
@@ -122,7 +122,7 @@ para_reads {p = p} {n} {sure} {keep} {last = last} {d = d} same turn ahead until
     }
 
 -- an access at the port is a step at the chip
-passed_act : {U : Type 0} {m : Moves U} {n keep : ℕ} {at on : U} {d f : Attended} (side : Side) → d.turn ≡ side → (log_of side d).keep ≡ keep
+passed_act : {U : Type 0} {m : Transitions U} {n keep : ℕ} {at on : U} {d f : ChipPortState} (side : Side) → d.turn ≡ side → (log_of side d).keep ≡ keep
     → IsAnswered m IsPassed n at d on f → Acts m side keep (at_work at d.chip (log_of side d)) (at_work on f.chip (log_of side f))
 passed_act {m = m} {at = at} {d = d} side turn kept answered =
     let op = answered.op in
@@ -145,31 +145,31 @@ passed_act {m = m} {at = at} {d = d} side turn kept answered =
     }
 
 -- the host's looks see after it what they saw before
-still_seen : {S : Type 0} (h : Moves S) (sure : ℕ) (ask_p : Ask) {tick : ℕ} {op : Op} {byte : ℕ} {d f : Attended} → IsPassed d tick op byte f
-    → IsSeen h d.chip ask_p sure → IsSeen h f.chip ask_p sure
-still_seen h sure ask_p passed is = grind arith
+still_seen : {S : Type 0} (h : Transitions S) (safe_until : ℕ) (ask_p : Ask) {tick : ℕ} {op : Op} {byte : ℕ} {d f : ChipPortState} → IsPassed d tick op byte f
+    → IsSeen h d.chip ask_p safe_until → IsSeen h f.chip ask_p safe_until
+still_seen h safe_until ask_p passed is = grind arith
 
-seen_so : {S : Type 0} (h : Moves S) (c : State) (ask : Ask) (until seen : Tick) → IsSure 1 ask until.0
+seen_so : {S : Type 0} (h : Transitions S) (c : State) (ask : Ask) (until seen : Tick) → IsSafe 1 ask until.0
     → (seen ≡ until) ⊎ (SeesHirqAlone h × (c.flags.q ≡ false)) → IsSeen h c ask seen.0
 seen_so h c ask until seen told is = grind arith
 
 -- The state of the port during a side's turn; the other side's log is `log`.
-record IsSides (keep : ℕ) (side : Side) (until : ℕ) (lines : Lines) (log : Log) (d : Attended) : Type 0 where
+record IsSides (keep : ℕ) (side : Side) (until : ℕ) (lines : Lines) (log : Log) (d : ChipPortState) : Type 0 where
   turn : d.turn ≡ side
-  until_is : d.sure ≡ until
+  until_is : d.safe_until ≡ until
   lines_is : lines ≡ lines_of d.chip
   host_keep : d.host.keep ≡ keep
   para_keep : d.para.keep ≡ keep
   list_is : (log_of (other side) d).list.items ≡ log.list.items
   count_is : (log_of (other side) d).count ≡ log.count
 
-still_sides : {keep : ℕ} {side : Side} {until : ℕ} {lines : Lines} {log : Log} {tick : ℕ} {op : Op} {byte : ℕ} {d f : Attended}
+still_sides : {keep : ℕ} {side : Side} {until : ℕ} {lines : Lines} {log : Log} {tick : ℕ} {op : Op} {byte : ℕ} {d f : ChipPortState}
     → IsSides keep side until lines log d → IsPassed d tick op byte f → IsSides keep side until lines log f
 still_sides {side = side} x passed =
     let stays = other_stays side x.turn passed in
     record {
       turn = passed.turn_is ∙ x.turn;
-      until_is = passed.sure_is ∙ x.until_is;
+      until_is = passed.safe_until_is ∙ x.until_is;
       lines_is = x.lines_is ∙ sym (ap lines_of passed.chip_is ∙ passed.stays.0);
       host_keep = passed.host_noted.keep_is ∙ x.host_keep;
       para_keep = passed.para_noted.keep_is ∙ x.para_keep;
@@ -179,40 +179,40 @@ still_sides {side = side} x passed =
 
 module _ {S T : Type 0} (r : Run S T) where
   -- what the loop keeps of the port
-  pub record IsKeptUp (ahead : Bool) (from : Mark T) (s : S) (t : T) (ask_h ask_p : Ask) (lines : Lines) (e : Attended) : Type 0 where
+  pub record IsKeptUp (ahead : Bool) (from : Mark T) (s : S) (t : T) (ask_h ask_p : Ask) (lines : Lines) (e : ChipPortState) : Type 0 where
     pub way : IsGoing r ahead from ask_h ask_p (part_of s e.host) (part_of t e.para) e.chip
     pub lines_is : lines ≡ lines_of e.chip
     pub host_keep : e.host.keep ≡ r.keep
     pub para_keep : e.para.keep ≡ r.keep
 
   -- It holds after a turn, and less is left.
-  pub record IsOver (left : ℕ) (ahead : Bool) (from : Mark T) (s : S) (t : T) (ask_h ask_p : Ask) (lines : Lines) (e : Attended) : Type 0 where
+  pub record IsOver (left : ℕ) (ahead : Bool) (from : Mark T) (s : S) (t : T) (ask_h ask_p : Ask) (lines : Lines) (e : ChipPortState) : Type 0 where
     pub kept : IsKeptUp ahead from s t ask_h ask_p lines e
     pub smaller : ticks_left r.n ask_h + rest_of r.p r.n ahead from.state ask_p < left
 
   -- The parasite arrives where the reference does, as long as the host's next step does not come
   -- before.
-  abbrev IsAlong : ℕ → S → T → Lines → Ask → Log → Attended → Type 0
+  abbrev IsAlong : ℕ → S → T → Lines → Ask → Log → ChipPortState → Type 0
   IsAlong until s last lines ask_h host e = IsAt r ask_h (part_of s host) (part_of last e.para) e.chip × IsSides r.keep Para until lines host e
 
 module _ {S T : Type 0} {r : Run S T} where
   open r use {h, p, lp, n, keep}
 
-  over_on : {left more : ℕ} {ahead : Bool} {from : Mark T} {s : S} {t : T} {ask_h ask_p : Ask} {lines : Lines} {e : Attended} → left ≤ more
+  over_on : {left more : ℕ} {ahead : Bool} {from : Mark T} {s : S} {t : T} {ask_h ask_p : Ask} {lines : Lines} {e : ChipPortState} → left ≤ more
       → IsOver r left ahead from s t ask_h ask_p lines e → IsOver r more ahead from s t ask_h ask_p lines e
   over_on le x = record { kept = x.kept; smaller = omega (arith, x.smaller) }
 
   -- ---- The host's turn
 
-  host_passes : {until sure : ℕ} {ahead : Bool} {from : Mark T} {s3 last : S} {t : T} {lines : Lines} {ask_p ask2 : Ask} {log : Log}
-      {e : Attended} {s2 : S} {d : Attended} {ask_h : Ask} {a : Part S} {c : State}
+  host_passes : {until safe_until : ℕ} {ahead : Bool} {from : Mark T} {s3 last : S} {t : T} {lines : Lines} {ask_p ask2 : Ask} {log : Log}
+      {e : ChipPortState} {s2 : S} {d : ChipPortState} {ask_h : Ask} {a : Part S} {c : State}
       → IsGoing r ahead from ask_h ask_p a (part_of t log) c
       → first_of ask_h ask_p ≡ Some Host
       → Acts h Host keep (seated a c) (at_work s2 d.chip d.host)
       → (d.is_read ≡ false → ahead ≡ true → log.count ≡ from.count) → (ahead ≡ true → StaysSeen d.is_read c d.chip)
-      → IsSure 1 ask_p until → IsSeen h d.chip ask_p sure
+      → IsSafe 1 ask_p until → IsSeen h d.chip ask_p safe_until
       → IsSides keep Host until lines log d → IsAsk h n last ask2 s3
-      → Talking h IsPassed n (shown_lines lines sure) last e s2 d
+      → Talking h IsPassed n (shown_lines lines safe_until) last e s2 d
       → IsOver r (ticks_left n ask_h + rest_of p n ahead from.state ask_p) ahead from s3 t ask2 ask_p lines e
   host_passes {s3 = s3} {ask2 = ask2} {d = d} w first acts none stays told seen x asked (Last looks) =
       let sees = rw x.lines_is at looks in
@@ -226,7 +226,7 @@ module _ {S T : Type 0} {r : Run S T} where
         };
         smaller = omega arith;
       }
-  host_passes {until} {sure} {ask_p = ask_p} {log = log} {d = d} w first acts none stays told seen x asked (Next {at = at} {f = f} looks answered talks) =
+  host_passes {until} {safe_until} {ask_p = ask_p} {log = log} {d = d} w first acts none stays told seen x asked (Next {at = at} {f = f} looks answered talks) =
       let passed = answered.answered in
       let tick : Tick = record { 0 = h.due at } in
       let ask : Ask = Access tick answered.op in
@@ -239,11 +239,11 @@ module _ {S T : Type 0} {r : Run S T} where
       (passed_act Host x.turn x.host_keep answered)
       (λ is. none (sym passed.is_read_is ∙ is))
       (λ _. rw (passed.is_read_is, passed.chip_is) passed.stays)
-      told (still_seen h sure ask_p passed seen) (still_sides x passed) asked talks)
+      told (still_seen h safe_until ask_p passed seen) (still_sides x passed) asked talks)
 
   -- ---- The parasite's turn, as long as the port answers its accesses
 
-  para_along : {until : ℕ} {s : S} {lines : Lines} {ask_h : Ask} {host : Log} {last : T} {e : Attended} {t : T} {d : Attended} → IsSure 0 ask_h until
+  para_along : {until : ℕ} {s : S} {lines : Lines} {ask_h : Ask} {host : Log} {last : T} {e : ChipPortState} {t : T} {d : ChipPortState} → IsSafe 0 ask_h until
       → IsAt r ask_h (part_of s host) (part_of t d.para) d.chip → IsSides keep Para until lines host d
       → Talking p IsPassed n (shown_lines lines until) last e t d
       → IsAlong r until s last lines ask_h host e
@@ -264,7 +264,7 @@ module _ {S T : Type 0} {r : Run S T} where
 
   -- ---- The parasite is rolled back
 
-  pub rolls_back : {at : ℕ} {mark : LogMark} {ahead : Bool} {from : Mark T} {s : S} {t t2 : T} {lines : Lines} {ask_h ask_p ask2 : Ask} {d e : Attended}
+  pub rolls_back : {at : ℕ} {mark : LogMark} {ahead : Bool} {from : Mark T} {s : S} {t t2 : T} {lines : Lines} {ask_h ask_p ask2 : Ask} {d e : ChipPortState}
       → IsRolledBack p n lines at mark from.state d ask2 t2 e
       → IsGoing r ahead from ask_h ask_p (part_of s d.host) (part_of t d.para) d.chip → lines ≡ lines_of d.chip → d.host.keep ≡ keep → d.para.keep ≡ keep
       → first_of ask_h ask_p ≡ Some Host
@@ -291,20 +291,20 @@ module _ {S T : Type 0} {r : Run S T} where
         smaller = omega arith;
       }
 
-module _ {S T : Type 0} {r : Run S T} {ahead : Bool} {from : Mark T} {s : S} {t : T} {lines : Lines} {ask_h ask_p : Ask} {d0 : Attended}
+module _ {S T : Type 0} {r : Run S T} {ahead : Bool} {from : Mark T} {s : S} {t : T} {lines : Lines} {ask_h ask_p : Ask} {d0 : ChipPortState}
     (k : IsKeptUp r ahead from s t ask_h ask_p lines d0) where
   open r use {h, p, lp, n, keep}
 
   abbrev left : ℕ
   left = ticks_left n ask_h + rest_of p n ahead from.state ask_p
 
-  pub host_turn : {until seen : Tick} {s2 s3 : S} {lines2 : Lines} {ask2 : Ask} {d e : Attended} → first_of ask_h ask_p ≡ Some Host
+  pub host_turn : {until seen : Tick} {s2 s3 : S} {lines2 : Lines} {ask2 : Ask} {d e : ChipPortState} → first_of ask_h ask_p ≡ Some Host
       → Hears h IsPassed n (shown_lines lines2 seen.0) s2 d ask2 s3 e
       → Acts h Host d0.host.keep (at_work s d0.chip d0.host) (at_work s2 d.chip d.host)
-      → d.turn ≡ Host → d.sure ≡ until.0 → lines2 ≡ lines_of d.chip → d.host.keep ≡ keep → d.para ≡ d0.para
+      → d.turn ≡ Host → d.safe_until ≡ until.0 → lines2 ≡ lines_of d.chip → d.host.keep ≡ keep → d.para ≡ d0.para
       → (d.is_read ≡ false → ahead ≡ true → d0.para.count ≡ from.count)
       → (ahead ≡ true → StaysSeen d.is_read d0.chip (chip_behind d0.chip ask_h))
-      → IsSure 1 ask_p until.0 → (seen ≡ until) ⊎ (SeesHirqAlone h × (d.chip.flags.q ≡ false))
+      → IsSafe 1 ask_p until.0 → (seen ≡ until) ⊎ (SeesHirqAlone h × (d.chip.flags.q ≡ false))
       → IsOver r left ahead from s3 t ask2 ask_p lines2 e
   host_turn {until} {seen} {d = d} first hears acts turn until_is lines_is host_keep para none stays told free =
       let w = k.way in
@@ -322,12 +322,12 @@ module _ {S T : Type 0} {r : Run S T} {ahead : Bool} {from : Mark T} {s : S} {t 
         count_is = ap (λ x. x.count) para;
       }) hears.asked (talking_of hears.accesses hears.talks)
 
-  pub para_turn_over : {until : ℕ} {from2 : Mark T} {t2 t3 : T} {lines2 : Lines} {asked : Ask} {d b e : Attended} {new : Standing T} → first_of ask_h ask_p ≡ Some Para
+  pub para_turn_over : {until : ℕ} {from2 : Mark T} {t2 t3 : T} {lines2 : Lines} {asked : Ask} {d b e : ChipPortState} {new : Standing T} → first_of ask_h ask_p ≡ Some Para
       → Hears p IsPassed n (shown_lines lines2 until) t2 d asked t3 b
       → IsGone p n lines2 t3 b asked new e
       → Acts p Para d0.para.keep (at_work t d0.chip d0.para) (at_work t2 d.chip d.para)
-      → d.host ≡ d0.host → d.turn ≡ Para → d.sure ≡ until → d.para.keep ≡ keep → lines2 ≡ lines_of d.chip
-      → IsSure 0 ask_h until
+      → d.host ≡ d0.host → d.turn ≡ Para → d.safe_until ≡ until → d.para.keep ≡ keep → lines2 ≡ lines_of d.chip
+      → IsSafe 0 ask_h until
       → (from2.state ≡ new.mark) × (from2.len ≡ length b.para.list.items) × (from2.count ≡ b.para.count)
       → IsOver r left new.ahead from2 s new.state ask_h new.ask lines2 e
   para_turn_over {until} {from2} {t2} {t3} {lines2} {asked} {d} {b} {e} {new} first hears gone acts0 host turn until_is para_keep lines_is told is = by new.ahead refl

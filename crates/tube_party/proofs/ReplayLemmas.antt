@@ -12,7 +12,7 @@ use Rattle.tube_chip.specs.Act.{Query, access, look}
 use Rattle.tube_trace.specs.declared.Entry.{Entry}
 use Rattle.tube_party.specs.declared.party.Ask.{Ask}
 use Rattle.tube_party.specs.declared.party.Ask.TheVariants.{Nothing, Access, Look}
-use Rattle.tube_party.specs.Moves.{Moves, IsLawful, Hears, IsAskedFor, FitsAnswer, shown_lines}
+use Rattle.tube_party.specs.Transitions.{Transitions, IsLawful, Hears, IsAskedFor, FitsAnswer, shown_lines}
 use Rattle.tube_party.specs.Replay.{Numbered, Ended, own_from, finish_leaves, next_line, doing_of, differs, one_step, replay_from, replay_of, chip_before}
 use Rattle.tube_party.specs.CodeCursor.{Takes, Misses, Owned, IsTaken}
 use Rattle.tube_party.proofs.Runs.{Glances, Here, Past, Seeing, glances_rise, Talking, Last, Next, talking_of}
@@ -24,12 +24,12 @@ low_false : (a n : ℕ) → n ≤ a → nat_lt a n ≡ false
 low_false a n h = grind (arith, nat_tests)
 
 -- what a replay still has to do, with steps enough for it
-pub record Goes {S : Type 0} (m : Moves S) (side : Side) (trace : List Entry) (n : ℕ) (whole : Ended S) (s : S) (own : List Numbered) : Type 0 where
+pub record Goes {S : Type 0} (m : Transitions S) (side : Side) (trace : List Entry) (n : ℕ) (whole : Ended S) (s : S) (own : List Numbered) : Type 0 where
   pub steps : ℕ
   pub enough : n ≤ m.due s + steps
   pub same : whole ≡ replay_from m side trace n steps s own
 
-module _ {S : Type 0} (m : Moves S) (side : Side) (trace : List Entry) (n : ℕ) where
+module _ {S : Type 0} (m : Transitions S) (side : Side) (trace : List Entry) (n : ℕ) where
   -- at or past n nothing is done
   pub at_end : (steps : ℕ) (s : S) (own : List Numbered) → n ≤ m.due s → replay_from m side trace n steps s own ≡ finish_leaves m n s own
   at_end zero s own h = refl
@@ -42,7 +42,7 @@ module _ {S : Type 0} (m : Moves S) (side : Side) (trace : List Entry) (n : ℕ)
   later : IsLawful m → (s : S) (a : Option Answer) (k : ℕ) → n ≤ m.due s + suc k → n ≤ m.due (m.next s a) + k
   later lawful s a k h = let rise = lawful.rises s a in omega arith
 
-module _ {S : Type 0} {m : Moves S} {side : Side} {trace : List Entry} {n : ℕ} {whole : Ended S} {s : S} {own : List Numbered} (goes : Goes m side trace n whole s own) where
+module _ {S : Type 0} {m : Transitions S} {side : Side} {trace : List Entry} {n : ℕ} {whole : Ended S} {s : S} {own : List Numbered} (goes : Goes m side trace n whole s own) where
   pub goes_end : n ≤ m.due s → whole ≡ finish_leaves m n s own
   goes_end over = goes.same ∙ at_end m side trace n goes.steps s own over
 
@@ -65,15 +65,15 @@ module _ {S : Type 0} {m : Moves S} {side : Side} {trace : List Entry} {n : ℕ}
   goes_differs op line low is h = grind (arith, nat_tests)
 
 -- the whole replay, before its first step
-pub goes_all : {S : Type 0} (m : Moves S) (side : Side) (trace : List Entry) (n : ℕ) (s : S) → Goes m side trace n (replay_of m side trace n s) s (own_from side n 1 trace)
+pub goes_all : {S : Type 0} (m : Transitions S) (side : Side) (trace : List Entry) (n : ℕ) (s : S) → Goes m side trace n (replay_of m side trace n s) s (own_from side n 1 trace)
 unfolding replay_of
 goes_all m side trace n s = record { steps = n; enough = omega arith; same = refl }
 
 -- from a tick on, looks below another see these lines
 abbrev IsShown : Side → List Entry → Lines → ℕ → ℕ → Type 0
-IsShown side trace lines sure from = (t : ℕ) → from ≤ t → t < sure → lines_of (chip_before side t power_on trace) ≡ lines
+IsShown side trace lines safe_until from = (t : ℕ) → from ≤ t → t < safe_until → lines_of (chip_before side t power_on trace) ≡ lines
 
-module _ {S : Type 0} (m : Moves S) (side : Side) (trace : List Entry) (n : ℕ) (whole : Ended S) (old new : S) (d e : Owned) where
+module _ {S : Type 0} (m : Transitions S) (side : Side) (trace : List Entry) (n : ℕ) (whole : Ended S) (old new : S) (d e : Owned) where
   -- what still has to be done after some steps, with the entries that are left
   record Talked : Type 0 where
     goes : Goes m side trace n whole new e.left
@@ -91,8 +91,8 @@ module _ {S : Type 0} (m : Moves S) (side : Side) (trace : List Entry) (n : ℕ)
 
 -- steps among which looks see what the entries before them leave, and accesses that the port
 -- answers, each by the side's next entry
-module _ {S : Type 0} {m : Moves S} {side : Side} {trace : List Entry} {n : ℕ} (lawful : IsLawful m) {whole : Ended S} {lines : Lines} {sure : ℕ} where
-  goes_seeing : {own : List Numbered} {last s : S} → Goes m side trace n whole s own → IsShown side trace lines sure (m.due s) → Glances m n (shown_lines lines sure) last s
+module _ {S : Type 0} {m : Transitions S} {side : Side} {trace : List Entry} {n : ℕ} (lawful : IsLawful m) {whole : Ended S} {lines : Lines} {safe_until : ℕ} where
+  goes_seeing : {own : List Numbered} {last s : S} → Goes m side trace n whole s own → IsShown side trace lines safe_until (m.due s) → Glances m n (shown_lines lines safe_until) last s
       → Goes m side trace n whole last own
   goes_seeing goes same Here = goes
   goes_seeing goes same (Past {s = s} low none on) =
@@ -101,8 +101,8 @@ module _ {S : Type 0} {m : Moves S} {side : Side} {trace : List Entry} {n : ℕ}
       goes_seeing (rw (same (m.due s) (omega arith) before) at (goes_look goes lawful low is))
       (λ t a b. same t (omega (arith, lawful.rises s (Some (Seen lines)), a)) b) on
 
-  goes_talking : {last : S} {e : Owned} {s : S} {d : Owned} → Goes m side trace n whole s d.left → IsShown side trace lines sure (m.due s)
-      → Talking m IsTaken n (shown_lines lines sure) last e s d → Talked m side trace n whole s last d e
+  goes_talking : {last : S} {e : Owned} {s : S} {d : Owned} → Goes m side trace n whole s d.left → IsShown side trace lines safe_until (m.due s)
+      → Talking m IsTaken n (shown_lines lines safe_until) last e s d → Talked m side trace n whole s last d e
   goes_talking goes same (Last looks) = record { goes = goes_seeing goes same looks; lines_same = refl; later = glances_rise lawful looks }
   goes_talking goes same (Next {at = at} {on = on} {f = f} looks took talks) =
       let up = glances_rise lawful looks in
@@ -111,8 +111,8 @@ module _ {S : Type 0} {m : Moves S} {side : Side} {trace : List Entry} {n : ℕ}
       let rest = goes_talking (rw (← took.goes) at answered) (λ t a b. same t (omega (arith, up, beyond, a)) b) talks in
       record { goes = rest.goes; lines_same = rest.lines_same ∙ took.answered.1; later = omega (arith, up, beyond, rest.later) }
 
-  module _ {old new : S} {d e : Owned} {ask : Ask} (so_far : Goes m side trace n whole old d.left) (same : IsShown side trace lines sure (m.due old))
-      (heard : Hears m IsTaken n (shown_lines lines sure) old d ask new e) where
+  module _ {old new : S} {d e : Owned} {ask : Ask} (so_far : Goes m side trace n whole old d.left) (same : IsShown side trace lines safe_until (m.due old))
+      (heard : Hears m IsTaken n (shown_lines lines safe_until) old d ask new e) where
     talked : Talked m side trace n whole old heard.last d e
     talked = goes_talking so_far same (talking_of heard.accesses heard.talks)
 
@@ -139,16 +139,16 @@ module _ {S : Type 0} {m : Moves S} {side : Side} {trace : List Entry} {n : ℕ}
     pub stands_access : (t : Tick) (op : Op) → ask ≡ Access t op → Stands m side trace n whole old new d e t.0 (access op)
     stands_access t op is = stands t.0 (access op) (rw is at heard.asked)
 
-    pub stands_look : (t : Tick) → ask ≡ Look t → Stands m side trace n whole old new d e t.0 look × (sure ≤ t.0)
+    pub stands_look : (t : Tick) → ask ≡ Look t → Stands m side trace n whole old new d e t.0 look × (safe_until ≤ t.0)
     stands_look t is =
         (stands t.0 look (rw is at heard.asked), rw is at heard.unsure)
 
 -- an answer to what is asked
-asked_for : {S : Type 0} (m : Moves S) (most : ℕ) (s : S) (q : Query) (a : Answer) → m.due s < most → m.asks s ≡ Some q → FitsAnswer q a → IsAskedFor m most s a
+asked_for : {S : Type 0} (m : Transitions S) (most : ℕ) (s : S) (q : Query) (a : Answer) → m.due s < most → m.asks s ≡ Some q → FitsAnswer q a → IsAskedFor m most s a
 asked_for m most s q a low is fits = record { below = low; kind = rw is fits }
 
 -- what follows if it asks
-module _ {S : Type 0} {m : Moves S} {side : Side} {trace : List Entry} {n : ℕ} {whole : Ended S} {old new : S} {d e : Owned} {tick : ℕ} where
+module _ {S : Type 0} {m : Transitions S} {side : Side} {trace : List Entry} {n : ℕ} {whole : Ended S} {old new : S} {d e : Owned} {tick : ℕ} where
   -- an access that is not the side's next entry
   pub went_apart : {op : Op} {line : ℕ} → Stands m side trace n whole old new d e tick (access op) → d.lines ≡ length trace → Misses e.left e.lines tick op line
       → (new ≡ whole.machine) × (Some (line, Some (doing_of tick side op)) ≡ whole.place)

@@ -14,7 +14,7 @@ use Rattle.tube_chip.specs.Events.{Event, IsBefore, Rises, RisesAfter, IsAnswere
 use Rattle.tube_chip.proofs.Merged.{rises_tail}
 use Rattle.tube_trace.specs.declared.Entry.{Entry}
 use Rattle.tube_trace.specs.Entries.{entry_of, accesses}
-use Rattle.tube_party.specs.Moves.{Moves, IsLawful, Follows, FitsAnswer}
+use Rattle.tube_party.specs.Transitions.{Transitions, IsLawful, Follows, FitsAnswer}
 use Rattle.tube_party.specs.Replay.{chip_before}
 use Rattle.tube_party.specs.Reference.{World, reference}
 use Rattle.tube_party.specs.ReplayLaws.{own_below, IsAnsweredBy, FollowsTrace, ReferenceIsReplayed}
@@ -141,7 +141,7 @@ All-of_side P side [] h = h
 All-of_side P side (e ∷ l) h = side_by P e (of_side side l) (is_side side e.side) (All-head P e l h) (All-of_side P side l (All-tail P e l h))
 
 -- a machine that follows its side of a legal list follows the trace of it
-pub follows_own : {S : Type 0} (m : Moves S) (side : Side) (n : ℕ) (s ended : S) (l : List Event) → IsLegal l → All (IsEarlier n Host) l →
+pub follows_own : {S : Type 0} (m : Transitions S) (side : Side) (n : ℕ) (s ended : S) (l : List Event) → IsLegal l → All (IsEarlier n Host) l →
     Follows m side s (of_side side l) n ended → FollowsTrace m side (accesses l) n s ended
 follows_own m side n s ended l legal earlier follows =
     record {
@@ -153,7 +153,7 @@ follows_own m side n s ended l legal earlier follows =
           (λ e h. at_power_on (accesses l) e.tick e.side e.query e.answer h) l (looks power_on l legal.rises legal.answered));
     }
 
-pub reference_replayed : {S T : Type 0} (h : Moves S) (p : Moves T) → IsLawful h → IsLawful p → ReferenceIsReplayed h p
+pub reference_replayed : {S T : Type 0} (h : Transitions S) (p : Transitions T) → IsLawful h → IsLawful p → ReferenceIsReplayed h p
 reference_replayed {S} {T} h p lh lp s t n =
     let w : World S T = reference h p s t n in
     let f = followed h p lh lp s t n in

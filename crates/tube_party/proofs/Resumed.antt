@@ -10,7 +10,7 @@ use Rattle.tube_chip.specs.Events.{Event, merge, after}
 use Rattle.tube_trace.specs.declared.Entry.{Entry}
 use Rattle.tube_trace.specs.Entries.{accesses, events_of}
 use Rattle.tube_trace.proofs.MergeLemmas.{accesses_back}
-use Rattle.tube_party.specs.Moves.{Moves, IsLawful, close_leaves}
+use Rattle.tube_party.specs.Transitions.{Transitions, IsLawful, close_leaves}
 use Rattle.tube_party.specs.ReplayLaws.{IsAnsweredBy, FollowsTrace}
 use Rattle.tube_party.specs.Reference.{Seat, World, step_if_due, tick, ticks, start, close_both_leaves, reference, IsTraceBelow}
 use Rattle.tube_party.specs.GoingOn.{reference_from, after_entries, IsLike, IsBroughtBack, BroughtBackIsReference}
@@ -26,26 +26,26 @@ use Rattle.tube_party.proofs.Joined.{IsPart, IsJoined, joined, line_of_runs}
 -- ---- States that continue alike
 
 -- the next step is the same, and so is what closing leaves at n, if n is not past that step
-pub record IsSame {S : Type 0} (m : Moves S) (n : ℕ) (s u : S) : Type 0 where
+pub record IsSame {S : Type 0} (m : Transitions S) (n : ℕ) (s u : S) : Type 0 where
   pub due : m.due s ≡ m.due u
   pub asks : m.asks s ≡ m.asks u
   pub next : (a : Option Answer) → m.next s a ≡ m.next u a
   pub ends : n ≤ m.due s → close_leaves m s n ≡ close_leaves m u n
 
-same_self : {S : Type 0} (m : Moves S) (n : ℕ) (s u : S) → s ≡ u → IsSame m n s u
+same_self : {S : Type 0} (m : Transitions S) (n : ℕ) (s u : S) → s ≡ u → IsSame m n s u
 same_self m n s u e = grind arith
 
 -- a state that was closed below its next step continues as before
-same_shut : {S : Type 0} (m : Moves S) → IsLawful m → (at n : ℕ) (s : S) → at ≤ n → at ≤ m.due s → IsSame m n s (close_leaves m s at)
+same_shut : {S : Type 0} (m : Transitions S) → IsLawful m → (at n : ℕ) (s : S) → at ≤ n → at ≤ m.due s → IsSame m n s (close_leaves m s at)
 same_shut m lawful at n s le low = grind arith
 
 -- one party at the chip, which continues alike
-record IsSeatAlike {S : Type 0} (m : Moves S) (n : ℕ) (x y : Seat S) : Type 0 where
+record IsSeatAlike {S : Type 0} (m : Transitions S) (n : ℕ) (x y : Seat S) : Type 0 where
   state : IsSame m n x.state y.state
   chip : x.chip ≡ y.chip
   listed : SameAccesses x.list y.list
 
-step_alike_by : {S : Type 0} (m : Moves S) (n : ℕ) (side : Side) (k : ℕ) (s u : S) (c : State) (l l2 : List Event) (due : Bool) (o : Option Query) → nat_eq (m.due s) k ≡ due → m.asks s ≡ o →
+step_alike_by : {S : Type 0} (m : Transitions S) (n : ℕ) (side : Side) (k : ℕ) (s u : S) (c : State) (l l2 : List Event) (due : Bool) (o : Option Query) → nat_eq (m.due s) k ≡ due → m.asks s ≡ o →
     IsSame m n s u → SameAccesses l l2 → IsSeatAlike m n (step_if_due m side k (seat s c l)) (step_if_due m side k (seat u c l2))
 step_alike_by m n side k s u c l l2 false o d q same lists =
     let d2 : nat_eq (m.due u) k ≡ false = ap (λ t. nat_eq t k) (sym same.due) ∙ d in
@@ -62,12 +62,12 @@ step_alike_by m n side k s u c l l2 true (Some x) d q same lists =
     subst (λ t. SameAccesses (l ++ event (m.due s) side x a ∷ []) (l2 ++ event t side x a ∷ [])) same.due (same_after l l2 (event (m.due s) side x a ∷ []) lists) in
     rw (d, d2, q, q2) (record { state = same_self m n (m.next s (Some a)) (m.next u (Some a)) (same.next (Some a)); chip = refl; listed = more })
 
-step_alike : {S : Type 0} (m : Moves S) (n : ℕ) (side : Side) (k : ℕ) (x y : Seat S) → IsSeatAlike m n x y → IsSeatAlike m n (step_if_due m side k x) (step_if_due m side k y)
+step_alike : {S : Type 0} (m : Transitions S) (n : ℕ) (side : Side) (k : ℕ) (x y : Seat S) → IsSeatAlike m n x y → IsSeatAlike m n (step_if_due m side k x) (step_if_due m side k y)
 step_alike m n side k x y same =
     subst (λ c. IsSeatAlike m n (step_if_due m side k x) (step_if_due m side k (seat y.state c y.list))) same.chip
     (step_alike_by m n side k x.state y.state x.chip x.list y.list (nat_eq (m.due x.state) k) (m.asks x.state) refl refl same.state same.listed)
 
-module _ {S T : Type 0} (h : Moves S) (p : Moves T) where
+module _ {S T : Type 0} (h : Transitions S) (p : Transitions T) where
   record IsAlike (n : ℕ) (w v : World S T) : Type 0 where
     pub host : IsSame h n w.host v.host
     pub para : IsSame p n w.para v.para
@@ -114,7 +114,7 @@ from_power_on trace t side (access op) a h = h
 from_power_on trace t side look a h = h
 
 -- what a party that follows the trace did is its side's part
-part_of : {S : Type 0} (m : Moves S) → IsLawful m → (side : Side) (trace : List Entry) (at : ℕ) (s u : S) → IsTraceBelow at trace → (f : FollowsTrace m side trace at s u)
+part_of : {S : Type 0} (m : Transitions S) → IsLawful m → (side : Side) (trace : List Entry) (at : ℕ) (s u : S) → IsTraceBelow at trace → (f : FollowsTrace m side trace at s u)
     → IsPart side power_on trace f.events
 part_of m lawful side trace at s u legal f =
     let line = line_of_runs m lawful side at (steps_of m side at f.follows.steps f.follows.runs) in
@@ -129,7 +129,7 @@ same_by_accesses : (l : List Event) (trace : List Entry) → accesses l ≡ trac
 same_by_accesses l trace same side =
     own_of_accesses side l ∙ ap (own side) (same ∙ sym (accesses_back trace)) ∙ sym (own_of_accesses side (events_of trace))
 
-module _ {S T : Type 0} (h : Moves S) (p : Moves T) (lh : IsLawful h) (lp : IsLawful p) (s u : S) (t v : T) (entries : List Entry) (at : ℕ) (is : IsBroughtBack h p entries at s u t v) where
+module _ {S T : Type 0} (h : Transitions S) (p : Transitions T) (lh : IsLawful h) (lp : IsLawful p) (s u : S) (t v : T) (entries : List Entry) (at : ℕ) (is : IsBroughtBack h p entries at s u t v) where
   host_follows : FollowsTrace h Host entries at s u
   host_follows = (replay_following h lh Host entries at s u).0 is.host
 
@@ -189,6 +189,6 @@ module _ {S T : Type 0} (h : Moves S) (p : Moves T) (lh : IsLawful h) (lp : IsLa
       let far = so_far h p lh lp s t n in
       record { host = same.host.ends far.host_due; para = same.para.ends far.para_due; chip = same.chip; listed = same.listed }
 
-pub brought_back_is_reference : {S T : Type 0} (h : Moves S) (p : Moves T) → IsLawful h → IsLawful p → BroughtBackIsReference h p
+pub brought_back_is_reference : {S T : Type 0} (h : Transitions S) (p : Transitions T) → IsLawful h → IsLawful p → BroughtBackIsReference h p
 brought_back_is_reference h p lh lp s u t v entries at n le is =
     (brought_back h p lh lp s u t v entries at is, goes_on h p lh lp s u t v entries at is n le)

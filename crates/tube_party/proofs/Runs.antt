@@ -6,7 +6,7 @@ use Rattle.tube_chip.specs.declared.Answer.{Answer}
 use Rattle.tube_chip.specs.declared.Answer.TheVariants.{Seen}
 use Rattle.tube_chip.specs.declared.Op.{Op}
 use Rattle.beeb_bits.specs.declared.Side.{Side}
-use Rattle.tube_party.specs.Moves.{Moves, IsLawful, IsClosing, Runs, Looks, Shown, IsAnswered, Talks, Heads, close_leaves, course}
+use Rattle.tube_party.specs.Transitions.{Transitions, IsLawful, IsClosing, Runs, Looks, Shown, IsAnswered, Talks, Heads, close_leaves, execution}
 use Rattle.tube_party.specs.CodeClosing.{IsShut, FollowsOn}
 
 abbrev pub event : ℕ → Side → Query → Answer → Event
@@ -17,36 +17,36 @@ IsOf side e = e.side ≡ side
 
 -- steps to last, each below n, from a state, and their events: as `Runs`, to be taken apart step by
 -- step
-pub data Steps {S : Type 0} (r : Moves S) (side : Side) (n : ℕ) (last : S) : S → List Event → Type 0 where
+pub data Steps {S : Type 0} (r : Transitions S) (side : Side) (n : ℕ) (last : S) : S → List Event → Type 0 where
   Over : Steps r side n last last []
   Silent : {s : S} {events : List Event} → r.due s < n → r.asks s ≡ None → Steps r side n last (r.next s None) events → Steps r side n last s events
   Asking : {s : S} {others : List Event} (q : Query) (a : Answer) → r.due s < n → r.asks s ≡ Some q → Steps r side n last (r.next s (Some a)) others
       → Steps r side n last s (event (r.due s) side q a ∷ others)
 
 -- some number of steps
-abbrev pub SomeRuns : {S : Type 0} → Moves S → Side → ℕ → S → List Event → S → Type 0
-SomeRuns r side n s events m = (k : ℕ) × Runs r side n k s (course events m)
+abbrev pub SomeRuns : {S : Type 0} → Transitions S → Side → ℕ → S → List Event → S → Type 0
+SomeRuns r side n s events m = (k : ℕ) × Runs r side n k s (execution events m)
 
 -- an event is known by its parts
 same_event : (e : Event) (t : ℕ) (side : Side) (q : Query) → e.tick ≡ t → e.side ≡ side → e.query ≡ q → e ≡ event t side q e.answer
 same_event e t side q et es eq = grind arith
 
-module _ {S : Type 0} (r : Moves S) (side : Side) (n : ℕ) where
+module _ {S : Type 0} (r : Transitions S) (side : Side) (n : ℕ) where
   abbrev Then : ℕ → S → List Event → S → Option Query → Type 0
   Then k s events m o =
       MatchOption o
-      (Runs r side n k (r.next s None) (course events m))
-      (λ q. Heads events (λ e others. (e.tick ≡ r.due s) × (e.side ≡ side) × (e.query ≡ q) × Runs r side n k (r.next s (Some e.answer)) (course others m)))
+      (Runs r side n k (r.next s None) (execution events m))
+      (λ q. Heads events (λ e others. (e.tick ≡ r.due s) × (e.side ≡ side) × (e.query ≡ q) × Runs r side n k (r.next s (Some e.answer)) (execution others m)))
 
   steps_by : (k : ℕ) (s last : S) (events : List Event) (o : Option Query)
-      → ((u : S) (others : List Event) → Runs r side n k u (course others last) → Steps r side n last u others)
+      → ((u : S) (others : List Event) → Runs r side n k u (execution others last) → Steps r side n last u others)
       → r.due s < n → r.asks s ≡ o → Then k s events last o → Steps r side n last s events
   steps_by k s last events None on low is h = Silent low is (on (r.next s None) events h)
   steps_by k s last [] (Some q) on low is h = absurd h
   steps_by k s last (e ∷ others) (Some q) on low is h =
       rw (same_event e (r.due s) side q h.0 h.1 h.2) (Asking q e.answer low is (on (r.next s (Some e.answer)) others h.3))
 
-  pub steps_of : (k : ℕ) {last s : S} {events : List Event} → Runs r side n k s (course events last) → Steps r side n last s events
+  pub steps_of : (k : ℕ) {last s : S} {events : List Event} → Runs r side n k s (execution events last) → Steps r side n last s events
   steps_of zero runs = rw (runs.0, runs.1) Over
   steps_of (suc k) {last} {s} {events} runs = steps_by k s last events (r.asks s) (λ u others. steps_of k) runs.0 refl runs.1
 
@@ -66,14 +66,14 @@ module _ {S : Type 0} (r : Moves S) (side : Side) (n : ℕ) where
 
 -- steps to last, each below n, from a state, that ask nothing or are looks: as `Looks`, to be taken
 -- apart step by step
-pub data Glances {S : Type 0} (m : Moves S) (n : ℕ) (v : Shown) (last : S) : S → Type 0 where
+pub data Glances {S : Type 0} (m : Transitions S) (n : ℕ) (v : Shown) (last : S) : S → Type 0 where
   Here : Glances m n v last last
   Past : {s : S} → m.due s < n → m.asks s ≡ None → Glances m n v last (m.next s None) → Glances m n v last s
-  Seeing : {s : S} → m.due s < n → m.asks s ≡ Some look → m.due s < v.sure → Glances m n v last (m.next s (Some (Seen v.lines))) → Glances m n v last s
+  Seeing : {s : S} → m.due s < n → m.asks s ≡ Some look → m.due s < v.safe_until → Glances m n v last (m.next s (Some (Seen v.lines))) → Glances m n v last s
 
-module _ {S : Type 0} (m : Moves S) (n : ℕ) (v : Shown) where
+module _ {S : Type 0} (m : Transitions S) (n : ℕ) (v : Shown) where
   glances_by : (k : ℕ) (s last : S) (o : Option Query) → ((u : S) → Looks m n v k u last → Glances m n v last u) → m.due s < n → m.asks s ≡ o
-      → MatchOption o (Looks m n v k (m.next s None) last) (λ q. (q ≡ look) × (m.due s < v.sure) × Looks m n v k (m.next s (Some (Seen v.lines))) last)
+      → MatchOption o (Looks m n v k (m.next s None) last) (λ q. (q ≡ look) × (m.due s < v.safe_until) × Looks m n v k (m.next s (Some (Seen v.lines))) last)
       → Glances m n v last s
   glances_by k s last None on low is h = Past low is (on (m.next s None) h)
   glances_by k s last (Some q) on low is h = Seeing low (is ∙ ap (λ x. Some x) h.0) h.1 (on (m.next s (Some (Seen v.lines))) h.2)
@@ -83,24 +83,24 @@ module _ {S : Type 0} (m : Moves S) (n : ℕ) (v : Shown) where
   glances_of (suc k) {last} {s} looks = glances_by k s last (m.asks s) (λ u. glances_of k) looks.0 refl looks.1
 
 -- the tick rises
-pub glances_rise : {S : Type 0} {m : Moves S} {n : ℕ} {v : Shown} {last s : S} → IsLawful m → Glances m n v last s → m.due s ≤ m.due last
+pub glances_rise : {S : Type 0} {m : Transitions S} {n : ℕ} {v : Shown} {last s : S} → IsLawful m → Glances m n v last s → m.due s ≤ m.due last
 glances_rise {m = m} {last = last} lawful Here = let d = m.due last in omega arith
 glances_rise lawful (Past {s = s} low none on) = omega (arith, lawful.rises s None, glances_rise lawful on)
 glances_rise {v = v} lawful (Seeing {s = s} low is before on) = omega (arith, lawful.rises s (Some (Seen v.lines)), glances_rise lawful on)
 
 -- accesses that the port answers, with such steps before and between them: as `Talks`
-pub data Talking {S D : Type 0} (m : Moves S) (answers : D → ℕ → Op → ℕ → D → Type 0) (n : ℕ) (v : Shown) (last : S) (e : D) : S → D → Type 0 where
+pub data Talking {S D : Type 0} (m : Transitions S) (answers : D → ℕ → Op → ℕ → D → Type 0) (n : ℕ) (v : Shown) (last : S) (e : D) : S → D → Type 0 where
   Last : {s : S} → Glances m n v last s → Talking m answers n v last e s e
   Next : {s at on : S} {d f : D} → Glances m n v at s → IsAnswered m answers n at d on f → Talking m answers n v last e on f → Talking m answers n v last e s d
 
-pub talking_of : {S D : Type 0} {m : Moves S} {answers : D → ℕ → Op → ℕ → D → Type 0} {n : ℕ} {v : Shown} (j : ℕ) {last : S} {e : D} {s : S} {d : D}
+pub talking_of : {S D : Type 0} {m : Transitions S} {answers : D → ℕ → Op → ℕ → D → Type 0} {n : ℕ} {v : Shown} (j : ℕ) {last : S} {e : D} {s : S} {d : D}
     → Talks m answers n v j s d last e → Talking m answers n v last e s d
 talking_of {m = m} {n = n} {v = v} zero h = rw h.0 (Last (glances_of m n v h.1.0 h.1.1))
 talking_of {m = m} {n = n} {v = v} (suc j) h = Next (glances_of m n v h.3.0 h.3.1) h.4 (talking_of j h.5)
 
 -- a state is closed
 
-module _ {S : Type 0} (r : Moves S) (lr : IsLawful r) (s : S) (n : ℕ) (le : n ≤ r.due s) where
+module _ {S : Type 0} (r : Transitions S) (lr : IsLawful r) (s : S) (n : ℕ) (le : n ≤ r.due s) where
   closing_at : IsClosing r s (max n (r.closed s))
   closing_at = let within = lr.within s in lr.closing s (max n (r.closed s)) (omega arith) (omega arith)
 
@@ -122,7 +122,7 @@ module _ {S : Type 0} (r : Moves S) (lr : IsLawful r) (s : S) (n : ℕ) (le : n 
 
 -- a run from a closed state is a run from the state before, except that a run of no step leaves the
 -- closed one
-module _ {S : Type 0} (r : Moves S) (lr : IsLawful r) (side : Side) (n k : ℕ) (le : n ≤ k) (s : S) (over : n ≤ r.due s) where
+module _ {S : Type 0} (r : Transitions S) (lr : IsLawful r) (side : Side) (n k : ℕ) (le : n ≤ k) (s : S) (over : n ≤ r.due s) where
   shut_here : IsShut r s n
   shut_here = shut_is r lr s n over
 
@@ -140,7 +140,7 @@ module _ {S : Type 0} (r : Moves S) (lr : IsLawful r) (side : Side) (n k : ℕ) 
       let next : r.next u (Some a) ≡ r.next s (Some a) = ap (λ x. r.next x (Some a)) is ∙ shut_here.next (Some a) in
       (last, rw due (Asking {s = s} {others = others} q a (omega arith) (sym (ap r.asks is ∙ shut_here.asks) ∙ asks) (rw (← next) on)), up, ends)
 
-pub follows_on : {S : Type 0} (r : Moves S) → IsLawful r → FollowsOn r
+pub follows_on : {S : Type 0} (r : Transitions S) → IsLawful r → FollowsOn r
 follows_on r lr side s u v a b n k le fa fb =
     let on = from_shut r lr side n k le fa.last fa.over fa.ends (steps_of r side k fb.steps fb.runs) fb.over fb.ends in
     let all = runs_of r side k (steps_append r side n k le (steps_of r side n fa.steps fa.runs) on.1) in

@@ -6,7 +6,7 @@ use Rattle.tube_chip.specs.Act.{Query}
 use Rattle.tube_chip.specs.Events.{Event}
 use Rattle.beeb_bits.specs.declared.Side.{Side}
 use Rattle.beeb_bits.specs.declared.Side.TheVariants.{Host, Para}
-use Rattle.tube_party.specs.Moves.{Moves, IsLawful}
+use Rattle.tube_party.specs.Transitions.{Transitions, IsLawful}
 use Rattle.tube_party.specs.Reference.{Seat, World, step_leaves, step_if_due, with_host, para_part, tick, ticks}
 
 abbrev pub seat : {S : Type 0} → S → State → List Event → Seat S
@@ -18,19 +18,19 @@ world s t c l = record { host = s; para = t; chip = c; list = l }
 abbrev pub host_done : {S T : Type 0} → Seat S → T → World S T
 host_done x t = record { host = x.state; para = t; chip = x.chip; list = x.list }
 
-pub still : {S : Type 0} (r : Moves S) (side : Side) (k : ℕ) (x : Seat S) → k < r.due x.state → step_if_due r side k x ≡ x
+pub still : {S : Type 0} (r : Transitions S) (side : Side) (k : ℕ) (x : Seat S) → k < r.due x.state → step_if_due r side k x ≡ x
 still r side k x up = rw (ne_eqb (r.due x.state) k (λ e. omega (arith, e, up))) refl
 
-pub now : {S : Type 0} (r : Moves S) (side : Side) (k : ℕ) (x : Seat S) → r.due x.state ≡ k → step_if_due r side k x ≡ step_leaves r side x (r.asks x.state)
+pub now : {S : Type 0} (r : Transitions S) (side : Side) (k : ℕ) (x : Seat S) → r.due x.state ≡ k → step_if_due r side k x ≡ step_leaves r side x (r.asks x.state)
 now r side k x e = rw (eq-eqb (r.due x.state) k e) refl
 
-later : {S : Type 0} (r : Moves S) → IsLawful r → (side : Side) (x : Seat S) (o : Option Query) → r.due x.state < r.due (step_leaves r side x o).state
+later : {S : Type 0} (r : Transitions S) → IsLawful r → (side : Side) (x : Seat S) (o : Option Query) → r.due x.state < r.due (step_leaves r side x o).state
 later r lr side x o = grind arith
 
 pub same_or_above : (a k : ℕ) → k ≤ a → (a ≡ k) ⊎ (k < a)
 same_or_above a k h = grind arith
 
-module _ {S T : Type 0} (h : Moves S) (p : Moves T) (lh : IsLawful h) (lp : IsLawful p) where
+module _ {S T : Type 0} (h : Transitions S) (p : Transitions T) (lh : IsLawful h) (lp : IsLawful p) where
   -- after its step
   abbrev host_did : S → State → List Event → Seat S
   host_did s c l = step_leaves h Host (seat s c l) (h.asks s)

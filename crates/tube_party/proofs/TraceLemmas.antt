@@ -13,7 +13,7 @@ use Rattle.tube_chip.specs.Events.{Event, Rises, RisesAfter, IsAnsweredFrom, of_
 use Rattle.tube_chip.proofs.Merged.{rises_tail}
 use Rattle.tube_trace.specs.declared.Entry.{Entry}
 use Rattle.tube_trace.specs.Entries.{IsEntry, entry_of, accesses, events_of}
-use Rattle.tube_party.specs.Moves.{Moves, IsLawful, MayAsk}
+use Rattle.tube_party.specs.Transitions.{Transitions, IsLawful, MayAsk}
 use Rattle.tube_party.specs.Reference.{World, reference, ReferenceIsTrace}
 use Rattle.tube_party.proofs.Runs.{event, Steps, Over, Silent, Asking, steps_of}
 use Rattle.tube_party.proofs.Followed.{followed, all_earlier}
@@ -23,7 +23,7 @@ use Rattle.tube_party.proofs.Replayed.{placed, all_below, all_after}
 abbrev May : Event → Type 0
 May e = MayAsk e.side (Some e.query)
 
-module _ {S : Type 0} (m : Moves S) (side : Side) (n : ℕ) (may : (s : S) → MayAsk side (m.asks s)) where
+module _ {S : Type 0} (m : Transitions S) (side : Side) (n : ℕ) (may : (s : S) → MayAsk side (m.asks s)) where
   all_may : {last s : S} {events : List Event} → Steps m side n last s events → All May events
   all_may Over = All-nil May
   all_may (Silent low none on) = all_may on
@@ -75,7 +75,7 @@ all_answered : (c : State) (l : List Event) → IsAnsweredFrom c l → IsAnswere
 all_answered c [] h = tt
 all_answered c (e ∷ l) h = answered_by c e.tick e.side e.query e.answer (accesses l) h.0 (all_answered (act c e.side e.query).0 l h.1)
 
-pub reference_trace : {S T : Type 0} (h : Moves S) (p : Moves T) → IsLawful h → IsLawful p → ((s : S) → MayAsk Host (h.asks s)) → ((t : T) → MayAsk Para (p.asks t)) → ReferenceIsTrace h p
+pub reference_trace : {S T : Type 0} (h : Transitions S) (p : Transitions T) → IsLawful h → IsLawful p → ((s : S) → MayAsk Host (h.asks s)) → ((t : T) → MayAsk Para (p.asks t)) → ReferenceIsTrace h p
 reference_trace {S} {T} h p lh lp may_h may_p s t n =
     let w : World S T = reference h p s t n in
     let f = followed h p lh lp s t n in

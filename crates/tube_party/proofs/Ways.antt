@@ -15,7 +15,7 @@ use Rattle.tube_chip.specs.Act.{Query, access, look, act, ShowsAlike, answer_of}
 use Rattle.tube_chip.specs.Events.{Event, of_side, is_side}
 use Rattle.tube_trace.specs.declared.Entry.{Entry}
 use Rattle.tube_trace.specs.Entries.{accesses, entry_of}
-use Rattle.tube_party.specs.Moves.{Moves, IsLawful, shown_lines}
+use Rattle.tube_party.specs.Transitions.{Transitions, IsLawful, shown_lines}
 use Rattle.tube_party.specs.Turn.{note_leaves, note_all_leaves}
 use Rattle.tube_party.specs.Logs.{accesses-append, at_most_one}
 use Rattle.tube_party.specs.CodePassing.{IsStatusRead, passed_entry}
@@ -37,11 +37,11 @@ abbrev pub IsBelow : ℕ → Event → Type 0
 IsBelow t e = e.tick < t
 
 -- Steps from t to last, below n, that ask only below `safe_until`, and their accesses.
-pub record IsWay {T : Type 0} (p : Moves T) (n sure : ℕ) (c : State) (t last : T) (entries : List Entry) : Type 0 where
+pub record IsWay {T : Type 0} (p : Transitions T) (n safe_until : ℕ) (c : State) (t last : T) (entries : List Entry) : Type 0 where
   pub events : List Event
   pub runs : Steps p Para n last t events
   pub idle : All (IsIdle c) events
-  pub early : All (IsBelow sure) events
+  pub early : All (IsBelow safe_until) events
   pub noted : accesses events ≡ entries
 
 -- ---- What is stored
@@ -94,38 +94,38 @@ module _ (is_read : Bool) (c d : State) (lines : lines_of d ≡ lines_of c) (sho
       let one = one_still is_read refl e.tick e.side e.query e.answer (accesses events) head.0 head.1 none in
       All-cons (IsIdle d) e events (head.0, one.0) (seen_still events (All-tail (IsIdle c) e events idle) one.1)
 
-module _ {T : Type 0} (p : Moves T) (lp : IsLawful p) (n : ℕ) where
+module _ {T : Type 0} (p : Transitions T) (lp : IsLawful p) (n : ℕ) where
   -- the parasite's, below n and the tick of what follows
   abbrev pub IsOn : ℕ → Event → Type 0
   IsOn d e = (e.side ≡ Para) × (e.tick < n) × (e.tick < d)
 
   -- ticks rise, and a tick has one access at most
-  pub record IsCourse (from to : ℕ) (events : List Event) : Type 0 where
+  pub record IsExecution (from to : ℕ) (events : List Event) : Type 0 where
     pub each : All (IsOn to) events
     pub few : length (accesses events) + from ≤ to
 
-  pub course_of : {last t : T} {events : List Event} → Steps p Para n last t events → IsCourse (p.due t) (p.due last) events
-  course_of {last} Over = record { each = All-nil (IsOn (p.due last)); few = omega arith }
-  course_of (Silent {s = t} low none on) =
+  pub execution_of : {last t : T} {events : List Event} → Steps p Para n last t events → IsExecution (p.due t) (p.due last) events
+  execution_of {last} Over = record { each = All-nil (IsOn (p.due last)); few = omega arith }
+  execution_of (Silent {s = t} low none on) =
       let up = lp.rises t None in
-      let rest = course_of on in
+      let rest = execution_of on in
       record { each = rest.each; few = omega arith }
-  course_of {last} (Asking {s = t} {others = others} q a low is on) =
+  execution_of {last} (Asking {s = t} {others = others} q a low is on) =
       let up = lp.rises t (Some a) in
-      let rest = course_of on in
+      let rest = execution_of on in
       let one = at_most_one (p.due t) Para q a in
       let both = length-append (entry_of (p.due t) Para q a) (accesses others) in
       record { each = All-cons (IsOn (p.due last)) _ others (refl, low, omega arith) rest.each; few = omega arith }
 
 -- ---- Such steps
 
-module _ {T : Type 0} {p : Moves T} {n sure : ℕ} {c : State} where
+module _ {T : Type 0} {p : Transitions T} {n safe_until : ℕ} {c : State} where
   -- no step
-  abbrev pub no_way : {t : T} → IsWay p n sure c t t []
-  no_way = record { events = []; runs = Over; idle = All-nil (IsIdle c); early = All-nil (IsBelow sure); noted = refl }
+  abbrev pub no_way : {t : T} → IsWay p n safe_until c t t []
+  no_way = record { events = []; runs = Over; idle = All-nil (IsIdle c); early = All-nil (IsBelow safe_until); noted = refl }
 
   -- steps that ask nothing, and looks
-  pub way_of_looks : {last t : T} → Glances p n (shown_lines (lines_of c) sure) last t → IsWay p n sure c t last []
+  pub way_of_looks : {last t : T} → Glances p n (shown_lines (lines_of c) safe_until) last t → IsWay p n safe_until c t last []
   way_of_looks Here = no_way
   way_of_looks (Past low none on) =
       let w = way_of_looks on in
@@ -137,31 +137,31 @@ module _ {T : Type 0} {p : Moves T} {n sure : ℕ} {c : State} where
         events = e ∷ w.events;
         runs = Asking look (Seen (lines_of c)) low is w.runs;
         idle = All-cons (IsIdle c) e w.events (tt, refl) w.idle;
-        early = All-cons (IsBelow sure) e w.events before w.early;
+        early = All-cons (IsBelow safe_until) e w.events before w.early;
         noted = w.noted;
       }
 
   -- an access in front
   pub way_first : {t on last : T} {op : Op} {byte : ℕ} {entries : List Entry} → p.due t < n → p.asks t ≡ Some (access op) → on ≡ p.next t (Some (Byte byte))
-      → p.due t < sure → IsStatusRead op → byte ≡ answer_of c Para op → IsWay p n sure c on last entries
-      → IsWay p n sure c t last (passed_entry Para (p.due t) op byte ∷ entries)
+      → p.due t < safe_until → IsStatusRead op → byte ≡ answer_of c Para op → IsWay p n safe_until c on last entries
+      → IsWay p n safe_until c t last (passed_entry Para (p.due t) op byte ∷ entries)
   way_first {t} {op = op} {byte = byte} low asks goes early reads is w =
       let e : Event = event (p.due t) Para (access op) (Byte byte) in
       record {
         events = e ∷ w.events;
         runs = Asking (access op) (Byte byte) low asks (rw goes at w.runs);
         idle = All-cons (IsIdle c) e w.events (reads, ap (λ x. Byte x) (sym is)) w.idle;
-        early = All-cons (IsBelow sure) e w.events early w.early;
+        early = All-cons (IsBelow safe_until) e w.events early w.early;
         noted = ap (λ l. passed_entry Para (p.due t) op byte ∷ l) w.noted;
       }
 
   -- such steps after others
-  pub way_on : {t mid last : T} {xs ys : List Entry} → IsWay p n sure c t mid xs → IsWay p n sure c mid last ys → IsWay p n sure c t last (xs ++ ys)
+  pub way_on : {t mid last : T} {xs ys : List Entry} → IsWay p n safe_until c t mid xs → IsWay p n safe_until c mid last ys → IsWay p n safe_until c t last (xs ++ ys)
   way_on {ys = ys} a b =
       record {
         events = a.events ++ b.events;
         runs = steps_append p Para n n (omega arith) a.runs b.runs;
         idle = All-append (IsIdle c) a.events b.events a.idle b.idle;
-        early = All-append (IsBelow sure) a.events b.events a.early b.early;
+        early = All-append (IsBelow safe_until) a.events b.events a.early b.early;
         noted = accesses-append a.events b.events ∙ cc;
       }

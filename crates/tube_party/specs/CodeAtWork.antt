@@ -7,7 +7,7 @@ use Rattle.tube_trace.specs.declared.Entry.{Entry}
 use Rattle.tube_chip.specs.Events.{of_side}
 use Rattle.tube_trace.specs.Entries.{accesses, entry_of, event_of}
 use Rattle.tube_party.specs.declared.log.Log.{Log}
-use Rattle.tube_party.specs.Moves.{Moves}
+use Rattle.tube_party.specs.Transitions.{Transitions}
 use Rattle.tube_party.specs.Turn.{note_all_leaves}
 
 -- A side at work: the state of its party, the chip, the stored accesses, and the number of all.
@@ -26,7 +26,7 @@ abbrev pub own_of : Side → Entry → List Entry
 own_of side entry = accesses (of_side side (event_of entry ∷ []))
 
 -- The step that asks was done at the chip.
-pub record Acts {S : Type 0} (m : Moves S) (side : Side) (keep : ℕ) (old new : AtWork S) : Type 0 where
+pub record Acts {S : Type 0} (m : Transitions S) (side : Side) (keep : ℕ) (old new : AtWork S) : Type 0 where
   pub query : Query
   pub asks : m.asks old.state ≡ Some query
   pub state_is : new.state ≡ m.next old.state (Some (act old.chip side query).1)

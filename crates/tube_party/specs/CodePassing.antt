@@ -8,7 +8,7 @@ use Rattle.tube_chip.specs.declared.Op.TheVariants.{Read, Write, Reset}
 use Rattle.tube_chip.specs.Act.{MayDo, ShowsAlike, is_status, chip_after, answer_of}
 use Rattle.tube_trace.specs.declared.Entry.{Entry}
 use Rattle.tube_party.specs.declared.log.Log.{Log}
-use Rattle.tube_party.specs.declared.table.Table.{Table}
+use Rattle.tube_party.specs.declared.chip_port.ChipPort.{ChipPort}
 use Rattle.tube_party.specs.declared.party.Ask.{Ask}
 use Rattle.tube_party.specs.declared.party.Ask.TheVariants.{Nothing, Access, Look}
 use Rattle.tube_party.specs.CodeAtWork.{own_of}
@@ -16,16 +16,16 @@ use Rattle.tube_party.specs.Logs.{HasNoted}
 
 -- The chip, both sides' logs, the side in turn, the tick below which accesses are answered, and
 -- `true` if the parasite reads its status registers ahead of the host.
-pub record Attended : Type 0 where
+pub record ChipPortState : Type 0 where
   pub chip : State
   pub host : Log
   pub para : Log
   pub turn : Side
-  pub sure : ℕ
+  pub safe_until : ℕ
   pub is_read : Bool
 
-abbrev pub attended : Table → Attended
-attended t = record { chip = t.chip; host = t.host_log; para = t.para_log; turn = t.turn; sure = (t.sure).0; is_read = t.is_read }
+abbrev pub chip_port_state : ChipPort → ChipPortState
+chip_port_state t = record { chip = t.chip; host = t.host_log; para = t.para_log; turn = t.turn; safe_until = (t.safe_until).0; is_read = t.is_read }
 
 -- The lines and the flags stay, and if the parasite reads its status registers ahead, what they
 -- show stays too.
@@ -54,8 +54,8 @@ abbrev pub passed_entry : Side → ℕ → Op → ℕ → Entry
 passed_entry side tick op byte = record { tick = record { 0 = tick }; side = side; op = op; answer = byte }
 
 -- An access of the side in turn below tick `safe_until` was done at the chip, and noted.
-pub record IsPassed (old : Attended) (tick : ℕ) (op : Op) (byte : ℕ) (new : Attended) : Type 0 where
-  pub early : tick < old.sure
+pub record IsPassed (old : ChipPortState) (tick : ℕ) (op : Op) (byte : ℕ) (new : ChipPortState) : Type 0 where
+  pub early : tick < old.safe_until
   pub byte_is : byte ≡ answer_of old.chip old.turn op
   pub chip_is : new.chip ≡ chip_after old.chip old.turn op
   pub stays : StaysSeen old.is_read old.chip (chip_after old.chip old.turn op)
@@ -63,5 +63,5 @@ pub record IsPassed (old : Attended) (tick : ℕ) (op : Op) (byte : ℕ) (new : 
   pub host_noted : HasNoted (own_of Host (passed_entry old.turn tick op byte)) old.host new.host
   pub para_noted : HasNoted (own_of Para (passed_entry old.turn tick op byte)) old.para new.para
   pub turn_is : new.turn ≡ old.turn
-  pub sure_is : new.sure ≡ old.sure
+  pub safe_until_is : new.safe_until ≡ old.safe_until
   pub is_read_is : new.is_read ≡ old.is_read

@@ -1,4 +1,4 @@
-pub mod Moves
+pub mod Transitions
 pub mod CodeClosing
 pub mod Steps
 pub mod Quiet

@@ -7,7 +7,7 @@ use Rattle.tube_chip.specs.Events.{Event, of_side}
 use Rattle.tube_trace.specs.declared.Entry.{Entry}
 use Rattle.tube_trace.specs.Entries.{accesses}
 use Rattle.tube_party.specs.declared.one_thread.Done.{Done}
-use Rattle.tube_party.specs.Moves.{Moves}
+use Rattle.tube_party.specs.Transitions.{Transitions}
 use Rattle.tube_party.specs.Reference.{World}
 
 -- one party may play the host, the other the parasite
@@ -15,7 +15,7 @@ abbrev pub TakeSides : (Side → Bool) → (Side → Bool) → Type 0
 TakeSides host para = IsTrue (host Host) × IsTrue (para Para)
 
 -- neither party is closed past n
-abbrev pub AreClosedWithin : {S T : Type 0} → Moves S → Moves T → S → T → ℕ → Type 0
+abbrev pub AreClosedWithin : {S T : Type 0} → Transitions S → Transitions T → S → T → ℕ → Type 0
 AreClosedWithin h p s t n = (h.closed s ≤ n) × (p.closed t ≤ n)
 
 -- The list holds the first `keep` accesses of a side, and the count is the number of all of them.

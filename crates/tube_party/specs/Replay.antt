@@ -12,7 +12,7 @@ use Rattle.tube_chip.specs.Act.{Query, access, look, chip_after}
 use Rattle.tube_chip.specs.Events.{is_side}
 use Rattle.tube_trace.specs.declared.Entry.{Entry}
 use Rattle.tube_party.specs.declared.replaying.Doing.{Doing}
-use Rattle.tube_party.specs.Moves.{Moves, close_leaves}
+use Rattle.tube_party.specs.Transitions.{Transitions, close_leaves}
 
 -- the chip, from chip c on, after the entries of a trace that come before a step of this side at
 -- tick t
@@ -59,34 +59,34 @@ next_line [] = None
 next_line (x ∷ own) = Some (x.line, None)
 
 -- the machine does nothing more below n
-abbrev pub finish_leaves : {S : Type 0} → Moves S → ℕ → S → List Numbered → Ended S
+abbrev pub finish_leaves : {S : Type 0} → Transitions S → ℕ → S → List Numbered → Ended S
 finish_leaves m n s own = record { machine = close_leaves m s n; place = next_line own }
 
 -- the machine is at an access that is not the side's next entry
-abbrev pub differs : {S : Type 0} → Moves S → Side → S → Op → ℕ → Ended S
+abbrev pub differs : {S : Type 0} → Transitions S → Side → S → Op → ℕ → Ended S
 differs m side s op line = record { machine = s; place = Some (line, Some (doing_of (m.due s) side op)) }
 
 abbrev pub is_that : Entry → ℕ → Op → Bool
 is_that x t op = (x.tick).0 == t && same_op x.op op
 
 -- an access, by the side's entries that are left
-abbrev pub access_step : {S : Type 0} → Moves S → Side → ℕ → S → Op → List Numbered → (S → List Numbered → Ended S) → Ended S
+abbrev pub access_step : {S : Type 0} → Transitions S → Side → ℕ → S → Op → List Numbered → (S → List Numbered → Ended S) → Ended S
 access_step m side lines s op [] go = differs m side s op (lines + 1)
 access_step m side lines s op (x ∷ own) go =
     if is_that x.entry (m.due s) op then go (m.next s (Some (Byte x.entry.answer))) own else differs m side s op x.line
 
 -- one step, and what follows it
-abbrev pub one_step : {S : Type 0} → Moves S → Side → List Entry → S → List Numbered → Option Query → (S → List Numbered → Ended S) → Ended S
+abbrev pub one_step : {S : Type 0} → Transitions S → Side → List Entry → S → List Numbered → Option Query → (S → List Numbered → Ended S) → Ended S
 one_step m side trace s own None go = go (m.next s None) own
 one_step m side trace s own (Some look) go = go (m.next s (Some (Seen (lines_of (chip_before side (m.due s) power_on trace))))) own
 one_step m side trace s own (Some (access op)) go = access_step m side (length trace) s op own go
 
 -- At most k steps one after another, with the side's entries that are left.
-abbrev pub replay_from : {S : Type 0} → Moves S → Side → List Entry → ℕ → ℕ → S → List Numbered → Ended S
+abbrev pub replay_from : {S : Type 0} → Transitions S → Side → List Entry → ℕ → ℕ → S → List Numbered → Ended S
 replay_from m side trace n zero s own = finish_leaves m n s own
 replay_from m side trace n (suc k) s own =
     if nat_lt (m.due s) n then one_step m side trace s own (m.asks s) (replay_from m side trace n k) else finish_leaves m n s own
 
 -- The replay of a machine up to tick n. Ticks rise from step to step, so n steps are enough.
-unfoldable pub replay_of : {S : Type 0} → Moves S → Side → List Entry → ℕ → S → Ended S
+unfoldable pub replay_of : {S : Type 0} → Transitions S → Side → List Entry → ℕ → S → Ended S
 replay_of m side trace n s = replay_from m side trace n n s (own_from side n 1 trace)

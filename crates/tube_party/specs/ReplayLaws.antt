@@ -11,7 +11,7 @@ use Rattle.tube_chip.specs.Events.{Event, is_side}
 use Rattle.tube_trace.specs.declared.Entry.{Entry}
 use Rattle.tube_trace.specs.Entries.{accesses}
 use Rattle.tube_party.specs.declared.replaying.Doing.{Doing}
-use Rattle.tube_party.specs.Moves.{Moves, Runs, Follows, FitsAnswer, close_leaves, course}
+use Rattle.tube_party.specs.Transitions.{Transitions, Runs, Follows, FitsAnswer, close_leaves, execution}
 use Rattle.tube_party.specs.Replay.{Numbered, own_from, doing_of, next_line, chip_before, replay_of}
 use Rattle.tube_party.specs.CodeCursor.{Misses}
 use Rattle.tube_party.specs.Reference.{World, reference}
@@ -28,7 +28,7 @@ IsAnsweredBy trace t side look a = a ≡ Seen (lines_of (chip_before side t powe
 
 -- The machine follows a list up to n. The list's accesses are the side's entries of the trace below
 -- n, and the trace answers its looks.
-pub record FollowsTrace {S : Type 0} (m : Moves S) (side : Side) (trace : List Entry) (n : ℕ) (s ended : S) : Type 0 where
+pub record FollowsTrace {S : Type 0} (m : Transitions S) (side : Side) (trace : List Entry) (n : ℕ) (s ended : S) : Type 0 where
   pub events : List Event
   pub follows : Follows m side s events n ended
   pub own : accesses events ≡ own_below side n trace
@@ -36,7 +36,7 @@ pub record FollowsTrace {S : Type 0} (m : Moves S) (side : Side) (trace : List E
 
 -- A replay ends without a difference exactly if the machine follows the trace, and in the state
 -- that the machine then has.
-abbrev pub ReplayIsFollowing : {S : Type 0} → Moves S → Type 0
+abbrev pub ReplayIsFollowing : {S : Type 0} → Transitions S → Type 0
 ReplayIsFollowing {S} m =
     (side : Side) (trace : List Entry) (n : ℕ) (s ended : S) →
     (replay_of m side trace n s ≡ record { machine = ended; place = None }) ↔ FollowsTrace m side trace n s ended
@@ -60,7 +60,7 @@ difference line what machine = record { line = line; what = what; machine = mach
 -- What the machine does next below n and the side's entries that are left, of a trace of `lines`
 -- lines, differ. Either it makes an access, and the next entry is another or none is left; or it
 -- does nothing more, and an entry is left.
-abbrev pub IsDifference : {S : Type 0} → Moves S → Side → ℕ → ℕ → Parting S → Difference S → Type 0
+abbrev pub IsDifference : {S : Type 0} → Transitions S → Side → ℕ → ℕ → Parting S → Difference S → Type 0
 IsDifference m side n lines at d =
     MatchOption d.what
     ((n ≤ m.due at.last) × (next_line at.left ≡ Some (d.line, None)) × (d.machine ≡ close_leaves m at.last n))
@@ -74,11 +74,11 @@ IsDifference m side n lines at d =
 
 -- The machine makes the first of the side's entries below n, with its looks answered by the trace,
 -- and then meets the difference `d`.
-pub record DiffersAt {S : Type 0} (m : Moves S) (side : Side) (trace : List Entry) (n : ℕ) (s : S) (d : Difference S) : Type 0 where
+pub record DiffersAt {S : Type 0} (m : Transitions S) (side : Side) (trace : List Entry) (n : ℕ) (s : S) (d : Difference S) : Type 0 where
   pub events : List Event
   pub steps : ℕ
   pub last : S
-  pub runs : Runs m side n steps s (course events last)
+  pub runs : Runs m side n steps s (execution events last)
   pub answered : All (λ e. IsAnsweredBy trace e.tick e.side e.query e.answer) events
   pub agreed : List Numbered
   pub left : List Numbered
@@ -87,7 +87,7 @@ pub record DiffersAt {S : Type 0} (m : Moves S) (side : Side) (trace : List Entr
   pub differs : IsDifference m side n (length trace) (record { last = last; left = left }) d
 
 -- A replay ends at a place exactly if that is the first difference, and with the machine before it.
-abbrev pub ReplayTellsDifference : {S : Type 0} → Moves S → Type 0
+abbrev pub ReplayTellsDifference : {S : Type 0} → Transitions S → Type 0
 ReplayTellsDifference {S} m =
     (side : Side) (trace : List Entry) (n : ℕ) (s : S) (line : ℕ) (what : Option Doing) (stopped : S) →
     (replay_of m side trace n s ≡ record { machine = stopped; place = Some (line, what) })
@@ -95,7 +95,7 @@ ReplayTellsDifference {S} m =
 
 -- The replay of each party against the reference run's own list meets no difference, and ends as
 -- the reference run does.
-abbrev pub ReferenceIsReplayed : {S T : Type 0} → Moves S → Moves T → Type 0
+abbrev pub ReferenceIsReplayed : {S T : Type 0} → Transitions S → Transitions T → Type 0
 ReferenceIsReplayed {S} {T} h p =
     (s : S) (t : T) (n : ℕ) →
     let w : World S T = reference h p s t n in

@@ -6,7 +6,7 @@ use Rattle.tube_chip.specs.Act.{access, look}
 use Rattle.tube_trace.specs.declared.Entry.{Entry}
 use Rattle.tube_party.specs.declared.party.Ask.{Ask}
 use Rattle.tube_party.specs.declared.party.Ask.TheVariants.{Nothing, Access, Look}
-use Rattle.tube_party.specs.Moves.{Moves}
+use Rattle.tube_party.specs.Transitions.{Transitions}
 
 -- one more entry, while there are fewer than `keep`
 abbrev pub note_leaves : ℕ → List Entry → Entry → List Entry
@@ -17,7 +17,7 @@ note_all_leaves keep list [] = list
 note_all_leaves keep list (x ∷ xs) = note_all_leaves keep (note_leaves keep list x) xs
 
 -- this is asked by the next step, which is below n
-abbrev pub IsPending : {S : Type 0} → Moves S → ℕ → S → Ask → Type 0
+abbrev pub IsPending : {S : Type 0} → Transitions S → ℕ → S → Ask → Type 0
 IsPending m n s Nothing = ⊥
 IsPending m n s (Access t op) = (t.0 ≡ m.due s) × (t.0 < n) × (m.asks s ≡ Some (access op))
 IsPending m n s (Look t) = (t.0 ≡ m.due s) × (t.0 < n) × (m.asks s ≡ Some look)
@@ -52,7 +52,7 @@ ticks_left n (Look t) = n - t.0
 
 -- Looks of the other side below `safe_until` meet the chip as it is: that tick is at most
 -- `tie_offset` ticks after this party's ask, if it asks.
-abbrev pub IsSure : ℕ → Ask → ℕ → Type 0
-IsSure slack Nothing sure = Unit {0}
-IsSure slack (Access t op) sure = sure ≤ t.0 + slack
-IsSure slack (Look t) sure = sure ≤ t.0 + slack
+abbrev pub IsSafe : ℕ → Ask → ℕ → Type 0
+IsSafe tie_offset Nothing safe_until = Unit {0}
+IsSafe tie_offset (Access t op) safe_until = safe_until ≤ t.0 + tie_offset
+IsSafe tie_offset (Look t) safe_until = safe_until ≤ t.0 + tie_offset

@@ -10,7 +10,7 @@ ghost use Rattle.tube_party.specs.Replay.{chip_before, next_line, same_op, is_th
 ghost use Rattle.tube_party.specs.CodePassing.{IsStatusRead};
 ghost use Rattle.tube_party.specs.CodeCursor.{own_left, IsOwnAt, IsTaken, Takes, Misses};
 
-use crate::desk::Desk;
+use crate::port::TubePort;
 use crate::party::MOST;
 use crate::replaying::Doing;
 use beeb_bits::{Side, Tick, before};
@@ -93,14 +93,14 @@ fn next_line(trace: &[Entry], at: usize) -> Option<(u64, Option<Doing>)>
 /// A side's entries below a tick that are left of a trace. As a port it answers an access that is
 /// the next of the entries.
 #[derive(Drop)]
-pub(crate) struct OwnEntries<'a> {
+pub(crate) struct TracePort<'a> {
     trace: &'a [Entry],
     side: Side,
     until: Tick,
     at: usize,
 }
 
-impl<'a> Model for OwnEntries<'a> {
+impl<'a> Model for TracePort<'a> {
     ghost use Rattle.std.specs.Prelude.{◌≤◌, length};
     ghost use Rattle.tube_party.specs.CodePassing.{IsStatusRead};
     ghost use Rattle.tube_party.specs.CodeCursor.{Owned, IsOwnAt, own_left};
@@ -112,14 +112,14 @@ impl<'a> Model for OwnEntries<'a> {
     ghost invariant = { λ o. (o.at ≤ length o.trace.now) × IsOwnAt o.trace.now o.side o.until.0 o.at };
 }
 
-impl<'a> OwnEntries<'a> {
+impl<'a> TracePort<'a> {
     /// Makes a port of all of a side's entries below `until`.
-    pub(crate) fn new(trace: &'a [Entry], side: Side, until: Tick) -> OwnEntries<'a>
+    pub(crate) fn new(trace: &'a [Entry], side: Side, until: Tick) -> TracePort<'a>
         ensures left { result.left ≡ own_left trace.now side until.0 0 }
         ensures lines { result.lines ≡ length trace.now }
     {
         let at = next_own(trace, side, until, 0);
-        OwnEntries {
+        TracePort {
             trace,
             side,
             until,
@@ -147,7 +147,7 @@ impl<'a> OwnEntries<'a> {
     }
 }
 
-impl<'a> Desk for OwnEntries<'a> {
+impl<'a> TubePort for TracePort<'a> {
     ghost use Rattle.tube_party.specs.CodePassing.{IsStatusRead};
     ghost use Rattle.tube_party.specs.CodeCursor.{Owned, IsTaken};
 
@@ -158,7 +158,7 @@ impl<'a> Desk for OwnEntries<'a> {
     ghost answers = { IsTaken };
 
     #[inline(always)]
-    fn awaits(&self, from: Tick, to: Tick) -> bool {
+    fn may_answer(&self, from: Tick, to: Tick) -> bool {
         self.at < self.trace.len()
             && from <= self.trace[self.at].tick
             && self.trace[self.at].tick < to
@@ -257,13 +257,13 @@ fn go_past(
         chip_before side t chip.old (drop from trace.now) ≡ chip_before side t chip.new (drop result.0 trace.now) }
 {
     let mut at = from;
-    let mut sure = 0;
+    let mut safe_until = 0;
     while at < trace.len() {
         let entry = trace[at];
-        sure = first_look(entry, side, sure);
+        safe_until = first_look(entry, side, safe_until);
         at += 1;
         if !leaves_lines(chip, lines, entry) {
-            return (at, Tick(sure.min(MOST)));
+            return (at, Tick(safe_until.min(MOST)));
         }
     }
     (at, Tick(MOST))

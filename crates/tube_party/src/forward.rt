@@ -1,5 +1,5 @@
 //! A party that is never rolled back.
-use crate::desk::Desk;
+use crate::port::TubePort;
 use crate::party::{Ask, Party};
 use crate::rewinds::Rewinds;
 use beeb_bits::Tick;
@@ -18,7 +18,7 @@ impl<P: Party> Party for Forward<P> {
 
     ghost state = { λ f. P.state f.party };
 
-    ghost moves = { P.moves };
+    ghost transitions = { P.transitions };
 
     ghost plays = { P.plays };
 
@@ -47,13 +47,13 @@ impl<P: Party> Party for Forward<P> {
     }
 
     #[inline(always)]
-    fn advance_seeing(&mut self, until: Tick, lines: &Lines, sure: Tick) -> Ask {
-        self.party.advance_seeing(until, lines, sure)
+    fn advance_seeing(&mut self, until: Tick, lines: &Lines, safe_until: Tick) -> Ask {
+        self.party.advance_seeing(until, lines, safe_until)
     }
 
     #[inline(always)]
-    fn advance_at<D: Desk>(&mut self, until: Tick, lines: &Lines, sure: Tick, desk: &mut D) -> Ask {
-        self.party.advance_at(until, lines, sure, desk)
+    fn advance_at<D: TubePort>(&mut self, until: Tick, lines: &Lines, safe_until: Tick, port: &mut D) -> Ask {
+        self.party.advance_at(until, lines, safe_until, port)
     }
 
     #[inline(always)]
@@ -72,13 +72,13 @@ impl<P: Party> Rewinds for Forward<P> {
     }
 
     #[inline(always)]
-    fn advance_noting<D: Desk>(
+    fn advance_noting<D: TubePort>(
         &mut self,
         _until: Tick,
         _lines: &Lines,
-        _sure: Tick,
+        _safe_until: Tick,
         _past: &mut (),
-        _desk: &mut D,
+        _port: &mut D,
     ) -> Option<Ask> {
         None
     }

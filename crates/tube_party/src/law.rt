@@ -10,26 +10,26 @@ use crate::party::Party;
 /// A party that was closed continues as it would have before. What it follows up to one tick and
 /// then up to another it follows up to the second at once.
 pub fn party_goes_on<M: Party>()
-    ensures shut { MayBeShut M.moves }
-    ensures follows { FollowsOn M.moves }
+    ensures shut { MayBeShut M.transitions }
+    ensures follows { FollowsOn M.transitions }
 {}
 
 /// If two parties each follow a list of events of their side, and the merge of the two lists is
 /// legal, the reference run ends with both as they end, and its list is that merge.
 pub fn legal_merge_is_reference<H: Party, P: Party>()
-    ensures { LegalMergeIsReference H.moves P.moves }
+    ensures { LegalMergeIsReference H.transitions P.transitions }
 {}
 
 /// In the reference run each party follows its side of the list, whose answers are the chip's.
 pub fn reference_is_followed<H: Party, P: Party>()
-    ensures { ReferenceIsFollowed H.moves P.moves }
+    ensures { ReferenceIsFollowed H.transitions P.transitions }
 {}
 
 /// The accesses of the reference run's list are operations that their sides may do. They rise, lie
 /// below the end of the run, and have the chip's answers.
 pub fn reference_is_trace<H: Party, P: Party>()
     requires sides { TakeSides H.plays P.plays }
-    ensures { ReferenceIsTrace H.moves P.moves }
+    ensures { ReferenceIsTrace H.transitions P.transitions }
 {}
 
 /// A replay ends without a difference, with the party in some state, exactly if the party follows a
@@ -37,14 +37,14 @@ pub fn reference_is_trace<H: Party, P: Party>()
 /// the replay, and its looks see the chip after the trace's entries before them. A replay ends at a
 /// place exactly if the party and the entries differ there for the first time.
 pub fn replay_is_following<M: Party>()
-    ensures follows { ReplayIsFollowing M.moves }
-    ensures differs { ReplayTellsDifference M.moves }
+    ensures follows { ReplayIsFollowing M.transitions }
+    ensures differs { ReplayTellsDifference M.transitions }
 {}
 
 /// A replay of either party against the accesses of the reference run's list ends without a
 /// difference, with the party as the reference run leaves it.
 pub fn reference_is_replayed<H: Party, P: Party>()
-    ensures { ReferenceIsReplayed H.moves P.moves }
+    ensures { ReferenceIsReplayed H.transitions P.transitions }
 {}
 
 /// Two parties that were brought back to a tick, each by its replay against a trace below it, with
@@ -52,10 +52,10 @@ pub fn reference_is_replayed<H: Party, P: Party>()
 /// looks in its list. The reference run that continues from there is the reference run, but for
 /// these looks.
 pub fn brought_back_is_reference<H: Party, P: Party>()
-    ensures { BroughtBackIsReference H.moves P.moves }
+    ensures { BroughtBackIsReference H.transitions P.transitions }
 {}
 
 /// The reference run to a tick makes the accesses that a longer one makes below it.
 pub fn shorter_run_is_beginning<H: Party, P: Party>()
-    ensures { ShorterRunIsBeginning H.moves P.moves }
+    ensures { ShorterRunIsBeginning H.transitions P.transitions }
 {}

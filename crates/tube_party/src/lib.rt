@@ -2,7 +2,7 @@
 #![tactic(auto)]
 
 mod cursor;
-mod desk;
+mod port;
 mod forward;
 mod law;
 mod log;
@@ -12,9 +12,9 @@ mod party;
 mod replaying;
 mod rewinds;
 mod stride;
-mod table;
+mod chip_port;
 
-pub use desk::{Closed, Desk};
+pub use port::{NoPort, TubePort};
 pub use forward::Forward;
 pub use law::{
     brought_back_is_reference, legal_merge_is_reference, party_goes_on, reference_is_followed,

@@ -1,24 +1,24 @@
 //! Two parties on one thread.
 ghost use Rattle.std.specs.Prelude.{◌≡◌, ◌≢◌, ◌≤◌, ◌<◌, ◌^◌, ◌⊎◌, true, false, All, IfOk, IfErr, IsTrue};
-ghost use Rattle.tube_party.specs.Moves.{SeesHirqAlone};
+ghost use Rattle.tube_party.specs.Transitions.{SeesHirqAlone};
 ghost use Rattle.tube_chip.specs.State.{lines_of};
 ghost use Rattle.tube_party.specs.OneThread.{IsPlayed, played_of, TakeSides, AreClosedWithin};
-ghost use Rattle.tube_party.specs.Turn.{IsPending, first_of, tick_of, IsSure};
+ghost use Rattle.tube_party.specs.Turn.{IsPending, first_of, tick_of, IsSafe};
 ghost use Rattle.tube_party.specs.CodeAtWork.{at_work, Acts};
-ghost use Rattle.tube_party.specs.CodePassing.{attended, StaysSeen, chip_behind};
+ghost use Rattle.tube_party.specs.CodePassing.{chip_port_state, StaysSeen, chip_behind};
 ghost use Rattle.tube_party.specs.CodeStanding.{standing_of, IsGone, IsRolledBack};
 ghost use Rattle.tube_trace.specs.Entries.{IsEntry};
 ghost use Rattle.tube_party.specs.Reference.{reference};
 ghost use Rattle.tube_party.specs.GoingOn.{reference_from, after_entries};
 
 use crate::cursor::is_status;
-use crate::desk::Desk;
+use crate::port::TubePort;
 use crate::log::{Log, LogMark};
 use crate::noting::{Room, note_all};
 use crate::party::{Ask, MOST, Party};
 use crate::rewinds::Rewinds;
 use crate::stride::Stride;
-use crate::table::{Table, passes};
+use crate::chip_port::{ChipPort, passes};
 use beeb_bits::{Side, Tick};
 use std::alloc::Global;
 use tube_chip::{Answer, Chip, Lines};
@@ -62,12 +62,12 @@ fn first_of(host: Ask, para: Ask) -> Option<Side>
 /// this party's next ask: `tie_offset` ticks after the ask, or the end of the longest run if it
 /// asks nothing. `tie_offset` is 1 if the other side is first on equal ticks, and otherwise 0.
 #[inline(always)]
-fn lookahead(ask: Ask, slack: u64) -> Tick
-    ensures { IsSure slack ask result.0 }
+fn lookahead(ask: Ask, tie_offset: u64) -> Tick
+    ensures { IsSafe tie_offset ask result.0 }
 {
     match ask {
         Ask::Nothing => Tick(MOST),
-        Ask::Access(tick, _) | Ask::Look(tick) => Tick(tick.0.saturating_add(slack)),
+        Ask::Access(tick, _) | Ask::Look(tick) => Tick(tick.0.saturating_add(tie_offset)),
     }
 }
 
@@ -95,13 +95,13 @@ fn act<M: Party>(
 )
     requires ticks { n.0 ≤ MOST }
     requires plays { IsTrue (M.plays side) }
-    requires pending { IsPending M.moves n.0 (M.state machine.old) ask }
+    requires pending { IsPending M.transitions n.0 (M.state machine.old) ask }
     requires count { log.old.count < 2 ^ 63 }
     requires kept { lines.old ≡ lines_of chip.old }
     ensures kept { lines.new ≡ lines_of chip.new }
     ensures acts { let old = at_work (M.state machine.old) chip.old log.old in
         let new = at_work (M.state machine.new) chip.new log.new in
-        Acts M.moves side log.old.keep old new }
+        Acts M.transitions side log.old.keep old new }
     ensures keep { log.new.keep ≡ log.old.keep }
 {
     match ask {
@@ -141,7 +141,7 @@ fn may_go_ahead(ask: Ask, stride: &Stride) -> bool
 fn go_ahead<M: Rewinds>(
     machine: &mut M,
     past: &mut M::Past,
-    table: &mut Table,
+    chip_port: &mut ChipPort,
     n: Tick,
     lines: &Lines,
     ask: Ask,
@@ -149,19 +149,19 @@ fn go_ahead<M: Rewinds>(
     stride: &Stride,
 ) -> (bool, Ask)
     requires { n.0 ≤ MOST }
-    ensures { let old = attended table.old in
+    ensures { let old = chip_port_state chip_port.old in
         let mark = M.Party.state (M.before past.new machine.new) in
         let new = standing_of result.0 result.1 mark (M.Party.state machine.new) in
-        IsGone M.Party.moves n.0 lines.now (M.Party.state machine.old) old ask new (attended table.new) }
+        IsGone M.Party.transitions n.0 lines.now (M.Party.state machine.old) old ask new (chip_port_state chip_port.new) }
 {
-    table.turn = Side::Para;
-    table.sure = ahead;
-    table.is_read = true;
-    table.is_open = stride.reads();
+    chip_port.turn = Side::Para;
+    chip_port.safe_until = ahead;
+    chip_port.is_read = true;
+    chip_port.is_open = stride.reads();
     if !may_go_ahead(ask, stride) {
         return (false, ask);
     }
-    match machine.advance_noting(n, lines, ahead, past, table) {
+    match machine.advance_noting(n, lines, ahead, past, chip_port) {
         Some(next) => (true, next),
         None => (false, ask),
     }
@@ -178,15 +178,15 @@ fn has_read(log: &Log, mark: LogMark, is_ahead: bool) -> bool
 
 /// Returns `true` if the host's next step keeps all that a party ahead of it has observed.
 #[inline(always)]
-fn stays(table: &Table, is_ahead: bool, ask: Ask) -> bool
+fn stays(chip_port: &ChipPort, is_ahead: bool, ask: Ask) -> bool
     ensures ahead { result ≡ false → is_ahead ≡ true }
-    ensures stays { result ≡ true → is_ahead ≡ true → StaysSeen table.now.is_read table.now.chip (chip_behind table.now.chip ask) }
+    ensures stays { result ≡ true → is_ahead ≡ true → StaysSeen chip_port.now.is_read chip_port.now.chip (chip_behind chip_port.now.chip ask) }
 {
     if !is_ahead {
         return true;
     }
     match ask {
-        Ask::Access(_, op) => passes(&table.chip, Side::Host, table.is_read, op),
+        Ask::Access(_, op) => passes(&chip_port.chip, Side::Host, chip_port.is_read, op),
         Ask::Nothing | Ask::Look(_) => true,
     }
 }
@@ -197,7 +197,7 @@ fn stays(table: &Table, is_ahead: bool, ask: Ask) -> bool
 fn roll_back<M: Rewinds>(
     machine: &mut M,
     past: &mut M::Past,
-    table: &mut Table,
+    chip_port: &mut ChipPort,
     n: Tick,
     lines: &Lines,
     at: Tick,
@@ -205,28 +205,28 @@ fn roll_back<M: Rewinds>(
 ) -> Ask
     requires { n.0 ≤ MOST }
     ensures { let from = M.Party.state (M.before past.old machine.old) in
-        let old = attended table.old in
-        IsRolledBack M.Party.moves n.0 lines.now at.0 mark from old result (M.Party.state machine.new) (attended table.new) }
+        let old = chip_port_state chip_port.old in
+        IsRolledBack M.Party.transitions n.0 lines.now at.0 mark from old result (M.Party.state machine.new) (chip_port_state chip_port.new) }
 {
     machine.rewind(past);
-    table.para_log.cut(mark);
-    table.turn = Side::Para;
-    table.sure = at;
-    table.is_read = true;
-    table.is_open = true;
-    machine.advance_at(n, lines, at, table)
+    chip_port.para_log.cut(mark);
+    chip_port.turn = Side::Para;
+    chip_port.safe_until = at;
+    chip_port.is_read = true;
+    chip_port.is_open = true;
+    machine.advance_at(n, lines, at, chip_port)
 }
 
 /// Returns the tick below which the host's looks see the present lines: `n` if the host sees its
 /// own request alone and the chip enables none, and otherwise `safe_until`.
 #[inline(always)]
-fn seen_until<H: Party>(host: &H, chip: &Chip, n: Tick, sure: Tick) -> Tick
-    ensures { (result ≡ sure) ⊎ (SeesHirqAlone H.moves × ((chip.now).flags.q ≡ false)) }
+fn seen_until<H: Party>(host: &H, chip: &Chip, n: Tick, safe_until: Tick) -> Tick
+    ensures { (result ≡ safe_until) ⊎ (SeesHirqAlone H.transitions × ((chip.now).flags.q ≡ false)) }
 {
     if host.sees_hirq_alone() && !chip.enables_hirq() {
         n
     } else {
-        sure
+        safe_until
     }
 }
 
@@ -251,7 +251,7 @@ pub fn go_on_from<H: Party, P: Rewinds>(
     requires sides { TakeSides H.plays P.Party.plays }
     requires entries { All IsEntry entries.now }
     ensures { let w = after_entries (H.state host) (P.Party.state para) entries.now in
-        IsPlayed (reference_from H.moves P.Party.moves w n.0) room.keep (played_of H.state P.Party.state result) }
+        IsPlayed (reference_from H.transitions P.Party.transitions w n.0) room.keep (played_of H.state P.Party.state result) }
 {
     let Room {
         mut host_log,
@@ -262,12 +262,12 @@ pub fn go_on_from<H: Party, P: Rewinds>(
     let chip = note_all(&mut host_log, &mut para_log, entries);
     let mut lines = chip.lines();
     let mut mark = para_log.mark();
-    let mut table = Table {
+    let mut chip_port = ChipPort {
         chip,
         host_log,
         para_log,
         turn: Side::Host,
-        sure: Tick(0),
+        safe_until: Tick(0),
         is_read: false,
         is_open: false,
     };
@@ -278,10 +278,10 @@ pub fn go_on_from<H: Party, P: Rewinds>(
     while let Some(side) = first_of(host_ask, para_ask) {
         match side {
             Side::Host => {
-                table.is_read = has_read(&table.para_log, mark, is_ahead);
-                if !stays(&table, is_ahead, host_ask) {
+                chip_port.is_read = has_read(&chip_port.para_log, mark, is_ahead);
+                if !stays(&chip_port, is_ahead, host_ask) {
                     let at = tick_of(host_ask);
-                    para_ask = roll_back(&mut para, &mut past, &mut table, n, &lines, at, mark);
+                    para_ask = roll_back(&mut para, &mut past, &mut chip_port, n, &lines, at, mark);
                     is_ahead = false;
                     stride.is_cut(at);
                     continue;
@@ -289,50 +289,50 @@ pub fn go_on_from<H: Party, P: Rewinds>(
                 act(
                     &mut host,
                     Side::Host,
-                    &mut table.chip,
+                    &mut chip_port.chip,
                     &mut lines,
-                    &mut table.host_log,
+                    &mut chip_port.host_log,
                     n,
                     host_ask,
                 );
-                table.turn = Side::Host;
-                table.sure = lookahead(para_ask, 1);
-                table.is_open = true;
-                let seen = seen_until(&host, &table.chip, n, table.sure);
-                host_ask = host.advance_at(n, &lines, seen, &mut table);
+                chip_port.turn = Side::Host;
+                chip_port.safe_until = lookahead(para_ask, 1);
+                chip_port.is_open = true;
+                let seen = seen_until(&host, &chip_port.chip, n, chip_port.safe_until);
+                host_ask = host.advance_at(n, &lines, seen, &mut chip_port);
             }
             Side::Para => {
                 stride.take_turn(is_ahead, tick_of(para_ask));
                 act(
                     &mut para,
                     Side::Para,
-                    &mut table.chip,
+                    &mut chip_port.chip,
                     &mut lines,
-                    &mut table.para_log,
+                    &mut chip_port.para_log,
                     n,
                     para_ask,
                 );
-                table.turn = Side::Para;
-                table.sure = lookahead(host_ask, 0);
-                table.is_read = false;
-                table.is_open = true;
-                let sure = table.sure;
-                let asked = para.advance_at(n, &lines, sure, &mut table);
-                mark = table.para_log.mark();
+                chip_port.turn = Side::Para;
+                chip_port.safe_until = lookahead(host_ask, 0);
+                chip_port.is_read = false;
+                chip_port.is_open = true;
+                let safe_until = chip_port.safe_until;
+                let asked = para.advance_at(n, &lines, safe_until, &mut chip_port);
+                mark = chip_port.para_log.mark();
                 let ahead = stride.set_out(tick_of(asked));
                 (is_ahead, para_ask) = go_ahead(
-                    &mut para, &mut past, &mut table, n, &lines, asked, ahead, &stride,
+                    &mut para, &mut past, &mut chip_port, n, &lines, asked, ahead, &stride,
                 );
                 stride.grow();
             }
         }
     }
-    let Table {
+    let ChipPort {
         chip,
         host_log,
         para_log,
         ..
-    } = table;
+    } = chip_port;
     Done {
         host,
         para,
@@ -359,8 +359,8 @@ pub fn solo<H: Party, P: Rewinds>(
 ) -> Result<Done<H, P>, (H, P)>
     requires ticks { n.0 ≤ MOST }
     requires sides { TakeSides H.plays P.Party.plays }
-    requires closed { AreClosedWithin H.moves P.Party.moves (H.state host) (P.Party.state para) n.0 }
-    ensures played { let w = reference H.moves P.Party.moves (H.state host) (P.Party.state para) n.0 in
+    requires closed { AreClosedWithin H.transitions P.Party.transitions (H.state host) (P.Party.state para) n.0 }
+    ensures played { let w = reference H.transitions P.Party.transitions (H.state host) (P.Party.state para) n.0 in
         IfOk result (λ d. IsPlayed w keep (played_of H.state P.Party.state d)) }
     ensures back { IfErr result (λ b. (b.0 ≡ host) × (b.1 ≡ para)) }
 {

@@ -1,10 +1,10 @@
 //! A machine at the Tube, as a trait.
 ghost use Rattle.std.specs.Prelude.{◌≡◌, ◌≤◌, ℕ, Bool, true, Some};
 ghost use Rattle.beeb_bits.specs.declared.Side.{Side};
-ghost use Rattle.tube_party.specs.Moves.{Moves, IsLawful, IsPermitted, SeesHirqAlone, Advances, Sees, Hears, IsAskedFor, shown_lines};
+ghost use Rattle.tube_party.specs.Transitions.{Transitions, IsLawful, IsPermitted, SeesHirqAlone, Advances, Sees, Hears, IsAskedFor, shown_lines};
 ghost use Rattle.tube_party.specs.Quiet.{IsQuiet};
 
-use crate::desk::Desk;
+use crate::port::TubePort;
 use beeb_bits::Tick;
 use tube_chip::{Answer, Lines, Op};
 
@@ -40,7 +40,7 @@ pub trait Party: Drop {
     ghost state: { Self → State };
 
     /// The party's steps.
-    ghost moves: { Moves State };
+    ghost transitions: { Transitions State };
 
     /// The sides that it may play: some operations are of one side alone.
     ghost plays: { Side → Bool };
@@ -48,19 +48,19 @@ pub trait Party: Drop {
     /// Returns `true` only if, of the lines, the party's looks see the host's interrupt request
     /// alone, as those of a host do.
     fn sees_hirq_alone(&self) -> bool
-        ensures { result ≡ true → SeesHirqAlone moves }
+        ensures { result ≡ true → SeesHirqAlone transitions }
     {
         false
     }
 
     /// Returns the tick of the next step.
     fn due(&self) -> Tick
-        ensures { result.0 ≡ moves.due (state self.now) };
+        ensures { result.0 ≡ transitions.due (state self.now) };
 
     /// Returns a tick before which no step asks, whatever is answered later. It is not before the
     /// next step.
     fn quiet(&self) -> Tick
-        ensures { IsQuiet moves (state self.now) result.0 }
+        ensures { IsQuiet transitions (state self.now) result.0 }
     {
         self.due()
     }
@@ -70,21 +70,21 @@ pub trait Party: Drop {
     /// already.
     fn advance(&mut self, until: Tick) -> Ask
         requires { until.0 ≤ MOST }
-        ensures { Advances moves until.0 (state self.old) result (state self.new) };
+        ensures { Advances transitions until.0 (state self.old) result (state self.new) };
 
     /// Does the steps below `until` that ask nothing, and the looks below `safe_until`, which see
     /// `lines`, up to the first step that asks for more. It does `advance` and `answer` in turn; a
     /// machine may do it without stopping at each look.
-    fn advance_seeing(&mut self, until: Tick, lines: &Lines, sure: Tick) -> Ask
+    fn advance_seeing(&mut self, until: Tick, lines: &Lines, safe_until: Tick) -> Ask
         requires { until.0 ≤ MOST }
-        ensures { Sees moves until.0 (shown_lines lines.now sure.0) (state self.old) result (state self.new) }
+        ensures { Sees transitions until.0 (shown_lines lines.now safe_until.0) (state self.old) result (state self.new) }
     {
         loop {
             match self.advance(until) {
                 Ask::Nothing => return Ask::Nothing,
                 Ask::Access(tick, op) => return Ask::Access(tick, op),
                 Ask::Look(tick) => {
-                    if sure.0 <= tick.0 {
+                    if safe_until.0 <= tick.0 {
                         return Ask::Look(tick);
                     }
                     self.answer(Answer::Seen(*lines));
@@ -96,16 +96,16 @@ pub trait Party: Drop {
     /// Does what `advance_seeing` does, and the accesses that the port answers. It does
     /// `advance_seeing`, `TubePort::ask` and `answer` in turn; a machine may stop at an access that
     /// the port would answer.
-    fn advance_at<D: Desk>(&mut self, until: Tick, lines: &Lines, sure: Tick, desk: &mut D) -> Ask
+    fn advance_at<D: TubePort>(&mut self, until: Tick, lines: &Lines, safe_until: Tick, port: &mut D) -> Ask
         requires { until.0 ≤ MOST }
-        ensures { Hears moves D.answers until.0 (shown_lines lines.now sure.0) (state self.old) (D.state desk.old) result (state self.new) (D.state desk.new) }
+        ensures { Hears transitions D.answers until.0 (shown_lines lines.now safe_until.0) (state self.old) (D.state port.old) result (state self.new) (D.state port.new) }
     {
         loop {
-            let ask = self.advance_seeing(until, lines, sure);
+            let ask = self.advance_seeing(until, lines, safe_until);
             let Ask::Access(tick, op) = ask else {
                 return ask;
             };
-            let Some(byte) = desk.ask(tick, op) else {
+            let Some(byte) = port.ask(tick, op) else {
                 return ask;
             };
             self.answer(Answer::Byte(byte));
@@ -114,10 +114,10 @@ pub trait Party: Drop {
 
     /// Does the step that asks.
     fn answer(&mut self, answer: Answer)
-        requires { IsAskedFor moves MOST (state self.old) answer }
-        ensures { state self.new ≡ moves.next (state self.old) (Some answer) };
+        requires { IsAskedFor transitions MOST (state self.old) answer }
+        ensures { state self.new ≡ transitions.next (state self.old) (Some answer) };
 
-    ghost lawful: { IsLawful moves };
+    ghost lawful: { IsLawful transitions };
 
-    ghost permitted: { IsPermitted moves plays };
+    ghost permitted: { IsPermitted transitions plays };
 }

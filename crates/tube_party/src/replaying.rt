@@ -3,7 +3,7 @@ ghost use Rattle.std.specs.Prelude.{◌≡◌, ◌≤◌, All, IsTrue};
 ghost use Rattle.tube_trace.specs.Entries.{IsEntry};
 ghost use Rattle.tube_party.specs.Replay.{replay_of};
 
-use crate::cursor::{OwnEntries, lines_at};
+use crate::cursor::{TracePort, lines_at};
 use crate::party::{Ask, MOST, Party};
 use beeb_bits::{Side, Tick};
 use tube_chip::{Answer, Chip, Op};
@@ -36,22 +36,22 @@ pub fn replay<M: Party>(
     requires ticks { n.0 ≤ MOST }
     requires plays { IsTrue (M.plays side) }
     requires entries { All IsEntry trace.now }
-    ensures machine { M.state result.0 ≡ (replay_of M.moves side trace.now n.0 (M.state machine)).machine }
-    ensures place { result.1 ≡ (replay_of M.moves side trace.now n.0 (M.state machine)).place }
+    ensures machine { M.state result.0 ≡ (replay_of M.transitions side trace.now n.0 (M.state machine)).machine }
+    ensures place { result.1 ≡ (replay_of M.transitions side trace.now n.0 (M.state machine)).place }
 {
     let mut chip = Chip::new();
     let mut lines = chip.lines();
-    let (mut seen, mut sure) = lines_at(&mut chip, &mut lines, trace, 0, side, Tick(0));
-    let mut own = OwnEntries::new(trace, side, n);
+    let (mut seen, mut safe_until) = lines_at(&mut chip, &mut lines, trace, 0, side, Tick(0));
+    let mut own = TracePort::new(trace, side, n);
     'steps: loop {
-        match machine.advance_at(n, &lines, sure, &mut own) {
+        match machine.advance_at(n, &lines, safe_until, &mut own) {
             Ask::Nothing => return (machine, own.next_line()),
             Ask::Access(tick, op) => match own.take(tick, op) {
                 Ok(byte) => machine.answer(Answer::Byte(byte)),
                 Err(line) => return (machine, Some((line, Some(Doing { tick, side, op })))),
             },
             Ask::Look(tick) => {
-                (seen, sure) = lines_at(&mut chip, &mut lines, trace, seen, side, tick);
+                (seen, safe_until) = lines_at(&mut chip, &mut lines, trace, seen, side, tick);
                 machine.answer(Answer::Seen(lines));
             }
         }

@@ -1,9 +1,9 @@
 //! A party that can be rolled back.
 ghost use Rattle.std.specs.Prelude.{◌≡◌, ◌≤◌, MatchOption};
-ghost use Rattle.tube_party.specs.Moves.{GoesHearing, shown_lines};
+ghost use Rattle.tube_party.specs.Transitions.{GoesHearing, shown_lines};
 ghost use Rattle.tube_party.specs.Turn.{IsPending};
 
-use crate::desk::Desk;
+use crate::port::TubePort;
 use crate::party::{Ask, MOST, Party};
 use beeb_bits::Tick;
 use std::alloc::{AllocError, Global};
@@ -29,37 +29,37 @@ pub trait Rewinds: Party {
     /// Starts notes at the present state, and runs as `advance_at` does, with `lines` at each look
     /// below `safe_until`; but it may stop at any look. Returns `None`, with party and port
     /// unchanged, if it cannot note its steps.
-    fn advance_noting<D: Desk>(
+    fn advance_noting<D: TubePort>(
         &mut self,
         until: Tick,
         lines: &Lines,
-        sure: Tick,
+        safe_until: Tick,
         past: &mut Self::Past,
-        desk: &mut D,
+        port: &mut D,
     ) -> Option<Ask>
         requires { until.0 ≤ MOST }
         ensures { let old = Self.state self.old in
             let new = Self.state self.new in
             let mark = Self.state (before past.new self.new) in
-            MatchOption result ((new ≡ old) × (D.state desk.new ≡ D.state desk.old))
-            (λ ask. GoesHearing Self.moves D.answers until.0 (shown_lines lines.now sure.0) old (D.state desk.old) ask new (D.state desk.new)
+            MatchOption result ((new ≡ old) × (D.state port.new ≡ D.state port.old))
+            (λ ask. GoesHearing Self.transitions D.answers until.0 (shown_lines lines.now safe_until.0) old (D.state port.old) ask new (D.state port.new)
             × (mark ≡ old)) };
 
     /// Continues a noted run from `ask`, at which it stopped, and notes the further steps too. A
     /// rollback still leads to the start of the notes. It may stop at any look, and also at `ask`.
-    fn advance_on<D: Desk>(
+    fn advance_on<D: TubePort>(
         &mut self,
         ask: Ask,
         until: Tick,
         lines: &Lines,
-        sure: Tick,
+        safe_until: Tick,
         past: &mut Self::Past,
-        desk: &mut D,
+        port: &mut D,
     ) -> Ask
         requires ticks { until.0 ≤ MOST }
-        requires pending { IsPending Self.moves until.0 (Self.state self.old) ask }
-        ensures goes { GoesHearing Self.moves D.answers until.0 (shown_lines lines.now sure.0)
-            (Self.state self.old) (D.state desk.old) result (Self.state self.new) (D.state desk.new) }
+        requires pending { IsPending Self.transitions until.0 (Self.state self.old) ask }
+        ensures goes { GoesHearing Self.transitions D.answers until.0 (shown_lines lines.now safe_until.0)
+            (Self.state self.old) (D.state port.old) result (Self.state self.new) (D.state port.new) }
         ensures mark { Self.state (before past.new self.new) ≡ Self.state (before past.old self.old) }
     {
         ask

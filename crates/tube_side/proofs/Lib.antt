@@ -1,2 +1,2 @@
 pub mod Waits
-pub mod Trusts
+pub mod SpecHorizons

@@ -6,41 +6,41 @@ use Rattle.beeb_bits.specs.declared.Side.{Side}
 use Rattle.beeb_bits.specs.declared.Side.TheVariants.{Para}
 use Rattle.tube_chip.specs.Events.{Event, after_from}
 use Rattle.tube_cell.specs.declared.local.Readings.{Readings}
-use Rattle.tube_cell.specs.Views.{Known, one_side, other_bound, Admits}
+use Rattle.tube_cell.specs.Views.{CellSnapshot, one_side, other_bound, Admits}
 use Rattle.tube_cell.specs.Views.{readings_of}
-use Rattle.tube_cell.specs.Rules.{rise, Trusts}
-use Rattle.tube_cell.specs.Passes.{Carried, own_horizon, here, bound_here, after_publish, after_entrust, Learns}
-use Rattle.tube_side.specs.CodeSteps.{all_events, HasWaited, IsPaid, IsPaidOnTrust, HasOnlyLearnt}
+use Rattle.tube_cell.specs.Rules.{rise, SpecHorizons}
+use Rattle.tube_cell.specs.Passes.{PassState, own_horizon, here, bound_here, after_publish, after_speculate, Learns}
+use Rattle.tube_side.specs.CodeSteps.{all_events, HasWaited, IsPaid, IsPaidSpeculatively, HasOnlyLearnt}
 use Rattle.tube_cell.proofs.Acts.{bound_bare}
 use Rattle.tube_cell.proofs.Publishes.{horizon_published}
 
-pub waits : (p : Carried) → p.trusted ≡ [] → HasWaited p p
-waits p none = record { same = record { cell = refl; side = refl; trusted = none }; events = refl }
+pub waits : (p : PassState) → p.speculative ≡ [] → HasWaited p p
+waits p none = record { same = record { cell = refl; side = refl; speculative = none }; events = refl }
 
-pub waited_on : {p q r : Carried} → HasWaited p q → HasWaited q r → HasWaited p r
+pub waited_on : {p q r : PassState} → HasWaited p q → HasWaited q r → HasWaited p r
 waited_on a b = grind (arith, nat_tests)
 
-pub learned : {p q : Carried} → p.trusted ≡ [] → Learns p q → HasWaited p q
+pub learned : {p q : PassState} → p.speculative ≡ [] → Learns p q → HasWaited p q
 learned h l = grind (arith, nat_tests)
 
-pub told : (p : Carried) {q : Carried} (h : ℕ) → p.trusted ≡ [] → q ≡ after_publish p h → HasWaited p q
+pub told : (p : PassState) {q : PassState} (h : ℕ) → p.speculative ≡ [] → q ≡ after_publish p h → HasWaited p q
 told p h none e = record {
-  same = record { cell = ap (λ x. x.cell) e; side = ap (λ x. x.side) e; trusted = ap (λ x. x.trusted) e ∙ none };
+  same = record { cell = ap (λ x. x.cell) e; side = ap (λ x. x.side) e; speculative = ap (λ x. x.speculative) e ∙ none };
   events = ap all_events e ∙ append-nil (p.events ++ p.ahead);
 }
 
 -- ---- publications and rises of the bound
 
-pub learned_paid : {p q : Carried} → Learns p q → (q.commits ≡ p.commits) × (p.higher ≤ q.higher)
+pub learned_paid : {p q : PassState} → Learns p q → (q.commits ≡ p.commits) × (p.higher ≤ q.higher)
 learned_paid {p} {q} l =
     let e : q.higher ≡ p.higher + rise (one_side p.side) p.known q.known = ap (λ x. x.higher) l.rest in
     (ap (λ x. x.commits) l.rest, omega arith)
 
-rise_one : (s : Side) (k j : Known) (t : ℕ) → ¬ Admits s (other_bound s k) t → Admits s (other_bound s j) t → rise (one_side s) k j ≡ 1
+rise_one : (s : Side) (k j : CellSnapshot) (t : ℕ) → ¬ Admits s (other_bound s k) t → Admits s (other_bound s j) t → rise (one_side s) k j ≡ 1
 rise_one s k j t not_yet now_is = grind (arith, nat_tests)
 
 -- a step that was not admitted, and now is, is admitted by a risen bound
-pub rose : {p q : Carried} (t : ℕ) → p.ahead ≡ [] → p.trusted ≡ [] → Learns p q → ¬ Admits p.side (bound_here p) t → Admits q.side (bound_here q) t → q.higher ≡ p.higher + 1
+pub rose : {p q : PassState} (t : ℕ) → p.ahead ≡ [] → p.speculative ≡ [] → Learns p q → ¬ Admits p.side (bound_here p) t → Admits q.side (bound_here q) t → q.higher ≡ p.higher + 1
 rose {p} {q} t bare none l not_yet now_is =
     let e = l.plain none in
     let side : q.side ≡ p.side = ap (λ x. x.side) e in
@@ -53,40 +53,40 @@ rose {p} {q} t bare none l not_yet now_is =
 
 -- ---- the horizon
 
-pub told_at : (p : Carried) {q : Carried} (h : ℕ) → own_horizon p ≤ h → q ≡ after_publish p h → own_horizon q ≡ h
+pub told_at : (p : PassState) {q : PassState} (h : ℕ) → own_horizon p ≤ h → q ≡ after_publish p h → own_horizon q ≡ h
 told_at p h low e = ap own_horizon e ∙ horizon_published p h low
 
-pub told_low : (p : Carried) {q : Carried} (h : ℕ) → own_horizon p ≤ h → q ≡ after_publish p h → own_horizon q ≤ h
+pub told_low : (p : PassState) {q : PassState} (h : ℕ) → own_horizon p ≤ h → q ≡ after_publish p h → own_horizon q ≤ h
 told_low p h low e = let x = told_at p h low e in omega arith
 
-pub here_bare : (p : Carried) {r : Readings} → p.ahead ≡ [] → r ≡ readings_of (here p) → r ≡ readings_of p.known.chip
+pub here_bare : (p : PassState) {r : Readings} → p.ahead ≡ [] → r ≡ readings_of (here p) → r ≡ readings_of p.known.chip
 here_bare p bare is = is ∙ ap (λ events. readings_of (after_from p.known.chip events)) bare
 
 -- ---- publications and rises, with speculation
 
-pub learned_on_trust : (p : Carried) {q r : Carried} → q.side ≡ Para → Learns q r → IsPaidOnTrust p q → IsPaidOnTrust p r
-learned_on_trust p {q} {r} side l paid = go paid (cases_lt q.known.host r.known.host) (rw side at l.trust)
+pub learned_speculatively : (p : PassState) {q r : PassState} → q.side ≡ Para → Learns q r → IsPaidSpeculatively p q → IsPaidSpeculatively p r
+learned_speculatively p {q} {r} side l paid = go paid (cases_lt q.known.host r.known.host) (rw side at l.spec_horizon)
   where
-    go : IsPaidOnTrust p q → (q.known.host < r.known.host) ⊎ (r.known.host ≤ q.known.host) → Trusts Para q.known r.known → IsPaidOnTrust p r
+    go : IsPaidSpeculatively p q → (q.known.host < r.known.host) ⊎ (r.known.host ≤ q.known.host) → SpecHorizons Para q.known r.known → IsPaidSpeculatively p r
     go h side_of t = grind (arith, nat_tests)
 
 -- an exchange that speculates, or the words that it found
-pub tried_on_trust : (p : Carried) {q r : Carried} (t : ℕ) (looks : List Event) (done : Bool) → q.side ≡ Para → q.known.trust ≤ t → (IsTrue done → r ≡ after_entrust q looks t)
-    → (IsFalse done → Learns q r) → IsPaidOnTrust p q → IsPaidOnTrust p r
-tried_on_trust p {q} t looks true side le f g paid = subst (IsPaidOnTrust p) (sym (f refl)) (go paid)
+pub tried_speculatively : (p : PassState) {q r : PassState} (t : ℕ) (looks : List Event) (done : Bool) → q.side ≡ Para → q.known.spec_horizon ≤ t → (IsTrue done → r ≡ after_speculate q looks t)
+    → (IsFalse done → Learns q r) → IsPaidSpeculatively p q → IsPaidSpeculatively p r
+tried_speculatively p {q} t looks true side le f g paid = subst (IsPaidSpeculatively p) (sym (f refl)) (go paid)
   where
-    go : IsPaidOnTrust p q → IsPaidOnTrust p (after_entrust q looks t)
+    go : IsPaidSpeculatively p q → IsPaidSpeculatively p (after_speculate q looks t)
     go (inl x) = inl x
     go (inr x) = inr (x.0, omega arith)
-tried_on_trust p t looks false side le f g paid = learned_on_trust p side (g refl) paid
+tried_speculatively p t looks false side le f g paid = learned_speculatively p side (g refl) paid
 
 -- the host has reached the speculative horizon
-pub passed_paid : (p q : Carried) → q.known.trust ≤ q.known.host → IsPaidOnTrust p q → IsPaid p q
+pub passed_paid : (p q : PassState) → q.known.spec_horizon ≤ q.known.host → IsPaidSpeculatively p q → IsPaid p q
 passed_paid p q le (inl x) = x
 passed_paid p q le (inr x) = absurd (omega arith)
 
 -- words were found
-pub still_learnt : (p : Carried) {q r : Carried} (t : ℕ) → q.side ≡ Para → HasOnlyLearnt t p q → Learns q r → HasOnlyLearnt t p r
+pub still_learnt : (p : PassState) {q r : PassState} (t : ℕ) → q.side ≡ Para → HasOnlyLearnt t p q → Learns q r → HasOnlyLearnt t p r
 still_learnt p {q} {r} t side learnt l = ((learned_paid l).0 ∙ learnt.0, go learnt.1 (cases_lt q.known.host r.known.host))
   where
     go : (p.higher < q.higher) ⊎ ((p.higher ≤ q.higher) × (q.known.host < t)) → (q.known.host < r.known.host) ⊎ (r.known.host ≤ q.known.host)

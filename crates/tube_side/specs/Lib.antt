@@ -1,3 +1,3 @@
 pub mod CodeSteps
-pub mod CodeWays
-pub mod CodeTrust
+pub mod CodeSpeculation
+pub mod CodeSpecHorizon

@@ -4,7 +4,7 @@ ghost use Rattle.tube_cell.specs.Views.{Admits};
 ghost use Rattle.tube_cell.specs.Passes.{own_horizon, bound_here};
 ghost use Rattle.tube_side.specs.CodeSteps.{HasWaited, IsPaid, IsNearlyPaid};
 
-use crate::pause::Pause;
+use crate::pause::SpinThenPark;
 use beeb_bits::Tick;
 use std::sync::Wait;
 use tube_cell::{Pass, TubeCell};
@@ -18,10 +18,10 @@ pub fn come<R: Wait>(
     pass: &mut Pass,
     t: Tick,
     is_published: bool,
-    pause: &mut Pause,
+    pause: &mut SpinThenPark,
 )
     requires cell { pass.old.cell ≡ cell.now }
-    requires none_trusted { pass.old.trusted ≡ [] }
+    requires none_speculative { pass.old.speculative ≡ [] }
     requires published { IsTrue is_published → pass.old.ahead ≡ [] }
     requires later { own_horizon pass.old ≤ t.0 }
     ensures waited { HasWaited pass.old pass.new }
@@ -33,7 +33,7 @@ pub fn come<R: Wait>(
         return;
     }
     cell.learn(rt, pass);
-    if is_published && t <= cell.trust(pass) {
+    if is_published && t <= cell.spec_horizon(pass) {
         if cell.admits(pass, t) {
             return;
         }
@@ -46,7 +46,7 @@ pub fn come<R: Wait>(
 /// Publishes all events, with the end `n` of the run as horizon: no step below it is left.
 pub fn finish<R: Wait>(rt: &R, cell: &TubeCell, pass: &mut Pass, n: Tick)
     requires cell { pass.old.cell ≡ cell.now }
-    requires none_trusted { pass.old.trusted ≡ [] }
+    requires none_speculative { pass.old.speculative ≡ [] }
     requires later { own_horizon pass.old ≤ n.0 }
     ensures waited { HasWaited pass.old pass.new }
     ensures published { pass.new.ahead ≡ [] }
@@ -65,7 +65,7 @@ pub fn finish<R: Wait>(rt: &R, cell: &TubeCell, pass: &mut Pass, n: Tick)
 // nothing published, if the other side admits the step by then.
 fn tell<R: Wait>(rt: &R, cell: &TubeCell, pass: &mut Pass, t: Tick) -> bool
     requires cell { pass.old.cell ≡ cell.now }
-    requires none_trusted { pass.old.trusted ≡ [] }
+    requires none_speculative { pass.old.speculative ≡ [] }
     requires later { own_horizon pass.old ≤ t.0 }
     ensures waited { HasWaited pass.old pass.new }
     ensures later { own_horizon pass.new ≤ t.0 }
@@ -87,10 +87,10 @@ fn tell<R: Wait>(rt: &R, cell: &TubeCell, pass: &mut Pass, t: Tick) -> bool
 }
 
 // Waits until the other side admits the step.
-fn wait<R: Wait>(rt: &R, cell: &TubeCell, pass: &mut Pass, t: Tick, pause: &mut Pause)
+fn wait<R: Wait>(rt: &R, cell: &TubeCell, pass: &mut Pass, t: Tick, pause: &mut SpinThenPark)
     requires cell { pass.old.cell ≡ cell.now }
     requires published { pass.old.ahead ≡ [] }
-    requires none_trusted { pass.old.trusted ≡ [] }
+    requires none_speculative { pass.old.speculative ≡ [] }
     requires later { own_horizon pass.old ≤ t.0 }
     requires far { ¬ Admits pass.old.side (bound_here pass.old) t.0 }
     ensures waited { HasWaited pass.old pass.new }

@@ -4,9 +4,9 @@
 mod at_cell;
 mod mark;
 mod pause;
-mod trust;
+mod spec_horizon;
 
 pub use at_cell::{come, finish};
-pub use mark::{Ahead, Mark};
-pub use pause::Pause;
-pub use trust::{tell_first, tell_more, wait_passed};
+pub use mark::{GhostSpeculation, Mark};
+pub use pause::SpinThenPark;
+pub use spec_horizon::{tell_first, tell_more, wait_passed};

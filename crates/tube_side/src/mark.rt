@@ -14,16 +14,16 @@ pub struct Mark {
 
 /// The speculation of a run. No value of it exists: the proof of a call supplies it. The code of
 /// the call names `Brand` in its place.
-pub trait Ahead {
-    ghost use Rattle.tube_side.specs.CodeWays.{Way};
+pub trait GhostSpeculation {
+    ghost use Rattle.tube_side.specs.CodeSpeculation.{Speculation};
 
-    ghost way: { Way };
+    ghost speculation: { Speculation };
 }
 
-impl Ahead for Brand {
+impl GhostSpeculation for Brand {
     ghost use Rattle.std.specs.Prelude.{[]};
     ghost use Rattle.tube_chip.specs.State.{power_on};
     ghost use Rattle.tube_cell.specs.Views.{readings_of};
 
-    ghost way = { record { tick = 0; readings = readings_of power_on; until = λ t. [] } };
+    ghost speculation = { record { tick = 0; readings = readings_of power_on; until = λ t. [] } };
 }

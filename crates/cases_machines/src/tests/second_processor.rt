@@ -6,7 +6,7 @@ use std::alloc::Global;
 use std::test::Fail;
 use std::vec::Vec;
 use tube_chip::{Chip, Lines, Op};
-use tube_party::{Ask, Closed, Desk, Doing, Party, Rewinds, replay};
+use tube_party::{Ask, NoPort, TubePort, Doing, Party, Rewinds, replay};
 
 fn put(bytes: &mut Vec<u8>, start: usize, part: &[u8]) {
     for (i, byte) in part.iter().enumerate() {
@@ -352,13 +352,13 @@ const SURE: &str = "\
 ";
 
 #[test]
-fn a_look_is_seen_below_the_sure_tick(rt: HostRuntime) -> Result<(), Fail> {
+fn a_look_is_seen_below_the_safe_tick(rt: HostRuntime) -> Result<(), Fail> {
     let lines = Chip::new().lines();
     for line in SURE.lines() {
-        let (clock, code, _, sure, look) = row_of(line).unwrap_or(NO_ROW);
+        let (clock, code, _, safe_until, look) = row_of(line).unwrap_or(NO_ROW);
         let machine = fresh(rt.alloc(), clock, code);
         let ask = with_new(machine, |machine| {
-            machine.advance_seeing(Tick(60), &lines, Tick(sure))
+            machine.advance_seeing(Tick(60), &lines, Tick(safe_until))
         })?;
         assert!(rt; ask == Ask::Look(Tick(look)), "{line}");
     }
@@ -393,12 +393,12 @@ fn is_ahead(
     alloc: Global,
     machine: &ParaMachine,
     ask: Option<Ask>,
-    (clock, code, from, sure, goes): Row,
+    (clock, code, from, safe_until, goes): Row,
 ) -> Result<bool, Fail> {
-    let far = if goes == 1 { sure } else { machine.due().0 };
+    let far = if goes == 1 { safe_until } else { machine.due().0 };
     with_new(begun(alloc, clock, code, from), |(other, _)| {
         let want = other.advance_seeing(END, &Chip::new().lines(), Tick(far));
-        far <= sure && ask == Some(want) && same(machine, other)
+        far <= safe_until && ask == Some(want) && same(machine, other)
     })
 }
 
@@ -420,7 +420,7 @@ fn is_taken_back(
     let lines = Chip::new().lines();
     let mut is_right = true;
     for _ in 0..2 {
-        let ask = machine.advance_noting(END, &lines, Tick(row.3), past, &mut Closed);
+        let ask = machine.advance_noting(END, &lines, Tick(row.3), past, &mut NoPort);
         is_right = is_ahead(alloc, machine, ask, row)? && is_right;
         machine.rewind(past);
         is_right = same(machine, twin) && is_right;
@@ -467,11 +467,11 @@ const STRIDES: &str = "\
 
 // What is asked after two strides, if the first ends at a look.
 #[tactic(auto, using(tube_party::specs::Steps::left_pending))]
-fn strode(machine: &mut ParaMachine, past: &mut Past, sure: u64, far: u64) -> Option<Ask> {
+fn strode(machine: &mut ParaMachine, past: &mut Past, safe_until: u64, far: u64) -> Option<Ask> {
     let lines = Chip::new().lines();
-    if let Some(Ask::Look(t)) = machine.advance_noting(END, &lines, Tick(sure), past, &mut Closed) {
+    if let Some(Ask::Look(t)) = machine.advance_noting(END, &lines, Tick(safe_until), past, &mut NoPort) {
         let look = Ask::Look(t);
-        return Some(machine.advance_on(look, END, &lines, Tick(far), past, &mut Closed));
+        return Some(machine.advance_on(look, END, &lines, Tick(far), past, &mut NoPort));
     }
     None
 }
@@ -482,11 +482,11 @@ fn are_strides(
     twin: &ParaMachine,
     (other, want): &(ParaMachine, Ask),
     past: &mut Past,
-    (sure, far): (u64, u64),
+    (safe_until, far): (u64, u64),
 ) -> bool {
     let mut is_right = true;
     for _ in 0..2 {
-        let ask = strode(machine, past, sure, far);
+        let ask = strode(machine, past, safe_until, far);
         is_right = ask == Some(*want) && same(machine, other) && is_right;
         machine.rewind(past);
         is_right = same(machine, twin) && is_right;
@@ -495,15 +495,15 @@ fn are_strides(
 }
 
 // The same of new machines.
-fn new_ones_stride(alloc: Global, (clock, code, sure, far, _): Row) -> Result<bool, Fail> {
+fn new_ones_stride(alloc: Global, (clock, code, safe_until, far, _): Row) -> Result<bool, Fail> {
     let make = || fresh(alloc, clock, code);
     let others = pair(
         pair(make(), make),
-        || begun(alloc, clock, code, sure.max(far)),
+        || begun(alloc, clock, code, safe_until.max(far)),
     );
     with_new(
         pair(others, || past(alloc)),
-        |(((machine, twin), other), past)| { are_strides(machine, twin, other, past, (sure, far)) },
+        |(((machine, twin), other), past)| { are_strides(machine, twin, other, past, (safe_until, far)) },
     )
 }
 
@@ -536,7 +536,7 @@ struct Once {
     byte: Option<u8>,
 }
 
-impl Desk for Once {
+impl TubePort for Once {
     ghost use Rattle.std.specs.Prelude.{ℕ, Option, ◌≡◌, None, Some};
 
     ghost State = { Option ℕ };
@@ -545,11 +545,11 @@ impl Desk for Once {
 
     ghost answers = { λ before tick op byte after. (before ≡ Some byte) × (after ≡ None) };
 
-    fn awaits(&self, _from: Tick, _to: Tick) -> bool {
+    fn may_answer(&self, _from: Tick, _to: Tick) -> bool {
         self.byte.is_some()
     }
 
-    fn is_asked_each(&self) -> bool {
+    fn answers_single_accesses(&self) -> bool {
         true
     }
 
@@ -563,23 +563,23 @@ impl Desk for Once {
 fn answered(
     machine: &mut ParaMachine,
     past: &mut Past,
-    sure: u64,
+    safe_until: u64,
 ) -> (Option<Ask>, Option<Ask>, Option<Ask>) {
     let lines = Chip::new().lines();
     let far = Tick(2_000);
-    let first = machine.advance_noting(END, &lines, far, past, &mut Closed);
+    let first = machine.advance_noting(END, &lines, far, past, &mut NoPort);
     let Some(Ask::Access(tick, Op::Read(number))) = first else {
         return (first, None, None);
     };
     let ask = Ask::Access(tick, Op::Read(number));
-    let mut desk = Once { byte: Some(0) };
-    let second = machine.advance_on(ask, END, &lines, far, past, &mut desk);
+    let mut port = Once { byte: Some(0) };
+    let second = machine.advance_on(ask, END, &lines, far, past, &mut port);
     let Ask::Access(tick, Op::Read(number)) = second else {
         return (first, Some(second), None);
     };
     let ask = Ask::Access(tick, Op::Read(number));
-    let mut desk = Once { byte: Some(0x80) };
-    let third = machine.advance_on(ask, END, &lines, Tick(sure), past, &mut desk);
+    let mut port = Once { byte: Some(0x80) };
+    let third = machine.advance_on(ask, END, &lines, Tick(safe_until), past, &mut port);
     (first, Some(second), Some(third))
 }
 
@@ -589,12 +589,12 @@ fn are_answered(
     twin: &ParaMachine,
     other: &ParaMachine,
     past: &mut Past,
-    sure: u16,
+    safe_until: u16,
     want: (Option<Ask>, Option<Ask>, Option<Ask>),
 ) -> bool {
     let mut is_right = true;
     for _ in 0..2 {
-        let asks = answered(machine, past, u64::from(sure));
+        let asks = answered(machine, past, u64::from(safe_until));
         is_right = asks == want && same(machine, other) && is_right;
         machine.rewind(past);
         is_right = same(machine, twin) && is_right;
@@ -608,7 +608,7 @@ fn is_answered(
     alloc: Global,
     clock: Clock,
     (first, second, third): (u16, u16, u16),
-    (sure, look): (u16, u16),
+    (safe_until, look): (u16, u16),
 ) -> Result<bool, Fail> {
     let read_at = |t: u16| Some(Ask::Access(Tick(u64::from(t)), Op::Read(0)));
     let want = (
@@ -621,7 +621,7 @@ fn is_answered(
     with_new(
         pair(others, || past(alloc)),
         |(((machine, twin), other), past)| {
-            other.1.is_none() && are_answered(&mut machine.0, &twin.0, &other.0, past, sure, want)
+            other.1.is_none() && are_answered(&mut machine.0, &twin.0, &other.0, past, safe_until, want)
         },
     )
 }
@@ -661,12 +661,12 @@ fn goes_ahead_held(
     twin: &mut ParaMachine,
     past: &mut Past,
     lines: &Lines,
-    (from, sure, look): (u64, u64, u64),
+    (from, safe_until, look): (u64, u64, u64),
 ) -> bool {
     let ask = machine.advance_seeing(END, lines, Tick(from));
     let mut is_right = twin.advance_seeing(END, lines, Tick(from)) == ask;
     for _ in 0..2 {
-        let ask = machine.advance_noting(END, lines, Tick(sure), past, &mut Closed);
+        let ask = machine.advance_noting(END, lines, Tick(safe_until), past, &mut NoPort);
         is_right = ask == Some(Ask::Look(Tick(look))) && machine.held() && is_right;
         machine.rewind(past);
         is_right = same(machine, twin) && is_right;
@@ -681,11 +681,11 @@ fn a_held_machine_goes_ahead_too(rt: HostRuntime) -> Result<(), Fail> {
     let _ = chip.apply(Side::Host, Op::Write(0, 0xa0));
     let lines = chip.lines();
     for line in HELD.lines() {
-        let (clock, code, from, sure, look) = row_of(line).unwrap_or(NO_ROW);
+        let (clock, code, from, safe_until, look) = row_of(line).unwrap_or(NO_ROW);
         let make = || fresh(rt.alloc(), clock, code);
         let held = pair(pair(make(), make), || past(rt.alloc()));
         let is_right = with_new(held, |((machine, twin), past)| {
-            goes_ahead_held(machine, twin, past, &lines, (from, sure, look))
+            goes_ahead_held(machine, twin, past, &lines, (from, safe_until, look))
         })?;
         assert!(rt; is_right, "{line}");
     }

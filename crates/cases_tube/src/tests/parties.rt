@@ -30,7 +30,7 @@ pub struct Probe {
 impl Party for Probe {
     ghost use Rattle.std.specs.Prelude.{◌+◌, ◌-◌, not, true, false, Some, refl, if◌then◌else◌};
     ghost use Rattle.std.proofs.Common.{arith};
-    ghost use Rattle.tube_party.specs.Moves.{MayAsk};
+    ghost use Rattle.tube_party.specs.Transitions.{MayAsk};
     ghost use Rattle.cases_tube.specs.declared.tests.parties.Probe.{Probe};
     ghost use Rattle.tube_chip.specs.declared.Op.TheVariants as op;
     ghost use Rattle.tube_chip.specs.Act.{access, look};
@@ -39,7 +39,7 @@ impl Party for Probe {
 
     ghost state = { λ m. m };
 
-    ghost moves = { record {
+    ghost transitions = { record {
       due = λ s. s.due;
       asks = λ s. if s.looks then Some look else Some (access (op.Read 0));
       next = λ s a. record { due = s.due + 5; looks = not s.looks; lag = 4; last = a };
@@ -217,10 +217,10 @@ fn looks_below_a_tick_see_these_lines(rt: HostRuntime) -> Result<(), Fail> {
     // P is set: one reset.
     let _ = chip.apply(Side::Host, Op::Write(0, 0xa0));
     let lines = chip.lines();
-    for (until, sure, ask, saw) in rows {
+    for (until, safe_until, ask, saw) in rows {
         let mut party = at_power_on();
         assert_eq!(rt;
-            party.advance_seeing(Tick(until as u64), &lines, Tick(sure as u64)),
+            party.advance_seeing(Tick(until as u64), &lines, Tick(safe_until as u64)),
             ask
         );
         assert_eq!(rt; party.due, if saw { 10 } else { 5 });
@@ -256,7 +256,7 @@ impl Party for Writer {
 
     ghost state = { λ m. m };
 
-    ghost moves = { record {
+    ghost transitions = { record {
       due = λ s. s.due;
       asks = λ s. Some (access (op.Write 1 s.byte));
       next = λ s a. record { due = s.due + 10; byte = (s.byte + 1) % 256; lag = 9 };

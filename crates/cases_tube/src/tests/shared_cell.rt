@@ -52,10 +52,10 @@ fn is_admitted(side: Side, horizon: u64, tick: u64) -> bool
 // Does the access at tick `t` if it is admitted, otherwise raises the horizon to `t`.
 fn attempt<R: Wait>(rt: &R, cell: &TubeCell, pass: &mut Pass, t: u64, op: Op) -> Option<u8>
     requires cell { pass.old.cell ≡ cell.now }
-    requires published { (pass.old.ahead ≡ []) × (pass.old.trusted ≡ []) }
+    requires published { (pass.old.ahead ≡ []) × (pass.old.speculative ≡ []) }
     requires operation { MayDo pass.old.side op }
     requires later { (own_horizon pass.old ≤ t) × (t < 2 ^ 30) }
-    ensures same { (pass.new.cell ≡ pass.old.cell) × (pass.new.side ≡ pass.old.side) × (pass.new.ahead ≡ []) × (pass.new.trusted ≡ []) }
+    ensures same { (pass.new.cell ≡ pass.old.cell) × (pass.new.side ≡ pass.old.side) × (pass.new.ahead ≡ []) × (pass.new.speculative ≡ []) }
     ensures done { IfSome result (λ _. own_horizon pass.new ≤ t + 1) }
     ensures not_done { IfNone result (own_horizon pass.new ≤ t) }
 {
@@ -77,13 +77,13 @@ fn turn<R: Wait>(
     op: Op,
 ) -> Option<u8>
     requires cells { (mine.old.cell ≡ cell.now) × (theirs.old.cell ≡ cell.now) }
-    requires published { (mine.old.ahead ≡ []) × (mine.old.trusted ≡ []) × (theirs.old.ahead ≡ []) × (theirs.old.trusted ≡ []) }
+    requires published { (mine.old.ahead ≡ []) × (mine.old.speculative ≡ []) × (theirs.old.ahead ≡ []) × (theirs.old.speculative ≡ []) }
     requires operation { MayDo mine.old.side op }
     requires later { (own_horizon mine.old ≤ t) × (own_horizon theirs.old ≤ t) × (t < 2 ^ 30) }
     ensures mine { (mine.new.cell ≡ mine.old.cell) × (mine.new.side ≡ mine.old.side)
-        × (mine.new.ahead ≡ []) × (mine.new.trusted ≡ []) × (own_horizon mine.new ≤ t + 1) }
+        × (mine.new.ahead ≡ []) × (mine.new.speculative ≡ []) × (own_horizon mine.new ≤ t + 1) }
     ensures theirs { (theirs.new.cell ≡ theirs.old.cell) × (theirs.new.side ≡ theirs.old.side)
-        × (theirs.new.ahead ≡ []) × (theirs.new.trusted ≡ []) × (own_horizon theirs.new ≤ t + 1) }
+        × (theirs.new.ahead ≡ []) × (theirs.new.speculative ≡ []) × (own_horizon theirs.new ≤ t + 1) }
 {
     cell.learn(rt, theirs);
     cell.raise(rt, theirs, Tick(t + 1));
@@ -154,10 +154,10 @@ pub(super) fn op_of(number: u8, byte: u8, is_write: bool) -> Op
 // Does the access at tick `t` as soon as it is admitted.
 fn access<R: Wait>(rt: &R, cell: &TubeCell, pass: &mut Pass, t: u64, op: Op) -> Option<u8>
     requires cell { pass.old.cell ≡ cell.now }
-    requires published { (pass.old.ahead ≡ []) × (pass.old.trusted ≡ []) }
+    requires published { (pass.old.ahead ≡ []) × (pass.old.speculative ≡ []) }
     requires operation { MayDo pass.old.side op }
     requires later { (own_horizon pass.old ≤ t) × (t < 2 ^ 30) }
-    ensures same { (pass.new.cell ≡ pass.old.cell) × (pass.new.side ≡ pass.old.side) × (pass.new.ahead ≡ []) × (pass.new.trusted ≡ []) }
+    ensures same { (pass.new.cell ≡ pass.old.cell) × (pass.new.side ≡ pass.old.side) × (pass.new.ahead ≡ []) × (pass.new.speculative ≡ []) }
     ensures later { own_horizon pass.new ≤ t + 1 }
 {
     let backoff = Backoff::new();
@@ -174,9 +174,9 @@ fn access<R: Wait>(rt: &R, cell: &TubeCell, pass: &mut Pass, t: u64, op: Op) -> 
 /// Raises the own horizon past all ticks, so that the other side can continue.
 pub(super) fn end<R: Wait>(rt: &R, cell: &TubeCell, pass: &mut Pass)
     requires cell { pass.old.cell ≡ cell.now }
-    requires published { (pass.old.ahead ≡ []) × (pass.old.trusted ≡ []) }
+    requires published { (pass.old.ahead ≡ []) × (pass.old.speculative ≡ []) }
     requires later { own_horizon pass.old ≤ 2 ^ 30 }
-    ensures same { (pass.new.cell ≡ pass.old.cell) × (pass.new.side ≡ pass.old.side) × (pass.new.ahead ≡ []) × (pass.new.trusted ≡ []) }
+    ensures same { (pass.new.cell ≡ pass.old.cell) × (pass.new.side ≡ pass.old.side) × (pass.new.ahead ≡ []) × (pass.new.speculative ≡ []) }
 {
     for _ in 0..TRIES {
         if cell.raise(rt, pass, Tick(1 << 30)) {
@@ -194,9 +194,9 @@ fn work<R: Wait>(
     seed: u64,
 ) -> Option<(Pass, Vec<Entry>)>
     requires cell { pass.cell ≡ cell.now }
-    requires published { (pass.ahead ≡ []) × (pass.trusted ≡ []) }
+    requires published { (pass.ahead ≡ []) × (pass.speculative ≡ []) }
     requires later { own_horizon pass ≤ 0 }
-    ensures { IfSome result (λ r. (r.0.cell ≡ pass.cell) × (r.0.side ≡ pass.side) × (r.0.ahead ≡ []) × (r.0.trusted ≡ [])) }
+    ensures { IfSome result (λ r. (r.0.cell ≡ pass.cell) × (r.0.side ≡ pass.side) × (r.0.ahead ≡ []) × (r.0.speculative ≡ [])) }
 {
     let mut pass = pass;
     let mut list = Vec::with_capacity(alloc, 250).ok()?;
@@ -243,15 +243,15 @@ fn pair<R: Threads + Wait + Sync>(
         rt,
         move || -> Option<(Pass, Vec<Entry>)>
             requires cell { host.cell ≡ cell.now }
-            requires published { (host.ahead ≡ []) × (host.trusted ≡ []) }
+            requires published { (host.ahead ≡ []) × (host.speculative ≡ []) }
             requires later { own_horizon host ≤ 0 }
-            ensures { IfSome result (λ r. (r.0.cell ≡ host.cell) × (r.0.side ≡ host.side) × (r.0.ahead ≡ []) × (r.0.trusted ≡ [])) }
+            ensures { IfSome result (λ r. (r.0.cell ≡ host.cell) × (r.0.side ≡ host.side) × (r.0.ahead ≡ []) × (r.0.speculative ≡ [])) }
         { work(rt, alloc, cell, host, seed) },
         move || -> Option<(Pass, Vec<Entry>)>
             requires cell { para.cell ≡ cell.now }
-            requires published { (para.ahead ≡ []) × (para.trusted ≡ []) }
+            requires published { (para.ahead ≡ []) × (para.speculative ≡ []) }
             requires later { own_horizon para ≤ 0 }
-            ensures { IfSome result (λ r. (r.0.cell ≡ para.cell) × (r.0.side ≡ para.side) × (r.0.ahead ≡ []) × (r.0.trusted ≡ [])) }
+            ensures { IfSome result (λ r. (r.0.cell ≡ para.cell) × (r.0.side ≡ para.side) × (r.0.ahead ≡ []) × (r.0.speculative ≡ [])) }
         { work(rt, alloc, cell, para, !seed) },
     );
     let (host, host_list) = host?;

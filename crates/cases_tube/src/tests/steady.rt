@@ -31,17 +31,17 @@ pub struct Steady {
 impl Party for Steady {
     ghost use Rattle.std.specs.Prelude.{ℕ, ◌+◌, ◌-◌, Some, true, refl};
     ghost use Rattle.std.proofs.Common.{arith};
-    ghost use Rattle.tube_party.specs.Moves.{MayAsk};
+    ghost use Rattle.tube_party.specs.Transitions.{MayAsk};
     ghost use Rattle.tube_party.specs.Quiet.{quiet_at_due};
     ghost use Rattle.tube_chip.specs.declared.Op.TheVariants as op;
     ghost use Rattle.tube_chip.specs.Act.{access};
-    ghost use Rattle.cases_tube.specs.Steady.{Station};
+    ghost use Rattle.cases_tube.specs.Steady.{SideAndLog};
 
-    ghost State = { Station };
+    ghost State = { SideAndLog };
 
     ghost state = { λ m. record { due = m.due; lag = m.lag } };
 
-    ghost moves = { record {
+    ghost transitions = { record {
       due = λ s. s.due;
       asks = λ s. Some (access (op.Read 1));
       next = λ s a. record { due = s.due + 6; lag = 5 };

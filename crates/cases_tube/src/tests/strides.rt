@@ -15,7 +15,7 @@ use std::test::Fail;
 use std::thread::{Threads, join};
 use tube_cell::{Pass, TubeCell, Whole};
 use tube_chip::{Lines, Op};
-use tube_party::{Answer, Ask, Desk, Log, Party, Rewinds};
+use tube_party::{Answer, Ask, TubePort, Log, Party, Rewinds};
 
 /// The end of the run.
 const END: u64 = 500;
@@ -76,7 +76,7 @@ impl Poller {
 impl Party for Poller {
     ghost use Rattle.std.specs.Prelude.{ℕ, ◌+◌, ◌-◌, Some, true, false, refl};
     ghost use Rattle.std.proofs.Common.{arith};
-    ghost use Rattle.tube_party.specs.Moves.{MayAsk};
+    ghost use Rattle.tube_party.specs.Transitions.{MayAsk};
     ghost use Rattle.cases_tube.specs.Steady.{Polling};
     ghost use Rattle.cases_tube.specs.Talking.{asks, may_ask, looks_after};
 
@@ -84,7 +84,7 @@ impl Party for Poller {
 
     ghost state = { λ m. record { due = m.due; lag = m.lag; looks = m.looks } };
 
-    ghost moves = { record {
+    ghost transitions = { record {
       due = λ s. s.due;
       asks = λ s. Some (asks s.looks true false 0);
       next = λ s a. record { due = s.due + 2; lag = 1; looks = looks_after s.looks 0 };
@@ -140,30 +140,30 @@ impl Rewinds for Poller {
         })
     }
 
-    fn advance_noting<D: Desk>(
+    fn advance_noting<D: TubePort>(
         &mut self,
         until: Tick,
         lines: &Lines,
-        sure: Tick,
+        safe_until: Tick,
         past: &mut Begun,
-        desk: &mut D,
+        port: &mut D,
     ) -> Option<Ask> {
         past.due = self.due;
         past.lag = self.lag;
         past.looks = self.looks;
-        Some(self.advance_at(until, lines, sure, desk))
+        Some(self.advance_at(until, lines, safe_until, port))
     }
 
-    fn advance_on<D: Desk>(
+    fn advance_on<D: TubePort>(
         &mut self,
         _ask: Ask,
         until: Tick,
         lines: &Lines,
-        sure: Tick,
+        safe_until: Tick,
         _past: &mut Begun,
-        desk: &mut D,
+        port: &mut D,
     ) -> Ask {
-        self.advance_at(until, lines, sure, desk)
+        self.advance_at(until, lines, safe_until, port)
     }
 
     fn rewind(&mut self, past: &mut Begun) {
@@ -177,20 +177,20 @@ impl Rewinds for Poller {
 // the run. Returns the number of its changes.
 fn changes<R: Wait>(rt: &R, cell: &TubeCell, pass: &mut Pass, steps: &Count, seen: &Count) -> u32
     requires cell { pass.old.cell ≡ cell.now }
-    requires published { (pass.old.ahead ≡ []) × (pass.old.trusted ≡ []) }
+    requires published { (pass.old.ahead ≡ []) × (pass.old.speculative ≡ []) }
     requires later { own_horizon pass.old ≤ 2 ^ 30 }
-    ensures same { (pass.new.cell ≡ pass.old.cell) × (pass.new.ahead ≡ []) × (pass.new.trusted ≡ []) }
+    ensures same { (pass.new.cell ≡ pass.old.cell) × (pass.new.ahead ≡ []) × (pass.new.speculative ≡ []) }
     ensures later { own_horizon pass.new ≤ 2 ^ 30 }
 {
     let backoff = Backoff::new();
-    let mut trust = 0;
+    let mut spec_horizon = 0;
     let mut changes = 0u32;
     for _ in 0..TURNS {
         let step = steps.load(Ordering::SeqCst);
         cell.learn(rt, pass);
-        let found = cell.trust(pass).0;
-        if found != trust {
-            trust = found;
+        let found = cell.spec_horizon(pass).0;
+        if found != spec_horizon {
+            spec_horizon = found;
             changes = changes.saturating_add(1);
         }
         seen.store(step, Ordering::SeqCst);
@@ -206,7 +206,7 @@ fn changes<R: Wait>(rt: &R, cell: &TubeCell, pass: &mut Pass, steps: &Count, see
 // changes.
 fn look_on<R: Wait>(rt: &R, cell: &TubeCell, pass: Pass, steps: Count, seen: Count) -> u32
     requires cell { pass.cell ≡ cell.now }
-    requires published { (pass.ahead ≡ []) × (pass.trusted ≡ []) }
+    requires published { (pass.ahead ≡ []) × (pass.speculative ≡ []) }
     requires later { own_horizon pass ≤ 0 }
 {
     let mut pass = pass;
@@ -226,7 +226,7 @@ fn go_ahead<R: Wait>(
 ) -> Result<u64, AllocError>
     requires cell { pass.cell ≡ cell.now }
     requires side { pass.side ≡ Para }
-    requires published { (pass.ahead ≡ []) × (pass.trusted ≡ []) }
+    requires published { (pass.ahead ≡ []) × (pass.speculative ≡ []) }
     requires later { own_horizon pass ≤ 0 }
 {
     let mut past = Begun {
@@ -266,13 +266,13 @@ fn pair<R: Threads + Wait + Sync>(
         rt,
         move || -> u32
             requires cell { host.cell ≡ cell.now }
-            requires published { (host.ahead ≡ []) × (host.trusted ≡ []) }
+            requires published { (host.ahead ≡ []) × (host.speculative ≡ []) }
             requires later { own_horizon host ≤ 0 }
         { look_on(rt, cell, host, steps, seen) },
         move || -> Result<u64, AllocError>
             requires cell { para.cell ≡ cell.now }
             requires side { para.side ≡ Para }
-            requires published { (para.ahead ≡ []) × (para.trusted ≡ []) }
+            requires published { (para.ahead ≡ []) × (para.speculative ≡ []) }
             requires later { own_horizon para ≤ 0 }
         { go_ahead(rt, alloc, cell, para, steps_too, seen_too) },
     );

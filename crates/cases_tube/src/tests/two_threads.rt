@@ -1,6 +1,6 @@
 //! Two parties in two threads, compared with the same parties on one thread.
 ghost use Rattle.std.specs.Prelude.{◌≡◌, ◌≤◌};
-ghost use Rattle.tube_party.specs.Moves.{GoesHearing, shown_lines};
+ghost use Rattle.tube_party.specs.Transitions.{GoesHearing, shown_lines};
 ghost use Rattle.cases_tube.specs.Talking.{heard_lines};
 
 use super::steady::{Flag, flag};
@@ -13,7 +13,7 @@ use std::sync::Arc;
 use std::sync::atomic::Ordering;
 use std::test::Fail;
 use tube_chip::{Lines, Op};
-use tube_party::{Answer, Ask, Desk, Done, MOST, Party, Rewinds, solo};
+use tube_party::{Answer, Ask, TubePort, Done, MOST, Party, Rewinds, solo};
 
 /// A talker's next step: a look, or an access. All answers before decide its register.
 #[derive(Clone, Copy, Debug, Drop, PartialEq, Eq)]
@@ -60,7 +60,7 @@ fn heard(lines: Lines) -> u8
 impl Party for Talker {
     ghost use Rattle.std.specs.Prelude.{◌+◌, ◌-◌, ◌%◌, not, true, false, Some, refl, if◌then◌else◌, ◌==◌};
     ghost use Rattle.std.proofs.Common.{arith};
-    ghost use Rattle.tube_party.specs.Moves.{MayAsk};
+    ghost use Rattle.tube_party.specs.Transitions.{MayAsk};
     ghost use Rattle.cases_tube.specs.declared.tests.two_threads.Talk.{Talk};
     ghost use Rattle.cases_tube.specs.Talking.{asks, may_ask, heard_after, looks_after, writes_after};
 
@@ -68,7 +68,7 @@ impl Party for Talker {
 
     ghost state = { λ m. m.talk };
 
-    ghost moves = { record {
+    ghost transitions = { record {
       due = λ s. s.due;
       asks = λ s. Some (asks s.looks s.polls s.writes s.heard);
       next = λ s a. record {
@@ -145,19 +145,19 @@ impl Party for Talker {
 
 // Advances with the port's answers, and with looks that are safe and see these lines, both while
 // they are below tick `full`.
-fn go_below<M: Party, D: Desk>(
+fn go_below<M: Party, D: TubePort>(
     machine: &mut M,
     until: Tick,
     lines: &Lines,
-    sure: Tick,
+    safe_until: Tick,
     full: Tick,
-    desk: &mut D,
+    port: &mut D,
 ) -> Ask
     requires { until.0 ≤ MOST }
-    ensures { GoesHearing M.moves D.answers until.0 (shown_lines lines.now sure.0)
-        (M.state machine.old) (D.state desk.old) result (M.state machine.new) (D.state desk.new) }
+    ensures { GoesHearing M.transitions D.answers until.0 (shown_lines lines.now safe_until.0)
+        (M.state machine.old) (D.state port.old) result (M.state machine.new) (D.state port.new) }
 {
-    let near = Tick(sure.0.min(full.0));
+    let near = Tick(safe_until.0.min(full.0));
     loop {
         let ask = machine.advance_seeing(until, lines, near);
         let Ask::Access(tick, op) = ask else {
@@ -166,7 +166,7 @@ fn go_below<M: Party, D: Desk>(
         if full <= tick {
             return ask;
         }
-        let Some(byte) = desk.ask(tick, op) else {
+        let Some(byte) = port.ask(tick, op) else {
             return ask;
         };
         machine.answer(Answer::Byte(byte));
@@ -186,32 +186,32 @@ impl Rewinds for Talker {
         })
     }
 
-    fn advance_noting<D: Desk>(
+    fn advance_noting<D: TubePort>(
         &mut self,
         until: Tick,
         lines: &Lines,
-        sure: Tick,
+        safe_until: Tick,
         past: &mut Notes,
-        desk: &mut D,
+        port: &mut D,
     ) -> Option<Ask> {
         past.talk = self.talk;
         past.full = match self.room {
             Some(room) => self.talk.due.saturating_add(room),
             None => u64::MAX,
         };
-        Some(go_below(self, until, lines, sure, Tick(past.full), desk))
+        Some(go_below(self, until, lines, safe_until, Tick(past.full), port))
     }
 
-    fn advance_on<D: Desk>(
+    fn advance_on<D: TubePort>(
         &mut self,
         _ask: Ask,
         until: Tick,
         lines: &Lines,
-        sure: Tick,
+        safe_until: Tick,
         past: &mut Notes,
-        desk: &mut D,
+        port: &mut D,
     ) -> Ask {
-        go_below(self, until, lines, sure, Tick(past.full), desk)
+        go_below(self, until, lines, safe_until, Tick(past.full), port)
     }
 
     fn rewind(&mut self, past: &mut Notes) {

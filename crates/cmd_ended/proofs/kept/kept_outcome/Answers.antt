@@ -2,9 +2,9 @@ use Rattle.std.proofs.Common.{◌∙◌, ap, option_map}
 use Rattle.tube_party.specs.Reference.{World, reference}
 use Rattle.host_mach.specs.State.{HostState}
 use Rattle.host_mach.specs.View.{host_seen, host_stepped}
-use Rattle.host_mach.specs.Step.{host_moves}
+use Rattle.host_mach.specs.Step.{host_transitions}
 use Rattle.para_mach.specs.State.{ParaState}
-use Rattle.para_mach.specs.Step.{para_moves}
+use Rattle.para_mach.specs.Step.{para_transitions}
 use Rattle.cmd_outcome.specs.View.{items, kept_seen, names_seen, verdict_of}
 use Rattle.cmd_outcome.specs.Verdicts.{machine_verdict}
 use Rattle.save_state.specs.Saved.{session}
@@ -15,7 +15,7 @@ use Rattle.cmd_ended.proofs.kept.kept_outcome.Goals as goal
 
 pub ended-requires-clause-kept : goal.ended-requires-clause-kept
 ended-requires-clause-kept g c =
-    let w : World HostState ParaState = reference host_moves para_moves c.requires.run.0 c.requires.run.1 c.args.ticks in (
+    let w : World HostState ParaState = reference host_transitions para_transitions c.requires.run.0 c.requires.run.1 c.args.ticks in (
       w.list,
       record {
         most = c.requires.ticks;
@@ -28,10 +28,10 @@ ended-requires-clause-kept g c =
 pub returns : goal.returns
 returns g c =
     for_each c.machine_outcome.result (verdict_of g.D.BusDevice.plug) _ (λ s t. IsRun g.D.BusDevice.plug s t c.args.ticks c.args.keep c.args.done)
-    (λ s t. kept_verdict c.args.clock (option_map session c.args.begun) c.args.ticks c.args.keep (names_seen c.args.names) (reference host_moves para_moves s t c.args.ticks))
+    (λ s t. kept_verdict c.args.clock (option_map session c.args.begun) c.args.ticks c.args.keep (names_seen c.args.names) (reference host_transitions para_transitions s t c.args.ticks))
     c.machine_outcome.ensures
     (λ s t run.
-    let w : World HostState ParaState = reference host_moves para_moves s t c.args.ticks in
+    let w : World HostState ParaState = reference host_transitions para_transitions s t c.args.ticks in
     let kept : AreKept c.args.ticks w.list c.args.keep c.args.done = record {
       most = c.requires.ticks;
       trace = c.reference_is_trace.ensures s t c.args.ticks;

@@ -14,7 +14,7 @@ returns-in-Err-Differs g c =
     subst (λ (v : Verdict Ending). IfOk c.differs_outcome.result (λ outcome. verdict_of g.D.BusDevice.plug outcome ≡ v))
     (differs_is (λ (l : ListingState). listed_verdict c.args.out.now l)
     (replay_listing g.M.Seen.steps g.M.Seen.sights c.args.part c.args.side c.args.trace.now c.args.ticks c.args.choice (g.M.Seen.inside c.args.machine))
-    (replay_of g.M.Party.moves c.args.side c.args.trace.now c.args.ticks (g.M.Party.state c.args.machine)).place
+    (replay_of g.M.Party.transitions c.args.side c.args.trace.now c.args.ticks (g.M.Party.state c.args.machine)).place
     c.in-Err-Differs.line c.in-Err-Differs.doing _ (sym c.first_wrong.ensures.value ∙ c.in_default.is)
     ((c.list.ensures.differs c.in-Err-Differs.line c.in-Err-Differs.doing).0 (c.in-Err-Differs.is ∙ ap Err c.in-Err-Differs.field-0-is)))
     c.differs_outcome.ensures

@@ -6,4 +6,4 @@ use Rattle.follow.proofs.law.host_listing_is_reference.Goals as goal
 pub returns : goal.returns
 returns g c = λ part choice s t n.
     let set = order part choice in
-    host_replayed g.H.Seen.steps g.H.Seen.sights g.P.Party.moves set s t n (c.reference_is_replayed.ensures (watched_of s set none_kept) t n).0
+    host_replayed g.H.Seen.steps g.H.Seen.sights g.P.Party.transitions set s t n (c.reference_is_replayed.ensures (watched_of s set none_kept) t n).0

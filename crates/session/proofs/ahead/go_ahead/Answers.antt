@@ -2,9 +2,9 @@ use Rattle.std.proofs.Common.{arith, refl, ◌∙◌, ap, subst}
 use Rattle.std.proofs.lemmas.List.{take_all}
 use Rattle.tube_party.specs.Logs.{none_noted}
 use Rattle.tube_side.specs.CodeSteps.{all_events}
-use Rattle.session.specs.CodeStation.{station}
-use Rattle.session.specs.CodeWay.{outset, IsSettled}
-use Rattle.session.proofs.OnWay.{if_none, reached_at, went, cut_back}
+use Rattle.session.specs.CodeSideAndLog.{side_and_log}
+use Rattle.session.specs.CodeSpecRun.{spec_start, IsSettled}
+use Rattle.session.proofs.InSpeculation.{if_none, reached_at, went, cut_back}
 use Rattle.session.proofs.ahead.go_ahead.Goals as goal
 
 pub returns-in_err-first-clause-none : goal.returns-in_err-first-clause-none
@@ -14,7 +14,7 @@ returns-in_err-first-clause-none g c =
     let none = c.in_err-first.ensures.none in
     if_none c.from_residual.result _ (record {
       waited = record {
-        same = record { cell = ap (λ x. x.cell) pass; side = ap (λ x. x.side) pass; trusted = ap (λ x. x.trusted) pass ∙ c.requires.none_trusted };
+        same = record { cell = ap (λ x. x.cell) pass; side = ap (λ x. x.side) pass; speculative = ap (λ x. x.speculative) pass ∙ c.requires.none_speculative };
         events = ap all_events pass;
       };
       ahead = ap (λ x. x.ahead) pass;
@@ -49,15 +49,15 @@ returns-clause-some g c =
     let t = c.reached-t-2.result.0 in
     let some = c.in_ok-first.ensures.some in
     let gone = c.strides_on-ask.ensures.further in
-    let first = rw c.set_out.ensures.pass at (c.tell_first.ensures.trusted c.if-not-tell_first.false) in
+    let first = rw c.set_out.ensures.pass at (c.tell_first.ensures.speculative c.if-not-tell_first.false) in
     let told = c.strides_on-ask.ensures.told p c.reached-t.result.0 t c.reached-t.ensures c.reached-t-2.ensures first in
-    let passed = rw c.requires.way at (c.wait_passed.ensures.passed p told) in
+    let passed = rw c.requires.speculation at (c.wait_passed.ensures.passed p told) in
     let len = c.requires.kept.0 in
     let was = take_all at.log.len c.args.half.now.log.list.items (omega arith) in
     let list = c.roll_back.ensures.log.kept ∙ gone.log.kept ∙ some.2.kept ∙ was in
     let keep = c.roll_back.ensures.log.keep_is ∙ gone.log.keep_is ∙ some.2.keep_is in
-    let back = subst (λ s. IsSettled g.M.Party.moves c.args.n.0 (outset s at) c.trust-trust.result.0 c.roll_back.result (station state c.roll_back.new.half))
+    let back = subst (λ s. IsSettled g.M.Party.transitions c.args.n.0 (spec_start s at) c.spec_horizon-spec_horizon.result.0 c.roll_back.result (side_and_log state c.roll_back.new.half))
     (gone.from_is ∙ some.1) c.roll_back.ensures.settled in
-    let reached = reached_at g.met.M.Party.lawful c.args.n.0 (outset (state c.args.half.now.machine) at) _ _ _ t gone.way.asked c.reached-t-2.ensures in
-    (went g.M.Party.moves g.met.M.Party.lawful (station state c.args.half.now) c.requires.side refl list keep c.requires.kept.1 passed (omega arith) c.roll_back.ensures.pass
-    (rw c.trust-trust.ensures at back)).0
+    let reached = reached_at g.met.M.Party.lawful c.args.n.0 (spec_start (state c.args.half.now.machine) at) _ _ _ t gone.speculation.asked c.reached-t-2.ensures in
+    (went g.M.Party.transitions g.met.M.Party.lawful (side_and_log state c.args.half.now) c.requires.side refl list keep c.requires.kept.1 passed (omega arith) c.roll_back.ensures.pass
+    (rw c.spec_horizon-spec_horizon.ensures at back)).0

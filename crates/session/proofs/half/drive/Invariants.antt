@@ -1,12 +1,12 @@
 use Rattle.tube_party.specs.Turn.{ticks_left}
 use Rattle.tube_side.specs.CodeSteps.{IsPaid}
-use Rattle.session.specs.CodeStation.{station}
-use Rattle.session.proofs.UnderWay.{IsUnderWay}
+use Rattle.session.specs.CodeSideAndLog.{side_and_log}
+use Rattle.session.proofs.InProgress.{IsInProgress}
 use Rattle.session.proofs.half.drive.Given as goal
 
 abbrev pub invariant-loop-pause : goal.invariant-loop-pause
 invariant-loop-pause g l = record {
-  way : IsUnderWay g.M.Party.moves l.n.0 l.fn.half.log.keep (station g.M.Party.state l.fn.half).at l.ask (station g.M.Party.state l.half);
+  speculation : IsInProgress g.M.Party.transitions l.n.0 l.fn.half.log.keep (side_and_log g.M.Party.state l.fn.half).at l.ask (side_and_log g.M.Party.state l.half);
   paid : IsPaid l.fn.half.pass l.half.pass;
 }
 

@@ -1,5 +1,5 @@
 use Rattle.std.proofs.Common.{◌∙◌}
-use Rattle.session.proofs.UnderWay.{quiet_is}
+use Rattle.session.proofs.InProgress.{quiet_is}
 use Rattle.session.proofs.half.next_tick.Goals as goal
 
 pub returns : goal.returns

@@ -12,5 +12,5 @@ returns-in-Some-pair-clause-played g c =
     let para_keep = ap (λ l. l.keep) b.log ∙ c.in-Some.ensures.logs.1.keep_is in
     c.joined.ensures (g.H.Party.state c.args.host) (g.P.Party.state c.args.para) c.args.n.0 c.args.keep c.job-host_job.result.half.pass c.job-para_side.result.half.pass
     (ap (λ p. p.side) host_pass, ap (λ p. p.events) host_pass) (ap (λ p. p.side) para_pass, ap (λ p. p.events) para_pass)
-    (worked_as g.H.Party.moves _ (ap (λ t. t.0) a.end) host_keep (ap g.H.Party.state a.machine) c.in-Some-pair.ensures.first)
-    (worked_as g.P.Party.moves _ (ap (λ t. t.0) b.end) para_keep (ap g.P.Party.state b.machine) c.in-Some-pair.ensures.second)
+    (worked_as g.H.Party.transitions _ (ap (λ t. t.0) a.end) host_keep (ap g.H.Party.state a.machine) c.in-Some-pair.ensures.first)
+    (worked_as g.P.Party.transitions _ (ap (λ t. t.0) b.end) para_keep (ap g.P.Party.state b.machine) c.in-Some-pair.ensures.second)

@@ -8,7 +8,7 @@ pub swap-requires-clause-rule : goal.swap-requires-clause-rule
 swap-requires-clause-rule g c =
     let v = cell_view c.args.seat.now in
     let next = c.next_words-next.ensures.words
-    ∙ ap (λ t. words_of (known_with c.args.side c.args.chip.now c.args.word t c.args.trust)) (c.word_of.ensures v.known c.requires.words)
+    ∙ ap (λ t. words_of (known_with c.args.side c.args.chip.now c.args.word t c.args.spec_horizon)) (c.word_of.ensures v.known c.requires.words)
     ∙ ap words_of (sym c.requires.next) in
     publishes_as c.packing_is_one_to_one.ensures _
-    c.requires.may c.next_words-next.ensures.bounds c.requires.trust c.requires.next c.requires.words next
+    c.requires.may c.next_words-next.ensures.bounds c.requires.spec_horizon c.requires.next c.requires.words next

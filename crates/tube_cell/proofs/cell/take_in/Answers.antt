@@ -15,7 +15,7 @@ unite-requires-clause-cell c =
 pub unite-requires-clause-rule : goal.unite-requires-clause-rule
 unite-requires-clause-rule c =
     let given = c.part-fresh.ensures.given in
-    merges _ _ _ _ c.requires.host_role (ap (λ v. v.role) given.1 ∙ c.requires.para_role) (ap (λ v. v.trusted) given.1 ∙ c.requires.none_trusted)
+    merges _ _ _ _ c.requires.host_role (ap (λ v. v.role) given.1 ∙ c.requires.para_role) (ap (λ v. v.speculative) given.1 ∙ c.requires.none_speculative)
 
 pub returns-clause-joined : goal.returns-clause-joined
 returns-clause-joined c = c.unite.ensures.1 ∙ ap (λ w. joined_view (cell_view c.args.host.now) w) c.part-fresh.ensures.given.1

@@ -6,7 +6,7 @@ use Rattle.cpu_alu.specs.Flags.{has_flag}
 use Rattle.cpu_core.specs.declared.Sequence.TheVariants.{Instruction}
 use Rattle.cpu_core.specs.Sequences.{fresh}
 use Rattle.tube_machine.specs.Step.{At, at_of}
-use Rattle.tube_machine.proofs.UnderWay.{at-same, begins, caught-up}
+use Rattle.tube_machine.proofs.InProgress.{at-same, begins, caught-up}
 use Rattle.tube_machine.proofs.WholeSteps.{begins-there, whole-on}
 use Rattle.tube_machine.proofs.ToLooks.{passes_more, whole-looks}
 use Rattle.tube_machine.proofs.pass.pass_whole.Goals as goal
@@ -21,7 +21,7 @@ loop-due-init g c =
     record {
       way = rw there (caught-up part g.B.TubeBus.wired g.B.TubeBus.stays_plain {s = start} c.cycle-cycle.ensures.value
           (begins part Instruction c.at_start-first.result) c.requires.before c.requires.free (λ is. is) (0, refl));
-      passes = λ until sure in_run early. (0, at-same there refl refl);
+      passes = λ until safe_until in_run early. (0, at-same there refl refl);
       before = c.requires.before;
       rests = c.requires.rests;
       held = ap (λ (r : Regs). has_flag r.p INTERRUPT) c.at_start-first.ensures;
@@ -54,8 +54,8 @@ loop-due-preserved g c =
     so_far.way done so_far.before in_bound in_bound in_bound still so_far.rests so_far.held c.requires.plain in
     record {
       way = rw c.close.ensures.closed went.0;
-      passes = λ until sure in_run early.
-          let passed = so_far.passes until sure in_run early in
+      passes = λ until safe_until in_run early.
+          let passed = so_far.passes until safe_until in_run early in
           let looks = whole-looks _ bus.wired bus.stays_plain _ until _ _ _ bus.memory bus.stays_at_rest _ _ _ _ _ _ _ _ some
           so_far.way.cycle (so_far.way.kept c.requires.plain) so_far.way.free done so_far.before in_bound
           (omega (arith, in_bound, in_run)) (omega (arith, in_bound, early)) still so_far.rests so_far.held in (
@@ -64,7 +64,7 @@ loop-due-preserved g c =
                 (refl, c.whole_if_over-cycles.ensures.over some) looks),
           );
       before =
-          let closed = ap bus.wiring.closed c.close.ensures.closed ∙ bus.wired.closed there top in
+          let closed = ap bus.bus_model.closed c.close.ensures.closed ∙ bus.wired.closed there top in
           omega (arith, closed, rw (← so_far.way.cycle) at (c.whole_if_over-cycles.ensures.closed some));
       rests = rw c.close.ensures.closed went.1;
       held = done.masks ∙ so_far.held;
@@ -74,8 +74,8 @@ loop-due-preserved g c =
 
 pub returns-clause-passes : goal.returns-clause-passes
 returns-clause-passes g c =
-    λ until sure in_run early.
-    let so_far = c.loop-due.invariant.passes until sure in_run early in (
+    λ until safe_until in_run early.
+    let so_far = c.loop-due.invariant.passes until safe_until in_run early in (
       so_far.0,
       rw c.set_out.ensures (elim c.loop-due-test.branch [
         | else-loop-due-test v ↦ rw (v.regs-is, v.bus-is) so_far.1

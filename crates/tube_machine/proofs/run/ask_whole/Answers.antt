@@ -52,7 +52,7 @@ pub returns-clause-served : goal.returns-clause-served
 returns-clause-served g c =
     let part = g.P.Processor.part in
     let bus = g.B.TubeBus in
-    let w = g.B.TubeBus.wiring in
+    let w = g.B.TubeBus.bus_model in
     let m = g.B.TubeBus.state c.args.bus.now in
     let n : ℕ = c.cycle-cycle.result in
     let o = c.last_access-last.result in
@@ -79,15 +79,15 @@ returns-clause-served g c =
           let sum : q * (1 + j) ≡ q + q * j = mul-add q 1 j ∙ ap (λ (x : ℕ). x + q * j) (mul-one q) in
           let due : c.if-back-gt0.due ≡ from + q + q * j = omega (arith, sum, v.due-is, ap (λ (x : ℕ). x * (1 + j)) period) in
           let limit : from + q + q * j ≤ end = omega (arith, due, fits-more _ _ v.due-is v.again-more.ensures.few v.times_more.ensures) in
-          let once = round part bus.wired bus.memory bus.stays_at_rest bus.stays_plain g.D.Desk.answers end byte
+          let once = round part bus.wired bus.memory bus.stays_at_rest bus.stays_plain g.D.TubePort.answers end byte
           c.cycle-cycle.ensures.value c.requires.plain c.requires.free outside passing some rest.1 refl
           k v.if-back-gt0.true back rest.0 from 0 _ _ (omega arith) c.requires.before (omega (arith, limit)) c.in-Some-ask.ensures in
-          let others = rounds part bus.wired bus.memory bus.stays_at_rest bus.stays_plain g.D.Desk.answers end byte
+          let others = rounds part bus.wired bus.memory bus.stays_at_rest bus.stays_plain g.D.TubePort.answers end byte
           c.cycle-cycle.ensures.value c.requires.plain c.requires.free outside passing some rest.1 refl
           k v.if-back-gt0.true back rest.0 j (from + q) (from + n * o.cycles) _ _ (omega arith) (omega (arith, c.requires.before)) limit again in
-          rw (v.desk-is, v.at-is, due) (rw zero at (served-then once others))
+          rw (v.port-is, v.at-is, due) (rw zero at (served-then once others))
       | else-back-gt0 v ↦
-          rw (v.desk-is, v.at-is, regs, v.due-is)
-          (rw zero at (asked-whole part bus.wired bus.memory bus.stays_at_rest bus.stays_plain g.D.Desk.answers end byte c.cycle-cycle.ensures.value c.requires.plain
+          rw (v.port-is, v.at-is, regs, v.due-is)
+          (rw zero at (asked-whole part bus.wired bus.memory bus.stays_at_rest bus.stays_plain g.D.TubePort.answers end byte c.cycle-cycle.ensures.value c.requires.plain
           c.requires.free outside passing some rest.1 refl from 0 _ _ (omega arith) c.requires.before fits (omega (arith, fits, rest.0)) c.in-Some-ask.ensures))
     ])

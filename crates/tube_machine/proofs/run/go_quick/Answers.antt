@@ -1,9 +1,9 @@
 use Rattle.std.proofs.Common.{rules, ◌≡◌, ◌+◌, ◌-◌, ◌∙◌, ℕ, None, IsSome, ap, refl, arith}
 use Rattle.cpu_core.specs.Sequences.{next_cycle}
-use Rattle.tube_party.specs.Moves.{shown_lines}
-use Rattle.tube_machine.specs.Step.{At, at_of, moves_of}
+use Rattle.tube_party.specs.Transitions.{shown_lines}
+use Rattle.tube_machine.specs.Step.{At, at_of, transitions_of}
 use Rattle.tube_machine.specs.Exchange.{owed_at}
-use Rattle.tube_machine.proofs.UnderWay.{after-look, at-look, caught-up, quick-more, quick-last, quick-past, quick-plain}
+use Rattle.tube_machine.proofs.InProgress.{after-look, at-look, caught-up, quick-more, quick-last, quick-past, quick-plain}
 use Rattle.tube_machine.proofs.Ways.{left-off, not-yet, then-came, served-on}
 use Rattle.tube_machine.proofs.Spends.{none-spent, spent-more, spent-whole, spent-on, seen-more, ready-look, ready-on}
 use Rattle.tube_machine.proofs.run.go_quick.Goals as goal
@@ -21,19 +21,19 @@ loop-due-init g c =
           let over : next_cycle part core ≡ None = search rules in
           let bound = c.bound_of-bound.ensures in
           let plain = bound.plain (omega (arith, v.if-due-bound.false)) in
-          let way = at-look part wired stays {far = c.break_tick-next_break.result} {until = c.args.until} {sure = c.args.sure} {start = start}
+          let way = at-look part wired stays {far = c.break_tick-next_break.result} {until = c.args.until} {safe_until = c.args.safe_until} {start = start}
           c.cycle-cycle.ensures.value over c.requires.before c.break_tick-next_break.ensures.none plain
-          (omega (arith, v.if-due-bound.false, bound.until)) (omega (arith, v.if-due-bound.false, bound.sure)) (omega (arith, v.if-due-bound.false, bound.free)) v.see.ensures.seen in
-          rw (v.cpu-is, v.bus-is, v.notes-is, v.desk-is, v.due-is) (record {
-            at = served-on wired stays (not-yet wired stays way) v.go_asking-due.ensures.served bound.free bound.until bound.sure;
+          (omega (arith, v.if-due-bound.false, bound.until)) (omega (arith, v.if-due-bound.false, bound.safe_until)) (omega (arith, v.if-due-bound.false, bound.free)) v.see.ensures.seen in
+          rw (v.cpu-is, v.bus-is, v.notes-is, v.port-is, v.due-is) (record {
+            at = served-on wired stays (not-yet wired stays way) v.go_asking-due.ensures.served bound.free bound.until bound.safe_until;
             noted = v.go_asking-due.ensures.noted ∙ v.see.ensures.kept c.args.notes.now;
             spent = rw (ready-look part core c.args.from over) (spent-on
-                (spent-whole 0 none-spent (omega arith) (omega arith) (omega (arith, v.if-due-bound.false, bound.sure)))
-                (rw (← way.cycle) at (v.go_asking-due.ensures.spends c.args.sure bound.sure)));
+                (spent-whole 0 none-spent (omega arith) (omega arith) (omega (arith, v.if-due-bound.false, bound.safe_until)))
+                (rw (← way.cycle) at (v.go_asking-due.ensures.spends c.args.safe_until bound.safe_until)));
           })
       | else-last v ↦
           let on : IsSome (next_cycle part core) = search rules in
-          rw (v.cpu-is, v.bus-is, v.notes-is, v.desk-is, v.due-is) (record {
+          rw (v.cpu-is, v.bus-is, v.notes-is, v.port-is, v.due-is) (record {
             at = not-yet wired stays (caught-up part wired stays {s = start} c.cycle-cycle.ensures.value on c.requires.before c.break_tick-next_break.ensures.none (λ is. is) (0, refl));
             noted = refl;
             spent = rw (ready-on part core c.args.from on) none-spent;
@@ -64,8 +64,8 @@ returns-then-due-bound-2-clause-talks g c =
     let over : next_cycle g.P.Processor.part (g.P.Processor.core c.give.new.self) ≡ None = search rules in
     let tick : c.loop-due.due + n - 1 ≡ c.loop-due.due + (n - 1) = omega (arith, c.cycle-cycle.ensures.some) in
     let closed : c.loop-due.due + n - (n - 1) ≡ c.loop-due.due + 1 = omega (arith, c.cycle-cycle.ensures.some) in
-    rw (c.close.ensures.closed ∙ ap (g.B.TubeBus.wiring.close b) closed)
-    (then-came (moves_of g.P.Processor.part g.B.TubeBus.wiring) (shown_lines c.args.lines.now c.args.sure) c.loop-due.invariant.at.talks
+    rw (c.close.ensures.closed ∙ ap (g.B.TubeBus.bus_model.close b) closed)
+    (then-came (transitions_of g.P.Processor.part g.B.TubeBus.bus_model) (shown_lines c.args.lines.now c.args.safe_until) c.loop-due.invariant.at.talks
     (quick-last g.P.Processor.part g.B.TubeBus.wired g.B.TubeBus.stays_plain c.loop-due.invariant.at.way b c.want.ensures c.in-Some.ensures.done
     (omega (arith, c.loop-due-test.true, c.min-end.ensures))
     (omega (arith, c.loop-due-test.true, c.min-end.ensures, c.saturating_sub.ensures, c.requires.room, c.cycle-cycle.ensures.bound)) c.give.ensures over tick))
@@ -85,7 +85,7 @@ go_asking-due-requires-then-last-2 g c =
     let way = quick-past g.P.Processor.part g.B.TubeBus.wired g.B.TubeBus.stays_plain c.loop-due.invariant.at.way (g.B.TubeBus.state c.quick.new.self) c.want.ensures c.in-Some.ensures.done
     (omega (arith, c.loop-due-test.true, c.min-end.ensures))
     (omega (arith, c.loop-due-test.true, c.min-end.ensures, c.saturating_sub.ensures, c.requires.room, c.cycle-cycle.ensures.bound)) c.give.ensures c.in-Some.ensures.closed over first
-    (omega (arith, c.if-due-bound-2.false, bound.until, c.cycle-cycle.ensures.some)) (omega (arith, c.if-due-bound-2.false, bound.sure, c.cycle-cycle.ensures.some)) tick
+    (omega (arith, c.if-due-bound-2.false, bound.until, c.cycle-cycle.ensures.some)) (omega (arith, c.if-due-bound-2.false, bound.safe_until, c.cycle-cycle.ensures.some)) tick
     c.see-then-last-2.ensures.seen in
     record {
       room = omega (arith, bound.until, c.requires.room);
@@ -111,14 +111,14 @@ loop-due-preserved-then-last-2 g c =
     let way = rw there at (quick-past part wired stays so_far.at.way (g.B.TubeBus.state c.quick.new.self) c.want.ensures c.in-Some.ensures.done
     (omega (arith, c.loop-due-test.true, c.min-end.ensures))
     (omega (arith, c.loop-due-test.true, c.min-end.ensures, c.saturating_sub.ensures, c.requires.room, c.cycle-cycle.ensures.bound)) c.give.ensures c.in-Some.ensures.closed over first
-    (omega (arith, c.if-due-bound-2.false, bound.until, c.cycle-cycle.ensures.some)) (omega (arith, c.if-due-bound-2.false, bound.sure, c.cycle-cycle.ensures.some)) tick
+    (omega (arith, c.if-due-bound-2.false, bound.until, c.cycle-cycle.ensures.some)) (omega (arith, c.if-due-bound-2.false, bound.safe_until, c.cycle-cycle.ensures.some)) tick
     c.see-then-last-2.ensures.seen) in
     record {
       at = served-on wired stays
-          (record { mid = so_far.at.mid; talks = so_far.at.talks; first = so_far.at.first; way = way }) c.go_asking-due-then-last-2.ensures.served bound.free bound.until bound.sure;
+          (record { mid = so_far.at.mid; talks = so_far.at.talks; first = so_far.at.first; way = way }) c.go_asking-due-then-last-2.ensures.served bound.free bound.until bound.safe_until;
       noted = c.go_asking-due-then-last-2.ensures.noted ∙ c.see-then-last-2.ensures.kept c.quick.new.notes ∙ c.quick.ensures.noted ∙ so_far.noted;
-      spent = spent-on (spent-whole 1 so_far.spent c.quick.ensures.room (omega arith) (omega (arith, c.if-due-bound-2.false, bound.sure)))
-          (rw (← way.cycle) at (c.go_asking-due-then-last-2.ensures.spends c.args.sure bound.sure));
+      spent = spent-on (spent-whole 1 so_far.spent c.quick.ensures.room (omega arith) (omega (arith, c.if-due-bound-2.false, bound.safe_until)))
+          (rw (← way.cycle) at (c.go_asking-due-then-last-2.ensures.spends c.args.safe_until bound.safe_until));
     }
 
 pub loop-due-preserved : goal.loop-due-preserved
@@ -147,7 +147,7 @@ returns-then-due-until-clause-spends g c = rw (← c.cycle-cycle.ensures.value) 
 
 pub returns-in-None-clause-talks : goal.returns-in-None-clause-talks
 returns-in-None-clause-talks g c =
-    let w = g.B.TubeBus.wiring in
+    let w = g.B.TubeBus.bus_model in
     left-off g.B.TubeBus.wired g.B.TubeBus.stays_plain c.loop-due.invariant.at
     (c.catch_up.ensures.closed ∙ ap (λ x. w.close x (owed_at c.cycle-cycle.result c.loop-due.caught_up c.loop-due.due (w.closed x))) c.in-None.ensures.done)
 

@@ -9,12 +9,12 @@ use Rattle.tube_machine.proofs.run.go_quick.Given as goal
 -- the steps until here asked nothing or saw the lines, and the next one is an access
 abbrev pub invariant-loop-due : goal.invariant-loop-due
 invariant-loop-due g l = record {
-  at : IsTalking g.P.Processor.part g.B.TubeBus.wiring g.B.TubeBus.plain g.D.Desk.answers l.next_break l.cycle l.until l.lines l.sure
-      (at_of (g.P.Processor.core l.fn.cpu) (g.B.TubeBus.state l.fn.bus) l.from) (g.D.Desk.state l.fn.desk)
-      (at_of (g.P.Processor.core l.cpu) (g.B.TubeBus.state l.bus) l.due) (g.D.Desk.state l.desk)
+  at : IsTalking g.P.Processor.part g.B.TubeBus.bus_model g.B.TubeBus.plain g.D.TubePort.answers l.next_break l.cycle l.until l.lines l.safe_until
+      (at_of (g.P.Processor.core l.fn.cpu) (g.B.TubeBus.state l.fn.bus) l.from) (g.D.TubePort.state l.fn.port)
+      (at_of (g.P.Processor.core l.cpu) (g.B.TubeBus.state l.bus) l.due) (g.D.TubePort.state l.port)
       l.caught_up;
   noted : g.B.TubeBus.before l.notes l.bus ≡ g.B.TubeBus.before l.fn.notes l.fn.bus;
-  spent : HasSpent (g.P.Processor.part ≡ Cmos) l.cycle l.sure (spent (ready g.P.Processor.part (g.P.Processor.core l.fn.cpu) l.from)
+  spent : HasSpent (g.P.Processor.part ≡ Cmos) l.cycle l.safe_until (spent (ready g.P.Processor.part (g.P.Processor.core l.fn.cpu) l.from)
       (g.B.TubeBus.room l.fn.notes) (length (g.P.Processor.core l.fn.cpu).seen))
       (spent l.due (g.B.TubeBus.room l.notes) (length (g.P.Processor.core l.cpu).seen));
 }

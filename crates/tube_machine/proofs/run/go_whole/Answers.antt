@@ -4,7 +4,7 @@ use Rattle.cpu_core.specs.declared.Sequence.TheVariants.{Instruction}
 use Rattle.cpu_core.specs.Sequences.{fresh}
 use Rattle.tube_machine.specs.Step.{At, at_of}
 use Rattle.tube_machine.specs.Exchange.{behind}
-use Rattle.tube_machine.proofs.UnderWay.{IsFree, begins, caught-up, behind-none, behind-some, behind-most}
+use Rattle.tube_machine.proofs.InProgress.{IsFree, begins, caught-up, behind-none, behind-some, behind-most}
 use Rattle.tube_machine.proofs.WholeSteps.{whole-behind, onward}
 use Rattle.tube_machine.proofs.Spends.{none-spent, spent-whole}
 use Rattle.tube_machine.proofs.run.go_whole.Goals as goal
@@ -13,12 +13,12 @@ use Rattle.tube_machine.proofs.run.go_whole.Goals.{else-loop-due-test, then-loop
 pub loop-due-init : goal.loop-due-init
 loop-due-init g c =
     let part = g.P.Processor.part in
-    let w = g.B.TubeBus.wiring in
+    let w = g.B.TubeBus.bus_model in
     let m = g.B.TubeBus.state c.args.bus.now in
     let start : At g.B.TubeBus.State = at_of (fresh Instruction c.args.at) m c.args.from in
     let none : w.close m (behind c.args.from c.args.from) ≡ m = ap (w.close m) (behind-none c.args.from) ∙ g.B.TubeBus.wired.still m 0 (omega arith) in
     record {
-      way = λ far until sure far_on in_run early free.
+      way = λ far until safe_until far_on in_run early free.
           rw none
           (caught-up part g.B.TubeBus.wired g.B.TubeBus.stays_plain {s = start} c.cycle-cycle.ensures.value (begins part Instruction c.args.at) c.requires.before free (λ is. is) (0, refl));
       before = c.requires.before;
@@ -28,13 +28,13 @@ loop-due-init g c =
       low = omega arith;
       high = c.requires.from;
       noted = refl;
-      spent = λ sure high. none-spent;
+      spent = λ safe_until high. none-spent;
     }
 
 pub loop-due-preserved : goal.loop-due-preserved
 loop-due-preserved g c =
     let part = g.P.Processor.part in
-    let w = g.B.TubeBus.wiring in
+    let w = g.B.TubeBus.bus_model in
     let n : ℕ = c.cycle-cycle.result in
     let k : ℕ = c.whole-cycles.result in
     let due : ℕ = c.loop-due.due in
@@ -50,10 +50,10 @@ loop-due-preserved g c =
     let ends : top ≤ c.args.end = omega (arith, few, c.loop-due-test.true, c.saturating_sub-late.ensures) in
     let gone : c.args.from < top = omega (arith, c.loop-due.invariant.low, more, c.cycle-cycle.ensures.some) in
     let here : behind c.args.from top ≡ top = behind-some c.args.from top gone in
-    let went = λ (far until sure : ℕ) (far_on : c.args.end ≤ far) (in_run : c.args.end ≤ until) (early : c.args.end ≤ sure) (free : IsFree part w far (g.B.TubeBus.state c.args.bus.now)).
+    let went = λ (far until safe_until : ℕ) (far_on : c.args.end ≤ far) (in_run : c.args.end ≤ until) (early : c.args.end ≤ safe_until) (free : IsFree part w far (g.B.TubeBus.state c.args.bus.now)).
     whole-behind _ g.B.TubeBus.wired g.B.TubeBus.memory g.B.TubeBus.stays_at_rest g.B.TubeBus.stays_plain _ _ _ _ _ _ _ _ _ _ _ _ _ _ _ some
     (behind-most c.args.from due)
-    (c.loop-due.invariant.way far until sure far_on in_run early free) done c.loop-due.invariant.before (omega (arith, ends, far_on))
+    (c.loop-due.invariant.way far until safe_until far_on in_run early free) done c.loop-due.invariant.before (omega (arith, ends, far_on))
     (omega (arith, ends, in_run)) (omega (arith, ends, early)) (omega (arith, ends, c.loop-due.invariant.rests.1.0))
     c.loop-due.invariant.rests.1.1 c.loop-due.invariant.held c.requires.plain in
     let cycle : n ≡ w.cycle m =
@@ -61,8 +61,8 @@ loop-due-preserved g c =
     ∙ (g.B.TubeBus.wired).cycle_close m u in
     let reached : w.closed there ≤ top = rw cycle (c.whole-cycles.ensures.closed some) in
     record {
-      way = λ far until sure far_on in_run early free.
-          rw here (went far until sure far_on in_run early free).0;
+      way = λ far until safe_until far_on in_run early free.
+          rw here (went far until safe_until far_on in_run early free).0;
       before = omega (arith, reached);
       shut = λ _. reached;
       rests = (
@@ -76,7 +76,7 @@ loop-due-preserved g c =
       low = omega (arith, c.loop-due.invariant.low);
       high = ends;
       noted = c.whole-cycles.ensures.noted ∙ c.loop-due.invariant.noted;
-      spent = λ sure high. spent-whole k (c.loop-due.invariant.spent sure high) c.whole-cycles.ensures.room (omega arith) (omega (arith, ends, high));
+      spent = λ safe_until high. spent-whole k (c.loop-due.invariant.spent safe_until high) c.whole-cycles.ensures.room (omega arith) (omega (arith, ends, high));
     }
 
 pub close_behind-requires-clause-low : goal.close_behind-requires-clause-low
@@ -105,4 +105,4 @@ returns-clause-spends g c =
       | else-loop-due-test v ↦ omega (arith, ap g.B.TubeBus.room v.notes-is)
       | then-loop-due-test+then-cycles-eq0 v ↦ omega (arith, ap g.B.TubeBus.room v.notes-is, v.whole-cycles.ensures.room, v.if-cycles-eq0.true)
     ] in
-    λ sure high. rw (← c.cycle-cycle.ensures.value) (spent-whole 0 (c.loop-due.invariant.spent sure high) room (omega arith) (omega (arith, high, c.loop-due.invariant.high)))
+    λ safe_until high. rw (← c.cycle-cycle.ensures.value) (spent-whole 0 (c.loop-due.invariant.spent safe_until high) room (omega arith) (omega (arith, high, c.loop-due.invariant.high)))

@@ -5,7 +5,7 @@ use Rattle.tube_machine.proofs.WholeSteps.{begins-there}
 use Rattle.tube_machine.proofs.Asked.{served-onward, served-then}
 use Rattle.tube_machine.proofs.Spends.{spent-on, spent-whole}
 use Rattle.tube_machine.proofs.run.serve.Goals as goal
-use Rattle.tube_machine.proofs.run.serve.Goals.{then-loop-due-test+else-awaits, else-loop-due-test, then-loop-due-test+then-awaits+then-asked-due}
+use Rattle.tube_machine.proofs.run.serve.Goals.{then-loop-due-test+else-may_answer, else-loop-due-test, then-loop-due-test+then-may_answer+then-asked-due}
 
 pub loop-due-init : goal.loop-due-init
 loop-due-init g c =
@@ -17,7 +17,7 @@ loop-due-init g c =
       low = c.go_whole-due.ensures.low;
       high = c.go_whole-due.ensures.high;
       noted = c.go_whole-due.ensures.noted;
-      spent = λ sure high. rw there (c.go_whole-due.ensures.spends sure high);
+      spent = λ safe_until high. rw there (c.go_whole-due.ensures.spends safe_until high);
     }
 
 pub loop-due-preserved : goal.loop-due-preserved
@@ -29,16 +29,16 @@ loop-due-preserved g c =
       low = omega (arith, c.loop-due.invariant.low, c.ask_whole-asked.ensures.low, c.go_whole.ensures.low);
       high = c.go_whole.ensures.high;
       noted = c.go_whole.ensures.noted ∙ c.ask_whole-asked.ensures.noted c.loop-due.notes ∙ c.loop-due.invariant.noted;
-      spent = λ sure high. spent-on
-          (spent-whole 0 (c.loop-due.invariant.spent sure high) (omega arith) (omega (arith, c.ask_whole-asked.ensures.low)) (omega (arith, c.ask_whole-asked.ensures.high, high)))
-          (rw (← asked.alike.cycle) at (c.go_whole.ensures.spends sure high));
+      spent = λ safe_until high. spent-on
+          (spent-whole 0 (c.loop-due.invariant.spent safe_until high) (omega arith) (omega (arith, c.ask_whole-asked.ensures.low)) (omega (arith, c.ask_whole-asked.ensures.high, high)))
+          (rw (← asked.alike.cycle) at (c.go_whole.ensures.spends safe_until high));
     }
 
 pub returns-clause-served : goal.returns-clause-served
 returns-clause-served g c =
     let so_far = c.loop-due.invariant.served in
     rw c.set_out.ensures (elim c.loop-due-test.branch [
-      | then-loop-due-test+else-awaits v ↦ rw (v.at-is, v.bus-is, v.desk-is) so_far
-      | else-loop-due-test v ↦ rw (v.at-is, v.bus-is, v.desk-is) so_far
-      | then-loop-due-test+then-awaits+then-asked-due v ↦ rw (v.at-is, v.bus-is, v.desk-is) (rw v.if-asked-due.true at (served-then so_far v.ask_whole-asked.ensures.served))
+      | then-loop-due-test+else-may_answer v ↦ rw (v.at-is, v.bus-is, v.port-is) so_far
+      | else-loop-due-test v ↦ rw (v.at-is, v.bus-is, v.port-is) so_far
+      | then-loop-due-test+then-may_answer+then-asked-due v ↦ rw (v.at-is, v.bus-is, v.port-is) (rw v.if-asked-due.true at (served-then so_far v.ask_whole-asked.ensures.served))
     ])

@@ -1,8 +1,8 @@
 use Rattle.std.proofs.Common.{◌≡◌, ◌∙◌, refl, ap, ℕ, ◌+◌, false}
 use Rattle.std.proofs.Common.{arith}
 use Rattle.op_table.specs.declared.names.Part.TheVariants.{Cmos}
-use Rattle.tube_party.specs.Moves.{shown_lines}
-use Rattle.tube_machine.specs.Step.{moves_of}
+use Rattle.tube_party.specs.Transitions.{shown_lines}
+use Rattle.tube_machine.specs.Step.{transitions_of}
 use Rattle.tube_machine.proofs.Spends.{none-spent, spent-on, spent-if, spent-more}
 use Rattle.tube_machine.proofs.Stops.{cramped, few}
 use Rattle.tube_machine.proofs.Ways.{way-on, way-asks, way-cycle, way-rises, done-way, done-rises, done-cycle, done-cost}
@@ -19,8 +19,8 @@ loop-cpu-init g c = record {
 
 pub returns-in-Look-clause-ran : goal.returns-in-Look-clause-ran
 returns-in-Look-clause-ran g c =
-    let m = moves_of g.P.Processor.part g.B.TubeBus.wiring in
-    let v = shown_lines c.args.lines.now c.args.sure.0 in
+    let m = transitions_of g.P.Processor.part g.B.TubeBus.bus_model in
+    let v = shown_lines c.args.lines.now c.args.safe_until.0 in
     (way-on m v c.loop-cpu.invariant.went c.go_quick-at.ensures.talks, rw c.in-Look.is at c.go_quick-at.ensures.stops)
 
 pub loop-cpu-smaller : goal.loop-cpu-smaller
@@ -28,12 +28,12 @@ loop-cpu-smaller g c =
     let part = g.P.Processor.part in
     let left = rw c.in-Access.is at c.go_quick-at.ensures.stops in
     let done = rw c.in-Ok.is at c.access.ensures.done in
-    omega (arith, done-rises part g.B.TubeBus.wired done, left.1, way-rises part g.B.TubeBus.wired (shown_lines c.args.lines.now c.args.sure.0) c.go_quick-at.ensures.talks)
+    omega (arith, done-rises part g.B.TubeBus.wired done, left.1, way-rises part g.B.TubeBus.wired (shown_lines c.args.lines.now c.args.safe_until.0) c.go_quick-at.ensures.talks)
 
 pub loop-cpu-preserved : goal.loop-cpu-preserved
 loop-cpu-preserved g c =
-    let m = moves_of g.P.Processor.part g.B.TubeBus.wiring in
-    let v = shown_lines c.args.lines.now c.args.sure.0 in
+    let m = transitions_of g.P.Processor.part g.B.TubeBus.bus_model in
+    let v = shown_lines c.args.lines.now c.args.safe_until.0 in
     let part = g.P.Processor.part in
     let wired = g.B.TubeBus.wired in
     let so_far = c.loop-cpu.invariant in
@@ -53,8 +53,8 @@ loop-cpu-preserved g c =
 
 pub returns-in-Err-Tube-clause-ran : goal.returns-in-Err-Tube-clause-ran
 returns-in-Err-Tube-clause-ran g c =
-    let m = moves_of g.P.Processor.part g.B.TubeBus.wiring in
-    let v = shown_lines c.args.lines.now c.args.sure.0 in
+    let m = transitions_of g.P.Processor.part g.B.TubeBus.bus_model in
+    let v = shown_lines c.args.lines.now c.args.safe_until.0 in
     let left = rw c.in-Access.is at c.go_quick-at.ensures.stops in
     let asked = rw (c.in-Err-Tube.is, c.in-Err-Tube.field-0-is) at c.access.ensures.done in
     rw c.in-Err-Tube.op-is (way-asks g.P.Processor.part g.B.TubeBus.wired v (way-on m v c.loop-cpu.invariant.went c.go_quick-at.ensures.talks) left.1 asked)
@@ -69,8 +69,8 @@ returns-in-Err-Full-clause-full g c =
 
 pub returns-in-End-clause-ran : goal.returns-in-End-clause-ran
 returns-in-End-clause-ran g c =
-    let m = moves_of g.P.Processor.part g.B.TubeBus.wiring in
-    let v = shown_lines c.args.lines.now c.args.sure.0 in
+    let m = transitions_of g.P.Processor.part g.B.TubeBus.bus_model in
+    let v = shown_lines c.args.lines.now c.args.safe_until.0 in
     let left = rw c.in-End.is at c.go_quick-at.ensures.stops in
     let all = way-on m v c.loop-cpu.invariant.went c.go_quick-at.ensures.talks in
     record { accesses = all.0; last = _; talks = all.1; asked = (left, c.shut.ensures.shut); unsure = tt }

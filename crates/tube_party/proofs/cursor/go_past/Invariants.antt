@@ -8,8 +8,8 @@ abbrev pub invariant-loop-at : goal.invariant-loop-at
 invariant-loop-at l = record {
   within : l.at ≤ length l.trace;
   kept : l.lines ≡ lines_of l.chip;
-  early : (t : ℕ) → t < l.sure → t < 1073741824 → lines_of (chip_before l.side t l.initial.chip (drop l.from l.trace)) ≡ l.lines;
-  late : (t : ℕ) → l.sure ≤ t → t < 1073741824 → chip_before l.side t l.initial.chip (drop l.from l.trace) ≡ chip_before l.side t l.chip (drop l.at l.trace);
+  early : (t : ℕ) → t < l.safe_until → t < 1073741824 → lines_of (chip_before l.side t l.initial.chip (drop l.from l.trace)) ≡ l.lines;
+  late : (t : ℕ) → l.safe_until ≤ t → t < 1073741824 → chip_before l.side t l.initial.chip (drop l.from l.trace) ≡ chip_before l.side t l.chip (drop l.at l.trace);
 }
 
 abbrev pub decreases-loop-at : goal.decreases-loop-at

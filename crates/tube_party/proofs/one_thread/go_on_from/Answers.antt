@@ -1,5 +1,5 @@
 use Rattle.std.proofs.Common.{◌∙◌, refl, arith}
-use Rattle.tube_party.proofs.UnderWay.{mark_of}
+use Rattle.tube_party.proofs.InProgress.{mark_of}
 use Rattle.tube_party.proofs.Both.{begins, finishes, para_count}
 use Rattle.tube_party.proofs.Passing.{host_turn, para_turn_over, rolls_back}
 use Rattle.tube_party.proofs.Noted.{kept_of}
@@ -32,13 +32,13 @@ loop-side-preserved-then-not-stays g c =
 pub loop-side-smaller-in-Host : goal.loop-side-smaller-in-Host
 loop-side-smaller-in-Host g c =
     (host_turn c.loop-side.invariant (cc) c.advance_at-host_ask.ensures c.act.ensures.acts refl refl c.act.ensures.kept
-    (c.act.ensures.keep ∙ c.loop-side.invariant.host_keep) refl c.has_read.ensures (c.stays.ensures.stays c.if-not-stays.false) c.lookahead-table.ensures
+    (c.act.ensures.keep ∙ c.loop-side.invariant.host_keep) refl c.has_read.ensures (c.stays.ensures.stays c.if-not-stays.false) c.lookahead-chip_port.ensures
     c.seen_until-seen.ensures).smaller
 
 pub loop-side-preserved-in-Host : goal.loop-side-preserved-in-Host
 loop-side-preserved-in-Host g c =
     (host_turn c.loop-side.invariant (cc) c.advance_at-host_ask.ensures c.act.ensures.acts refl refl c.act.ensures.kept
-    (c.act.ensures.keep ∙ c.loop-side.invariant.host_keep) refl c.has_read.ensures (c.stays.ensures.stays c.if-not-stays.false) c.lookahead-table.ensures
+    (c.act.ensures.keep ∙ c.loop-side.invariant.host_keep) refl c.has_read.ensures (c.stays.ensures.stays c.if-not-stays.false) c.lookahead-chip_port.ensures
     c.seen_until-seen.ensures).kept
 
 pub act-requires-in-Para-clause-count : goal.act-requires-in-Para-clause-count
@@ -49,13 +49,13 @@ loop-side-smaller g c =
     (para_turn_over c.loop-side.invariant
     {from2 = mark_of (g.P.Party.state (g.P.Rewinds.before c.go_ahead.new.past c.go_ahead.new.machine)) c.mark-mark-in-Para.result.len c.mark-mark-in-Para.result.count}
     (cc) c.advance_at-asked.ensures c.go_ahead.ensures c.act-in-Para.ensures.acts refl refl refl
-    (c.act-in-Para.ensures.keep ∙ c.loop-side.invariant.para_keep) c.act-in-Para.ensures.kept c.lookahead-table-in-Para.ensures
+    (c.act-in-Para.ensures.keep ∙ c.loop-side.invariant.para_keep) c.act-in-Para.ensures.kept c.lookahead-chip_port-in-Para.ensures
     (refl, c.mark-mark-in-Para.ensures.len, c.mark-mark-in-Para.ensures.count)).smaller
 
 pub loop-side-preserved : goal.loop-side-preserved
 loop-side-preserved g c =
     (para_turn_over c.loop-side.invariant (cc) c.advance_at-asked.ensures c.go_ahead.ensures c.act-in-Para.ensures.acts refl refl refl
-    (c.act-in-Para.ensures.keep ∙ c.loop-side.invariant.para_keep) c.act-in-Para.ensures.kept c.lookahead-table-in-Para.ensures
+    (c.act-in-Para.ensures.keep ∙ c.loop-side.invariant.para_keep) c.act-in-Para.ensures.kept c.lookahead-chip_port-in-Para.ensures
     (refl, c.mark-mark-in-Para.ensures.len, c.mark-mark-in-Para.ensures.count)).kept
 
 pub returns : goal.returns

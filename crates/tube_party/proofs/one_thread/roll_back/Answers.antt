@@ -1,6 +1,6 @@
 use Rattle.std.proofs.Common.{subst}
-use Rattle.tube_party.specs.Moves.{Talks, shown_lines}
-use Rattle.tube_party.specs.CodePassing.{IsPassed, attended}
+use Rattle.tube_party.specs.Transitions.{Talks, shown_lines}
+use Rattle.tube_party.specs.CodePassing.{IsPassed, chip_port_state}
 use Rattle.tube_party.specs.CodeStanding.{para_turn}
 use Rattle.tube_party.proofs.one_thread.roll_back.Goals as goal
 
@@ -15,8 +15,8 @@ returns g c =
       goes = record {
         accesses = hears.accesses;
         last = hears.last;
-        talks = subst (λ x. Talks g.M.Party.moves IsPassed c.args.n.0 (shown_lines c.args.lines.now c.args.at.0) hears.accesses x
-            (para_turn (attended c.args.table.now) c.cut.new.self c.args.at.0) hears.last (attended c.advance_at.new.desk)) c.rewind.ensures hears.talks;
+        talks = subst (λ x. Talks g.M.Party.transitions IsPassed c.args.n.0 (shown_lines c.args.lines.now c.args.at.0) hears.accesses x
+            (para_turn (chip_port_state c.args.chip_port.now) c.cut.new.self c.args.at.0) hears.last (chip_port_state c.advance_at.new.port)) c.rewind.ensures hears.talks;
         asked = hears.asked;
       };
     }

@@ -2,7 +2,7 @@ use Rattle.std.proofs.Common.{◌≡◌, ◌∙◌, sym, ap, arith}
 use Rattle.tube_chip.specs.declared.Answer.TheVariants.{Byte, Seen}
 use Rattle.tube_chip.specs.State.{power_on, lines_of}
 use Rattle.tube_chip.specs.Act.{access, look}
-use Rattle.tube_party.specs.Moves.{Moves}
+use Rattle.tube_party.specs.Transitions.{Transitions}
 use Rattle.tube_party.specs.Replay.{chip_before}
 use Rattle.tube_party.proofs.ReplayLemmas.{goes_access, goes_look, ran_out, stands_access, stands_look, stands_asking, stands_rises, went_apart}
 use Rattle.tube_party.proofs.replaying.replay.Goals as goal
@@ -67,7 +67,7 @@ steps-preserved-in-Ok g c =
 
 pub steps-preserved : goal.steps-preserved
 steps-preserved g c =
-    let m : Moves g.M.Party.State = g.M.Party.moves in
+    let m : Transitions g.M.Party.State = g.M.Party.transitions in
     let at : g.M.Party.State = g.M.Party.state c.advance_at.new.self in
     let both = stands_look g.met.M.Party.lawful c.steps.invariant.goes c.steps.invariant.early c.advance_at.ensures c.in-Look.tick c.in-Look.is in
     let stands = both.0 in

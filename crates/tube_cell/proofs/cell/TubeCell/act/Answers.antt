@@ -8,10 +8,10 @@ use Rattle.tube_cell.proofs.cell.TubeCell.act.Goals as goal
 pub invariant_of-pass : goal.invariant_of-pass
 invariant_of-pass g c =
     let w = cell_view c.add.new.seat in (
-      acted c.pass.view_is c.pass.invariant.0 c.args.t.0 c.args.op c.requires.none_trusted
+      acted c.pass.view_is c.pass.invariant.0 c.args.t.0 c.args.op c.requires.none_speculative
           c.requires.later c.requires.admitted c.operate-byte.ensures.chip c.add.ensures.added,
       acted_cut c.args.t.0 c.pass.inside.cut c.args.op c.pass.invariant.0 c.pass.invariant.1
-          c.operate-byte.ensures.chip c.operate-byte.ensures.trust c.add.ensures.added,
+          c.operate-byte.ensures.chip c.operate-byte.ensures.spec_horizon c.add.ensures.added,
     )
 
 pub returns-clause-answer : goal.returns-clause-answer

@@ -7,8 +7,8 @@ pub returns-clause-here : goal.returns-clause-here
 returns-clause-here c =
     let v = cell_view c.pass.inside.seat in
     bound_is v c.pass.inside.cut c.pass.view_is
-    c.pass.invariant.1 (c.trust_of.ensures.is v.known c.pass.invariant.0.words_are) c.trust_of.ensures.bounded
-    c.min-trust.ensures (c.bound_of.ensures v.known c.pass.invariant.0.words_are)
+    c.pass.invariant.1 (c.spec_horizon_of.ensures.is v.known c.pass.invariant.0.words_are) c.spec_horizon_of.ensures.bounded
+    c.min-spec_horizon.ensures (c.bound_of.ensures v.known c.pass.invariant.0.words_are)
 
 pub returns-clause-known : goal.returns-clause-known
 returns-clause-known c = λ none. returns-clause-here c ∙ bound_bare c.args.pass.now none

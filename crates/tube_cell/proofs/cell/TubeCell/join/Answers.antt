@@ -15,8 +15,8 @@ take_in-requires-clause-host_role g c = c.host.invariant.0.role ∙ ap one_side 
 pub take_in-requires-clause-para_role : goal.take_in-requires-clause-para_role
 take_in-requires-clause-para_role g c = c.para.invariant.0.role ∙ ap one_side (ap (λ p. p.side) c.para.view_is ∙ c.requires.sides.1)
 
-pub take_in-requires-clause-none_trusted : goal.take_in-requires-clause-none_trusted
-take_in-requires-clause-none_trusted g c = ap (λ p. p.trusted) c.para.view_is ∙ c.requires.none_trusted
+pub take_in-requires-clause-none_speculative : goal.take_in-requires-clause-none_speculative
+take_in-requires-clause-none_speculative g c = ap (λ p. p.speculative) c.para.view_is ∙ c.requires.none_speculative
 
 pub end_at-found-requires-clause-cell : goal.end_at-found-requires-clause-cell
 end_at-found-requires-clause-cell g c = c.take_in.ensures.cell.0 ∙ ap (λ p. p.cell) c.host.view_is ∙ c.requires.cell.0 ∙ sym c.self.view_is

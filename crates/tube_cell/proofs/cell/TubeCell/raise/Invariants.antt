@@ -6,5 +6,5 @@ use Rattle.tube_cell.proofs.cell.TubeCell.raise.Given as goal
 abbrev pub ghosts-exchange : goal.ghosts-exchange
 ghosts-exchange g a = record {
   events = accesses a.side (cell_view a.seat.now).known.chip a._access;
-  next = known_with a.side a.chip.now a.word (word_of_other a.side (cell_view a.seat.now).known) a.trust;
+  next = known_with a.side a.chip.now a.word (word_of_other a.side (cell_view a.seat.now).known) a.spec_horizon;
 }

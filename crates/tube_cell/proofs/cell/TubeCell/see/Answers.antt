@@ -9,7 +9,7 @@ pub invariant_of-pass : goal.invariant_of-pass
 invariant_of-pass g c =
     let v = cell_view c.pass.inside.seat in
     let w = cell_view c.add.new.seat in (
-      saw c.pass.view_is c.pass.invariant.0 c.args.t.0 c.requires.none_trusted c.requires.later c.requires.admitted c.add.ensures.added,
+      saw c.pass.view_is c.pass.invariant.0 c.args.t.0 c.requires.none_speculative c.requires.later c.requires.admitted c.add.ensures.added,
       saw_one_cut c.pass.inside.side c.pass.inside.cut c.args.t.0 v c.pass.invariant.1 c.add.ensures.added,
     )
 

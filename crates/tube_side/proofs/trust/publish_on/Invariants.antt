@@ -1,4 +1,0 @@
-use Rattle.tube_side.proofs.trust.publish_on.Given as goal
-
-abbrev pub ghosts-publish_observed : goal.ghosts-publish_observed
-ghosts-publish_observed g a = record { events = g.W.Ahead.way.until a.t.0 }
