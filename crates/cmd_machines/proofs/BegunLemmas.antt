@@ -6,7 +6,7 @@ use Rattle.std.proofs.lemmas.Bool.Decides.{nat_tests}
 use Rattle.disc_image.specs.declared.Kind.{Kind}
 use Rattle.std.specs.List.{range_with_len}
 use Rattle.rom_set.specs.Roms.{Rom}
-use Rattle.cmd_words.specs.declared.keys.Slot.TheVariants as slots
+use Rattle.cmd_words.specs.declared.keys.InputKind.TheVariants as slots
 use Rattle.save_state.specs.declared.Kind.TheVariants as parts
 use Rattle.save_state.specs.File.{ArePartsOf, IsPart, IsDisc, IsSession}
 use Rattle.cmd_stages.specs.declared.stop.Refusal.{Refusal}

@@ -8,10 +8,10 @@ use Rattle.std.specs.List.{All, range_with_len, filter_map}
 use Rattle.std.specs.declared.vec.Vec.{Vec}
 use Rattle.std.specs.declared.alloc.Global.{Global}
 use Rattle.rom_set.specs.Roms.{Rom, rom_seen}
-use Rattle.cmd_words.specs.declared.keys.Slot.{Slot}
-use Rattle.cmd_words.specs.declared.keys.Slot.TheVariants as slots
+use Rattle.cmd_words.specs.declared.keys.InputKind.{InputKind}
+use Rattle.cmd_words.specs.declared.keys.InputKind.TheVariants as slots
 use Rattle.cmd_words.specs.Reads.{rom_slot, rise_from}
-use Rattle.cmd_words.proofs.SlotLemmas.{left_out, taken}
+use Rattle.cmd_words.proofs.InputKindLemmas.{left_out, taken}
 use Rattle.cmd_stages.specs.Plan.{Want, AreWithin}
 use Rattle.save_state.specs.declared.Kind.TheVariants as parts
 use Rattle.save_state.specs.Saved.{Session}
@@ -24,11 +24,11 @@ use Rattle.cmd_machines.proofs.ReadLemmas.{numbers_of, numbers_read, IsCapped, A
 
 -- ---- the slots of the paged ROMs
 
-abbrev these : List (Slot × List ℕ) → List ℕ
-these list = filter_map rom_slot (map (λ (one : Slot × List ℕ). one.0) list)
+abbrev these : List (InputKind × List ℕ) → List ℕ
+these list = filter_map rom_slot (map (λ (one : InputKind × List ℕ). one.0) list)
 
 -- those that are present rise as the slots do
-rise : (low : ℕ) (all : List Slot) (ps : List (Option (List ℕ))) → IsTrue (rise_from low (filter_map rom_slot all)) →
+rise : (low : ℕ) (all : List InputKind) (ps : List (Option (List ℕ))) → IsTrue (rise_from low (filter_map rom_slot all)) →
     IsTrue (rise_from low (these (there all ps)))
 rise low [] ps rises = refl
 rise low (slot ∷ all) [] rises = refl
@@ -51,24 +51,24 @@ below_at (x ∷ xs) low rises (suc k) d h =
 -- ---- the length of the key script
 
 -- the parts that are present as files to read, without names, each with its length as the limit
-abbrev wants_of : List (Slot × List ℕ) → List (Want Slot)
-wants_of list = map (λ (x : Slot × List ℕ). (x.0, [], length x.1)) list
+abbrev wants_of : List (InputKind × List ℕ) → List (Want InputKind)
+wants_of list = map (λ (x : InputKind × List ℕ). (x.0, [], length x.1)) list
 
-all_within : (list : List (Slot × List ℕ)) → AreWithin (wants_of list) list
+all_within : (list : List (InputKind × List ℕ)) → AreWithin (wants_of list) list
 all_within [] = tt
 all_within (x ∷ list) = (refl, omega arith, all_within list)
 
-one_part : (slot : Slot) (p : Option (List ℕ)) (more : List (Slot × List ℕ)) → ((bytes : List ℕ) → p ≡ Some bytes → IsCapped slot (length bytes)) →
+one_part : (slot : InputKind) (p : Option (List ℕ)) (more : List (InputKind × List ℕ)) → ((bytes : List ℕ) → p ≡ Some bytes → IsCapped slot (length bytes)) →
     AreCapped (wants_of more) → AreCapped (wants_of (if_there slot p ++ more))
 one_part slot None more capped each = each
 one_part slot (Some bytes) more capped each = (capped bytes refl, each)
 
 -- slots whose parts may be of any length
-abbrev AreFree : List Slot → Type 0
+abbrev AreFree : List InputKind → Type 0
 AreFree [] = Unit {0}
 AreFree (slot ∷ slots) = ((cap : ℕ) → IsCapped slot cap) × AreFree slots
 
-each_there : (front : List Slot) (ps : List (Option (List ℕ))) → AreFree front →
+each_there : (front : List InputKind) (ps : List (Option (List ℕ))) → AreFree front →
     ((bytes : List ℕ) → slice_index_or ps (length front) None ≡ Some bytes → length bytes ≤ 1048576) →
     AreCapped (wants_of (there (front ++ slots.Keys ∷ []) ps))
 each_there [] [] free keys = tt
@@ -77,7 +77,7 @@ each_there (slot ∷ front) [] free keys = tt
 each_there (slot ∷ front) (p ∷ ps) free keys =
     one_part slot p (there (front ++ slots.Keys ∷ []) ps) (λ bytes is. free.0 (length bytes)) (each_there front ps free.1 keys)
 
-abbrev front_slots : List Slot
+abbrev front_slots : List InputKind
 front_slots = slots.Os ∷ slots.Tube ∷ map slots.Rom (range_with_len 0 16) ++ slots.Font ∷ slots.Disc 0 ∷ slots.Disc 1 ∷ []
 
 free_front : AreFree front_slots
@@ -90,7 +90,7 @@ keys_part (Some body) bytes is some = grind (arith, nat_tests)
 pub keys_stand : (s : Session) → IsPart parts.Keys (part s 21) → ShortKeys (inputs_in s)
 unfolding inputs_in inputs_of part_slots
 keys_stand s keys =
-    let list : List (Slot × List ℕ) = there part_slots s.parts in
+    let list : List (InputKind × List ℕ) = there part_slots s.parts in
     short_read (wants_of list) list no_inputs (all_within list)
     (each_there front_slots s.parts free_front (λ bytes some. keys_part (part s 21) bytes keys some)) tt
 
@@ -112,7 +112,7 @@ module _ (i : held.Inputs) (s : Session) (keeps : IsSession s) (is : seen_inputs
   keys_short : IfSome i.keys (λ keys. length keys.items ≤ 1048576)
   keys_short = keys_held i.keys (subst ShortKeys (sym is) (keys_stand s keeps.keys))
 
-module _ (list : List (Slot × List ℕ)) (ps : List (Option (List ℕ))) (listed : list ≡ there part_slots ps) (s : Session) (keeps : IsSession s) (same : s.parts ≡ ps) where
+module _ (list : List (InputKind × List ℕ)) (ps : List (Option (List ℕ))) (listed : list ≡ there part_slots ps) (s : Session) (keeps : IsSession s) (same : s.parts ≡ ps) where
   made : inputs_of list ≡ inputs_in s
   unfolding inputs_in
   made = ap inputs_of (listed ∙ ap (there part_slots) (sym same))

@@ -1,8 +1,8 @@
 -- The bytes that a command read, by their purpose.
 use Rattle.std.specs.Prelude.{ℕ, ◌==◌, List, [], ◌∷◌, ◌++◌, Option, Some, None, if◌then◌else◌}
-use Rattle.cmd_words.specs.declared.keys.Slot.{Slot}
-use Rattle.cmd_words.specs.declared.keys.Slot.TheVariants.{Trace, Source, Image, State, Os, Tube, Font, Disc, Keys, Points}
-use Rattle.cmd_words.specs.declared.keys.Slot.TheVariants as slots
+use Rattle.cmd_words.specs.declared.keys.InputKind.{InputKind}
+use Rattle.cmd_words.specs.declared.keys.InputKind.TheVariants.{Trace, Source, Image, State, Os, Tube, Font, Disc, Keys, Points}
+use Rattle.cmd_words.specs.declared.keys.InputKind.TheVariants as slots
 use Rattle.rom_set.specs.Roms.{Rom}
 
 -- A required field is empty if its file wasn't read.
@@ -39,7 +39,7 @@ no_inputs = record {
   points = None;
 }
 
-abbrev pub with_input : Slot → List ℕ → Inputs → Inputs
+abbrev pub with_input : InputKind → List ℕ → Inputs → Inputs
 with_input Trace bytes i = record i { trace = bytes }
 with_input Source bytes i = record i { source = bytes }
 with_input Image bytes i = record i { image = bytes }
@@ -52,9 +52,9 @@ with_input (Disc n) bytes i = if n == 0 then record i { disc0 = Some bytes } els
 with_input Keys bytes i = record i { keys = Some bytes }
 with_input Points bytes i = record i { points = Some bytes }
 
-abbrev pub with_inputs : List (Slot × List ℕ) → Inputs → Inputs
+abbrev pub with_inputs : List (InputKind × List ℕ) → Inputs → Inputs
 with_inputs [] i = i
 with_inputs (one ∷ more) i = with_inputs more (with_input one.0 one.1 i)
 
-unfoldable pub inputs_of : List (Slot × List ℕ) → Inputs
+unfoldable pub inputs_of : List (InputKind × List ℕ) → Inputs
 inputs_of list = with_inputs list no_inputs

@@ -5,9 +5,9 @@ use Rattle.disc_image.specs.declared.Kind.{Kind}
 use Rattle.disc_image.specs.declared.Kind.TheVariants.{Ssd, Dsd}
 use Rattle.bus_plug.specs.Plug.{Plug}
 use Rattle.rom_set.specs.Roms.{Rom}
-use Rattle.cmd_words.specs.declared.keys.Slot.{Slot}
-use Rattle.cmd_words.specs.declared.keys.Slot.TheVariants.{Os, Tube, Font, Disc, Keys}
-use Rattle.cmd_words.specs.declared.keys.Slot.TheVariants as slots
+use Rattle.cmd_words.specs.declared.keys.InputKind.{InputKind}
+use Rattle.cmd_words.specs.declared.keys.InputKind.TheVariants.{Os, Tube, Font, Disc, Keys}
+use Rattle.cmd_words.specs.declared.keys.InputKind.TheVariants as slots
 use Rattle.host_mach.specs.State.{HostState}
 use Rattle.para_mach.specs.State.{ParaState}
 use Rattle.save_state.specs.Saved.{Session}
@@ -17,7 +17,7 @@ use Rattle.cmd_machines.specs.Setup.{Setup, setup}
 use Rattle.cmd_machines.specs.Machines.{machines_of}
 
 -- the purposes of a session's parts, in order
-unfoldable pub part_slots : List Slot
+unfoldable pub part_slots : List InputKind
 part_slots = Os ∷ Tube ∷ map slots.Rom (range_with_len 0 16) ++ Font ∷ Disc 0 ∷ Disc 1 ∷ Keys ∷ []
 
 -- the ROM of a slot; if two have the same slot, the first
@@ -25,7 +25,7 @@ abbrev pub rom_of_slot : List Rom → ℕ → Option (List ℕ)
 rom_of_slot roms slot = option_map (λ (rom : Rom). rom.bytes) (find (λ (rom : Rom). rom.slot == slot) roms)
 
 -- the bytes of a part, if they were read
-abbrev pub part_of : Inputs → Slot → Option (List ℕ)
+abbrev pub part_of : Inputs → InputKind → Option (List ℕ)
 part_of i Os = Some i.os
 part_of i Tube = Some i.tube
 part_of i (slots.Rom n) = rom_of_slot i.roms n
@@ -57,12 +57,12 @@ abbrev pub begun_if : Option (List ℕ) → Setup → Inputs → Option Session
 begun_if save set i = option_map (λ (name : List ℕ). begun set i) save
 
 -- a part with its purpose, if it is present
-abbrev pub if_there : Slot → Option (List ℕ) → List (Slot × List ℕ)
+abbrev pub if_there : InputKind → Option (List ℕ) → List (InputKind × List ℕ)
 if_there slot None = []
 if_there slot (Some bytes) = (slot, bytes) ∷ []
 
 -- the parts that are present, each with its purpose
-abbrev pub there : List Slot → List (Option (List ℕ)) → List (Slot × List ℕ)
+abbrev pub there : List InputKind → List (Option (List ℕ)) → List (InputKind × List ℕ)
 there [] parts = []
 there (slot ∷ slots) [] = []
 there (slot ∷ slots) (part ∷ parts) = if_there slot part ++ there slots parts

@@ -4,7 +4,7 @@ ghost use Rattle.cmd_stages.specs.View.{seen_input};
 ghost use Rattle.cmd_machines.specs.Inputs.{no_inputs, with_input, inputs_of};
 ghost use Rattle.cmd_machines.specs.View.{seen_inputs};
 
-use cmd_words::Slot;
+use cmd_words::InputKind;
 use std::alloc::{AllocError, Global};
 
 /// The bytes that a command read, by their purpose. A required field is empty if its file wasn't
@@ -45,29 +45,29 @@ impl Inputs {
         }
     }
 
-    fn put(&mut self, slot: Slot, bytes: Vec<u8>) -> Result<(), AllocError>
+    fn put(&mut self, slot: InputKind, bytes: Vec<u8>) -> Result<(), AllocError>
         ensures { IfOk result (λ _. seen_inputs self.new ≡ with_input slot bytes.items (seen_inputs self.old)) }
     {
         match slot {
-            Slot::Trace => self.trace = bytes,
-            Slot::Source => self.source = bytes,
-            Slot::Image => self.image = bytes,
-            Slot::State => self.state = bytes,
-            Slot::Os => self.os = bytes,
-            Slot::Tube => self.tube = bytes,
-            Slot::Rom(n) => self.roms.push((n, bytes))?,
-            Slot::Font => self.font = Some(bytes),
-            Slot::Disc(0) => self.disc0 = Some(bytes),
-            Slot::Disc(_) => self.disc1 = Some(bytes),
-            Slot::Keys => self.keys = Some(bytes),
-            Slot::Points => self.points = Some(bytes),
+            InputKind::Trace => self.trace = bytes,
+            InputKind::Source => self.source = bytes,
+            InputKind::Image => self.image = bytes,
+            InputKind::State => self.state = bytes,
+            InputKind::Os => self.os = bytes,
+            InputKind::Tube => self.tube = bytes,
+            InputKind::Rom(n) => self.roms.push((n, bytes))?,
+            InputKind::Font => self.font = Some(bytes),
+            InputKind::Disc(0) => self.disc0 = Some(bytes),
+            InputKind::Disc(_) => self.disc1 = Some(bytes),
+            InputKind::Keys => self.keys = Some(bytes),
+            InputKind::Points => self.points = Some(bytes),
         }
         Ok(())
     }
 
     /// Makes the inputs of the bytes that were read, each in its place.
     #[tactic(auto, unfolding(crate::specs::Inputs::inputs_of))]
-    pub fn of(alloc: Global, list: Vec<(Slot, Vec<u8>)>) -> Result<Inputs, AllocError>
+    pub fn of(alloc: Global, list: Vec<(InputKind, Vec<u8>)>) -> Result<Inputs, AllocError>
         ensures { IfOk result (λ inputs. seen_inputs inputs ≡ inputs_of (map seen_input list.items)) }
     {
         let mut inputs = Inputs::none(alloc);

@@ -11,7 +11,7 @@ use crate::inputs::Inputs;
 use crate::setup::Setup;
 use beeb_bits::{Clock, Tick};
 use bus_plug::BusDevice;
-use cmd_words::Slot;
+use cmd_words::InputKind;
 use disc_image::Kind;
 use save_state::{Blob, Saved};
 use std::alloc::{AllocError, Global};
@@ -21,32 +21,32 @@ const PARTS: usize = 22;
 
 // Returns the purposes of a session's parts, in order.
 #[tactic(auto, unfolding(crate::specs::Sessions::part_slots))]
-fn part_slots() -> [Slot; PARTS]
+fn part_slots() -> [InputKind; PARTS]
     ensures { result ≡ part_slots }
 {
     [
-        Slot::Os,
-        Slot::Tube,
-        Slot::Rom(0),
-        Slot::Rom(1),
-        Slot::Rom(2),
-        Slot::Rom(3),
-        Slot::Rom(4),
-        Slot::Rom(5),
-        Slot::Rom(6),
-        Slot::Rom(7),
-        Slot::Rom(8),
-        Slot::Rom(9),
-        Slot::Rom(10),
-        Slot::Rom(11),
-        Slot::Rom(12),
-        Slot::Rom(13),
-        Slot::Rom(14),
-        Slot::Rom(15),
-        Slot::Font,
-        Slot::Disc(0),
-        Slot::Disc(1),
-        Slot::Keys,
+        InputKind::Os,
+        InputKind::Tube,
+        InputKind::Rom(0),
+        InputKind::Rom(1),
+        InputKind::Rom(2),
+        InputKind::Rom(3),
+        InputKind::Rom(4),
+        InputKind::Rom(5),
+        InputKind::Rom(6),
+        InputKind::Rom(7),
+        InputKind::Rom(8),
+        InputKind::Rom(9),
+        InputKind::Rom(10),
+        InputKind::Rom(11),
+        InputKind::Rom(12),
+        InputKind::Rom(13),
+        InputKind::Rom(14),
+        InputKind::Rom(15),
+        InputKind::Font,
+        InputKind::Disc(0),
+        InputKind::Disc(1),
+        InputKind::Keys,
     ]
 }
 
@@ -81,18 +81,18 @@ fn rom_of_slot(alloc: Global, roms: &[(u8, Vec<u8>)], slot: u8) -> Result<Option
 }
 
 // Returns the bytes of a part, if they were read.
-fn part_of(alloc: Global, inputs: &Inputs, slot: Slot) -> Result<Option<Blob>, AllocError>
+fn part_of(alloc: Global, inputs: &Inputs, slot: InputKind) -> Result<Option<Blob>, AllocError>
     ensures { IfOk result (λ (part : Option (List ℕ)). part ≡ part_of (seen_inputs inputs.now) slot) }
 {
     match slot {
-        Slot::Os => Ok(Some(blob_of(alloc, &inputs.os)?)),
-        Slot::Tube => Ok(Some(blob_of(alloc, &inputs.tube)?)),
-        Slot::Rom(number) => rom_of_slot(alloc, &inputs.roms, number),
-        Slot::Font => if_read(alloc, &inputs.font),
-        Slot::Disc(0) => if_read(alloc, &inputs.disc0),
-        Slot::Disc(_) => if_read(alloc, &inputs.disc1),
-        Slot::Keys => if_read(alloc, &inputs.keys),
-        Slot::Points | Slot::Trace | Slot::Source | Slot::Image | Slot::State => Ok(None),
+        InputKind::Os => Ok(Some(blob_of(alloc, &inputs.os)?)),
+        InputKind::Tube => Ok(Some(blob_of(alloc, &inputs.tube)?)),
+        InputKind::Rom(number) => rom_of_slot(alloc, &inputs.roms, number),
+        InputKind::Font => if_read(alloc, &inputs.font),
+        InputKind::Disc(0) => if_read(alloc, &inputs.disc0),
+        InputKind::Disc(_) => if_read(alloc, &inputs.disc1),
+        InputKind::Keys => if_read(alloc, &inputs.keys),
+        InputKind::Points | InputKind::Trace | InputKind::Source | InputKind::Image | InputKind::State => Ok(None),
     }
 }
 
@@ -160,8 +160,8 @@ pub(crate) fn begun_if<D: BusDevice>(
 
 // Appends a part with its purpose, if it is present.
 fn push_there(
-    list: &mut Vec<(Slot, Vec<u8>)>,
-    slot: Slot,
+    list: &mut Vec<(InputKind, Vec<u8>)>,
+    slot: InputKind,
     part: Option<Blob>,
 ) -> Result<(), AllocError>
     ensures { IfOk result (λ _. map seen_input list.new.items ≡ map seen_input list.old.items ++ if_there slot part) }
@@ -174,7 +174,7 @@ fn push_there(
 
 // Returns the parts that are present, each with its purpose.
 #[tactic(auto, using(crate::proofs::SessionLemmas::there_end))]
-fn there(alloc: Global, parts: Vec<Option<Blob>>) -> Result<Vec<(Slot, Vec<u8>)>, AllocError>
+fn there(alloc: Global, parts: Vec<Option<Blob>>) -> Result<Vec<(InputKind, Vec<u8>)>, AllocError>
     ensures { IfOk result (λ v. map seen_input v.items ≡ there part_slots parts.items) }
 {
     let slots = part_slots();

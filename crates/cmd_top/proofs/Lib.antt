@@ -1,5 +1,5 @@
-pub mod SlotLemmas
+pub mod InputKindLemmas
 pub mod StageLemmas
 pub mod HeadlineLemmas
-pub mod HeardLemmas
-pub mod GoneLemmas
+pub mod SoundFileLemmas
+pub mod ResumeAndFollowLemmas

@@ -5,7 +5,7 @@ use Rattle.std.specs.declared.alloc.Global.{Global}
 use Rattle.beeb_files.specs.Crew.{Counts}
 use Rattle.beeb_files.specs.Shelf.{ShelfState}
 use Rattle.beeb_files.specs.Outlet.{OutletState, NoCountFell}
-use Rattle.cmd_words.specs.declared.keys.Slot.{Slot}
+use Rattle.cmd_words.specs.declared.keys.InputKind.{InputKind}
 use Rattle.cmd_stages.specs.declared.stop.Stop.{Stop}
 use Rattle.cmd_stages.specs.declared.stop.Stop.TheVariants as stops
 use Rattle.cmd_stages.specs.declared.stop.Refusal.{Refusal}
@@ -27,9 +27,9 @@ crew_stays false crew = refl
 pub crew_as : (paired : Bool) (old new : Counts) → paired ≡ true → IsCrewAfter true old new → IsCrewAfter paired old new
 crew_as paired old new is crew = rw is crew
 
-pub reads_as : (wants asked : List (Want Slot)) (old new : ShelfState) (r : Result (Vec (Slot × Vec ℕ Global) Global) (Stop Cause)) → wants ≡ asked →
+pub reads_as : (wants asked : List (Want InputKind)) (old new : ShelfState) (r : Result (Vec (InputKind × Vec ℕ Global) Global) (Stop Cause)) → wants ≡ asked →
     ReadsAll {C = Cause} wants old new r → ReadsAll {C = Cause} asked old new r
-reads_as wants asked old new r is reads = subst (λ (ws : List (Want Slot)). ReadsAll {C = Cause} ws old new r) is reads
+reads_as wants asked old new r is reads = subst (λ (ws : List (Want InputKind)). ReadsAll {C = Cause} ws old new r) is reads
 
 own_view : {X : Type 0} (view : X → Verdict Ending) (old new : Counts) (stage : Result (Verdict Ending) (Refusal Cause)) (s : Stop Cause) →
     Works view true old new (Err s) stage → Works (λ (v : Verdict Ending). v) true old new (Err s) stage

@@ -2,7 +2,7 @@
 use Rattle.std.specs.Prelude.{◌≡◌, ⊤, ℕ, List, Option, Some, IfSome, Ok}
 use Rattle.beeb_files.specs.Counts.{Rose}
 use Rattle.beeb_files.specs.Files.{Files}
-use Rattle.cmd_words.specs.declared.keys.Slot.{Slot}
+use Rattle.cmd_words.specs.declared.keys.InputKind.{InputKind}
 use Rattle.cmd_words.specs.Command.{Command, run}
 use Rattle.cmd_words.specs.Given.{Values, clock_of, save_of}
 use Rattle.cmd_words.specs.Keys.{keys}
@@ -27,7 +27,7 @@ use Rattle.cmd_ended.specs.Kept.{kept_verdict}
 -- named.
 pub record IsReferenceRun (plugs : List Plug) (ticks keep : ℕ) (out : List ℕ) (given : Values) (old new : World) (files : Files) : Type 0 where
   -- the bytes of the shelf's files with the given names
-  pub inputs : plans.Inputs Slot
+  pub inputs : plans.Inputs InputKind
   pub read : plans.read_all {C = Cause} files (files_of keys given) ≡ Ok inputs
   -- both machines at power-on from these bytes, with the given clock, the kinds of discs by their
   -- names, and the devices to plug as they were handed in

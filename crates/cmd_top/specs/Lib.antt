@@ -1,5 +1,5 @@
 pub mod Plans
 pub mod Commands
 pub mod Headline
-pub mod Heard
-pub mod Gone
+pub mod SoundFile
+pub mod ResumeAndFollow

@@ -2,7 +2,7 @@
 use Rattle.std.specs.Prelude.{List, None, Result}
 use Rattle.cmd_stages.specs.Plan.{Verdict, Plan}
 use Rattle.cmd_stages.specs.declared.stop.Refusal.{Refusal}
-use Rattle.cmd_words.specs.declared.keys.Slot.{Slot}
+use Rattle.cmd_words.specs.declared.keys.InputKind.{InputKind}
 use Rattle.cmd_words.specs.Command.{Command, check, asm, dis, replay, solo, run, resume, follow, gen, is_paired}
 use Rattle.cmd_words.specs.Given.{Values, at_of, counts_of, from_of, watch_of}
 use Rattle.cmd_words.specs.Reads.{reads}
@@ -38,5 +38,5 @@ after plugs (resume state ticks out keep given) i = session_after plugs ticks ke
 after plugs (follow side trace ticks out given) i = follow_after (setup_of given plugs) side ticks (choice_of given) out i
 after plugs (gen seed) i = gen_after seed
 
-abbrev pub plan : List Plug → Command → Plan Slot Ending Cause
+abbrev pub plan : List Plug → Command → Plan InputKind Ending Cause
 plan plugs c = record { reads = reads c; paired = is_paired c; after = λ list. after plugs c (inputs_of list) }

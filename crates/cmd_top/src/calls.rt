@@ -3,8 +3,8 @@ ghost use Rattle.std.specs.Prelude.{◌≡◌, ◌↔◌, None, IfSome, IfNone, 
 ghost use Rattle.cmd_stages.specs.Promise.{world, nobody};
 ghost use Rattle.cmd_top.specs.Commands.{EndsWith, command_of_words, if_unpaired};
 ghost use Rattle.cmd_top.specs.Headline.{Headline};
-ghost use Rattle.cmd_top.specs.Gone.{Gone};
-ghost use Rattle.cmd_top.specs.Heard.{Heard};
+ghost use Rattle.cmd_top.specs.ResumeAndFollow.{ResumeAndFollow};
+ghost use Rattle.cmd_top.specs.SoundFile.{SoundFile};
 
 use crate::road::{paired, single};
 use beeb_files::{Crew, Outlet, Shelf};
@@ -38,14 +38,14 @@ pub fn plain<S: Shelf, O: Outlet>(
     ensures sound { let devices = map ⟦<Box<dyn BusDevice + Send> as BusDevice>⟧.plug plugs.items in
         let old = world (S.shelf shelf.old) (O.outlet out.old) nobody in
         let new = world (S.shelf shelf.new) (O.outlet out.new) nobody in
-        result ≡ Status.Done → Heard devices (if_unpaired (command_of_words words.now)) old new }
+        result ≡ Status.Done → SoundFile devices (if_unpaired (command_of_words words.now)) old new }
     // The theorems of sessions and of listings. If `resume` ends with `Done`, the written files are
     // those of the reference run of the session's machines. If `follow` does, they are the listing
     // of the machine's replay, and the text with its numbers was said.
     ensures gone { let devices = map ⟦<Box<dyn BusDevice + Send> as BusDevice>⟧.plug plugs.items in
         let old = world (S.shelf shelf.old) (O.outlet out.old) nobody in
         let new = world (S.shelf shelf.new) (O.outlet out.new) nobody in
-        result ≡ Status.Done → Gone devices (if_unpaired (command_of_words words.now)) old new }
+        result ≡ Status.Done → ResumeAndFollow devices (if_unpaired (command_of_words words.now)) old new }
     // Otherwise the command is carried out, with the devices as they were handed in.
     ensures ran { let devices = map ⟦<Box<dyn BusDevice + Send> as BusDevice>⟧.plug plugs.items in
         let old = world (S.shelf shelf.old) (O.outlet out.old) nobody in
@@ -93,14 +93,14 @@ pub fn top<S: Shelf, O: Outlet, C: Crew, R: Threads + Wait + Sync>(
     ensures sound { let devices = map ⟦<Box<dyn BusDevice + Send> as BusDevice>⟧.plug plugs.items in
         let old = world (S.shelf shelf.old) (O.outlet out.old) (C.counts crew.old) in
         let new = world (S.shelf shelf.new) (O.outlet out.new) (C.counts crew.new) in
-        result ≡ Status.Done → Heard devices (command_of_words words.now) old new }
+        result ≡ Status.Done → SoundFile devices (command_of_words words.now) old new }
     // The theorems of sessions and of listings. If `resume` ends with `Done`, the written files are
     // those of the reference run of the session's machines. If `follow` does, they are the listing
     // of the machine's replay, and the text with its numbers was said.
     ensures gone { let devices = map ⟦<Box<dyn BusDevice + Send> as BusDevice>⟧.plug plugs.items in
         let old = world (S.shelf shelf.old) (O.outlet out.old) (C.counts crew.old) in
         let new = world (S.shelf shelf.new) (O.outlet out.new) (C.counts crew.new) in
-        result ≡ Status.Done → Gone devices (command_of_words words.now) old new }
+        result ≡ Status.Done → ResumeAndFollow devices (command_of_words words.now) old new }
     // Each command is carried out, `run` as `solo` with a crew. No clause names an order of the
     // steps of the two threads.
     ensures ran { let devices = map ⟦<Box<dyn BusDevice + Send> as BusDevice>⟧.plug plugs.items in

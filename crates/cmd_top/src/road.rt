@@ -12,7 +12,7 @@ use beeb_files::{Crew, Outlet, Shelf};
 use bus_plug::BusDevice;
 use cmd_stages::{Stop, read_all, stages_carry_out, write_outcome};
 use cmd_status::{Cause, Ending};
-use cmd_words::{Command, Slot};
+use cmd_words::{Command, InputKind};
 use std::alloc::Global;
 use std::sync::Wait;
 use std::thread::Threads;
@@ -31,7 +31,7 @@ pub(crate) fn single<S: Shelf, O: Outlet, D: BusDevice>(
         let new = world (S.shelf shelf.new) (O.outlet out.new) crew in
         CarriesOut (plan (map D.plug plugs.items) (seen_command command.entry)) old new result }
 {
-    stages_carry_out::<Slot, Ending, Cause>();
+    stages_carry_out::<InputKind, Ending, Cause>();
     let wants = command.reads(alloc)?;
     let inputs = read_all(alloc, shelf, &wants)?;
     let outcome = single_outcome(alloc, command, inputs, plugs)?;
@@ -54,7 +54,7 @@ pub(crate) fn paired<S: Shelf, O: Outlet, D: BusDevice + Send, C: Crew, R: Threa
         let new = world (S.shelf shelf.new) (O.outlet out.new) (C.counts crew.new) in
         CarriesOut (plan (map D.plug plugs.items) (seen_command command.entry)) old new result }
 {
-    stages_carry_out::<Slot, Ending, Cause>();
+    stages_carry_out::<InputKind, Ending, Cause>();
     let wants = command.reads(alloc)?;
     let inputs = read_all(alloc, shelf, &wants)?;
     let outcome = paired_outcome(rt, alloc, crew, command, inputs, plugs)?;

@@ -23,7 +23,7 @@ use cmd_session::session_outcome;
 use cmd_stages::{Refusal, Stop};
 use cmd_status::Cause;
 use cmd_tools::{asm_outcome, check_outcome, dis_outcome};
-use cmd_words::{Command, Given, Slot};
+use cmd_words::{Command, Given, InputKind};
 use follow::Choice;
 use std::alloc::Global;
 use std::sync::Wait;
@@ -47,7 +47,7 @@ fn choice_of(given: &Given<'_>) -> Choice
 pub(crate) fn single_outcome<'a, D: BusDevice>(
     alloc: Global,
     command: Command<'a>,
-    inputs: Vec<(Slot, Vec<u8>)>,
+    inputs: Vec<(InputKind, Vec<u8>)>,
     plugs: Vec<D>,
 ) -> Result<Outcome<'a, D>, Refusal<Cause>>
     requires within { IsWithin (seen_command command) }
@@ -119,7 +119,7 @@ pub(crate) fn paired_outcome<'a, D: BusDevice + Send, C: Crew, R: Threads + Wait
     alloc: Global,
     crew: &mut C,
     command: Command<'a>,
-    inputs: Vec<(Slot, Vec<u8>)>,
+    inputs: Vec<(InputKind, Vec<u8>)>,
     plugs: Vec<D>,
 ) -> Result<Outcome<'a, D>, Stop<Cause>>
     requires within { IsWithin (seen_command command) }

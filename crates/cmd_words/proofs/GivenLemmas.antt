@@ -3,7 +3,7 @@ use Rattle.std.proofs.Common.{◌≡◌, ◌∙◌, sym, ap, ℕ, ◌+◌, ◌<�
 use Rattle.std.proofs.Common.{Option, Some, None, string_bytes, true, false, ◌≤◌, append_assoc, append-nil}
 use Rattle.std.specs.Option.{is_none, is_some, option_copied}
 use Rattle.std.specs.Borrow.{Bor}
-use Rattle.cmd_words.specs.declared.keys.Slot.{Slot}
+use Rattle.cmd_words.specs.declared.keys.InputKind.{InputKind}
 use Rattle.cmd_words.specs.declared.keys.TheConstants.{COUNT}
 use Rattle.cmd_words.specs.Keys.{keys, key_at}
 use Rattle.cmd_words.specs.Reads.{file_of, files_of}
@@ -25,12 +25,12 @@ pub places_set : (words : List (String Global)) (places : List (Option ℕ)) (pl
 places_set words places place at h = map-set (value_of words) places place (Some at) ∙ ap (λ v. slice_set (map (value_of words) places) place v) (word_there words at h)
 
 -- the files from a key on
-pub files_more : (ws more : List (Slot × List ℕ × ℕ)) (i : ℕ) (values : Values) → i < COUNT → length values ≡ COUNT → more ≡ ws ++ file_of (key_at i).value (value_at values i) →
+pub files_more : (ws more : List (InputKind × List ℕ × ℕ)) (i : ℕ) (values : Values) → i < COUNT → length values ≡ COUNT → more ≡ ws ++ file_of (key_at i).value (value_at values i) →
     more ++ files_of (drop (i + 1) keys) (drop (i + 1) values) ≡ ws ++ files_of (drop i keys) (drop i values)
 files_more ws more i values h len is =
     rw (is, append_assoc, key_split i h, drop_more values i None (rw len h))
 
-pub files_end : (ws : List (Slot × List ℕ × ℕ)) (i : ℕ) (values : Values) → COUNT ≤ i → ws ++ files_of (drop i keys) (drop i values) ≡ ws
+pub files_end : (ws : List (InputKind × List ℕ × ℕ)) (i : ℕ) (values : Values) → COUNT ≤ i → ws ++ files_of (drop i keys) (drop i values) ≡ ws
 files_end ws i values h = rw (no_keys i h) (append-nil ws)
 
 pub word_read : (words : List (String Global)) (at : ℕ) (d : String Global) → at < length words → string_bytes (slice_index_or words at d) ≡ word_at words at

@@ -1,5 +1,5 @@
 pub mod KeyLemmas
 pub mod GivenLemmas
-pub mod SlotLemmas
+pub mod InputKindLemmas
 pub mod OrderLemmas
 pub mod PlaceLemmas

@@ -4,7 +4,7 @@ use Rattle.std.specs.Prelude.{option_and_then}
 use Rattle.std.proofs.lemmas.List.{set_comm, get_or-set_same, get_or-set_other, set_past}
 use Rattle.std.proofs.lemmas.Bool.{cases_eq, cases_lt}
 use Rattle.std.specs.Option.{is_none}
-use Rattle.cmd_words.specs.declared.keys.Taker.{Taker}
+use Rattle.cmd_words.specs.declared.keys.CommandKind.{CommandKind}
 use Rattle.cmd_words.specs.Keys.{fits, place_of}
 use Rattle.cmd_words.specs.Given.{Values, value_at, put_at, put_option, put_options}
 use Rattle.cmd_words.specs.Order.{AreOrderFree}
@@ -20,13 +20,13 @@ at_places t u v w m n values =
     let same = cases_eq m n in
     grind (arith, get_or-set_same {A = Option (List ℕ)}, get_or-set_other {A = Option (List ℕ)}, set_comm {A = Option (List ℕ)}, set_past {X = Option (List ℕ)})
 
-swapped : (taker : Taker) (v w : List ℕ) (i j : Option ℕ) (values : Values) →
-    option_and_then (λ (vs : Values). option_and_then (put_at taker w vs) j) (option_and_then (put_at taker v values) i)
-    ≡ option_and_then (λ (vs : Values). option_and_then (put_at taker v vs) i) (option_and_then (put_at taker w values) j)
-swapped taker v w None None values = refl
-swapped taker v w None (Some n) values = grind arith
-swapped taker v w (Some m) None values = grind arith
-swapped taker v w (Some m) (Some n) values = at_places (fits taker m v) (fits taker n w) v w m n values
+swapped : (command_kind : CommandKind) (v w : List ℕ) (i j : Option ℕ) (values : Values) →
+    option_and_then (λ (vs : Values). option_and_then (put_at command_kind w vs) j) (option_and_then (put_at command_kind v values) i)
+    ≡ option_and_then (λ (vs : Values). option_and_then (put_at command_kind v vs) i) (option_and_then (put_at command_kind w values) j)
+swapped command_kind v w None None values = refl
+swapped command_kind v w None (Some n) values = grind arith
+swapped command_kind v w (Some m) None values = grind arith
+swapped command_kind v w (Some m) (Some n) values = at_places (fits command_kind m v) (fits command_kind n w) v w m n values
 
 after_both : (o : Option Values) (h k : Values → Option Values) → option_and_then (λ (vs : Values). option_and_then k (h vs)) o ≡ option_and_then k (option_and_then h o)
 after_both None h k = refl
@@ -37,8 +37,8 @@ under None f g same = refl
 under (Some vs) f g same = same vs
 
 pub order_free : AreOrderFree
-order_free taker [] back a b values =
-    after_both (put_option taker a values) (put_option taker b) (put_options taker back)
-    ∙ ap (λ (o : Option Values). option_and_then (put_options taker back) o) (swapped taker a.1 b.1 (place_of a.0) (place_of b.0) values)
-    ∙ sym (after_both (put_option taker b values) (put_option taker a) (put_options taker back))
-order_free taker (o ∷ front) back a b values = under (put_option taker o values) _ _ (λ vs. order_free taker front back a b vs)
+order_free command_kind [] back a b values =
+    after_both (put_option command_kind a values) (put_option command_kind b) (put_options command_kind back)
+    ∙ ap (λ (o : Option Values). option_and_then (put_options command_kind back) o) (swapped command_kind a.1 b.1 (place_of a.0) (place_of b.0) values)
+    ∙ sym (after_both (put_option command_kind b values) (put_option command_kind a) (put_options command_kind back))
+order_free command_kind (o ∷ front) back a b values = under (put_option command_kind o values) _ _ (λ vs. order_free command_kind front back a b vs)

@@ -1,7 +1,7 @@
 -- An option may move over words in which each key has its value.
 use Rattle.std.proofs.Common.{◌≡◌, ◌∙◌, refl, ℕ, List, [], ◌∷◌, ◌++◌, Option, Some, None, Bool, true, false, codes, append_assoc, arith}
 use Rattle.std.specs.Prelude.{is_some}
-use Rattle.cmd_words.specs.declared.keys.Taker.{Taker}
+use Rattle.cmd_words.specs.declared.keys.CommandKind.{CommandKind}
 use Rattle.cmd_words.specs.Alone.{is_flag, takes_value, alone}
 use Rattle.cmd_words.specs.Given.{Values, no_values, options, is_closed, put_options, closed_options, options_of}
 use Rattle.cmd_words.specs.Words.{command, sided_by, sided_with, both_by, both_with, resume_by, resume_with}
@@ -44,18 +44,18 @@ flag_option flag is = record { alone_in = λ rest. rw is; closed_in = λ rest. r
 
 -- ---- one option moves over others
 
-put_moved : (taker : Taker) (o : List ℕ × List ℕ) (front over back : List (List ℕ × List ℕ)) (values : Values) →
-    put_options taker (front ++ o ∷ (over ++ back)) values ≡ put_options taker (front ++ (over ++ o ∷ back)) values
-put_moved taker o front [] back values = refl
-put_moved taker o front (p ∷ over) back values =
-    order_free taker front (over ++ back) o p values ∙ simp append_assoc at (put_moved taker o (front ++ p ∷ []) over back values)
+put_moved : (command_kind : CommandKind) (o : List ℕ × List ℕ) (front over back : List (List ℕ × List ℕ)) (values : Values) →
+    put_options command_kind (front ++ o ∷ (over ++ back)) values ≡ put_options command_kind (front ++ (over ++ o ∷ back)) values
+put_moved command_kind o front [] back values = refl
+put_moved command_kind o front (p ∷ over) back values =
+    order_free command_kind front (over ++ back) o p values ∙ simp append_assoc at (put_moved command_kind o (front ++ p ∷ []) over back values)
 
 -- ---- whole lists of words
 
 -- these words are equal for a command that takes options
 record AreLike (before after : List (List ℕ)) : Type 0 where
   alone_same : alone false before ≡ alone false after
-  options_same : (taker : Taker) → options_of taker before ≡ options_of taker after
+  options_same : (command_kind : CommandKind) → options_of command_kind before ≡ options_of command_kind after
 
 -- an option moves over words in which each key has its value
 are_like : (words : List (List ℕ)) (o : List ℕ × List ℕ) (front over back : List (List ℕ)) → IsOption words o → is_closed false front ≡ true →
@@ -63,8 +63,8 @@ are_like : (words : List (List ℕ)) (o : List ℕ × List ℕ) (front over back
 unfolding options_of closed_options
 are_like words o front over back option one closed = record {
   alone_same = simp (alone_parts, option.alone_in);
-  options_same = λ taker. simp (closed_parts, options_parts, option.closed_in, option.options_in)
-      (rw (put_moved taker o (options None front) (options None over) (options None back) no_values));
+  options_same = λ command_kind. simp (closed_parts, options_parts, option.closed_in, option.options_in)
+      (rw (put_moved command_kind o (options None front) (options None over) (options None back) no_values));
 }
 
 -- a command with the same result for such words

@@ -3,8 +3,8 @@ use Rattle.std.specs.Prelude.{ℕ, ◌&&◌, Bool, true, false, not, List, [], �
 use Rattle.std.specs.Str.{bytes_eq}
 use Rattle.beeb_bits.specs.declared.clock.Clock.{Clock}
 use Rattle.beeb_bits.specs.declared.clock.Clock.TheVariants.{Three, Four}
-use Rattle.cmd_words.specs.declared.keys.Taker.{Taker}
-use Rattle.cmd_words.specs.declared.keys.Taker.TheVariants.{ReplayHost, ReplayPara, Solo, Run, Resume, FollowHost, FollowPara}
+use Rattle.cmd_words.specs.declared.keys.CommandKind.{CommandKind}
+use Rattle.cmd_words.specs.declared.keys.CommandKind.TheVariants.{ReplayHost, ReplayPara, Solo, Run, Resume, FollowHost, FollowPara}
 use Rattle.cmd_words.specs.Alone.{is_flag, takes_value}
 use Rattle.cmd_words.specs.Keys.{Key, keys, place_of, fits, address_of}
 use Rattle.digits.specs.Decimal.{decimal_number}
@@ -38,18 +38,18 @@ abbrev pub value_of : Values → List ℕ → Option (List ℕ)
 value_of values word = option_and_then (value_at values) (place_of word)
 
 -- a value put in its place, if that is empty and the value fits
-abbrev pub put_at : Taker → List ℕ → Values → ℕ → Option Values
-put_at taker value values place =
-    if fits taker place value && is_none (value_at values place) then Some (slice_set values place (Some value)) else None
+abbrev pub put_at : CommandKind → List ℕ → Values → ℕ → Option Values
+put_at command_kind value values place =
+    if fits command_kind place value && is_none (value_at values place) then Some (slice_set values place (Some value)) else None
 
 -- one more option, its value put in the place of its key
-abbrev pub put_option : Taker → List ℕ × List ℕ → Values → Option Values
-put_option taker o values = option_and_then (put_at taker o.1 values) (place_of o.0)
+abbrev pub put_option : CommandKind → List ℕ × List ℕ → Values → Option Values
+put_option command_kind o values = option_and_then (put_at command_kind o.1 values) (place_of o.0)
 
 -- the values after the options were put in their places
-abbrev pub put_options : Taker → List (List ℕ × List ℕ) → Values → Option Values
-put_options taker [] values = Some values
-put_options taker (o ∷ os) values = option_and_then (put_options taker os) (put_option taker o values)
+abbrev pub put_options : CommandKind → List (List ℕ × List ℕ) → Values → Option Values
+put_options command_kind [] values = Some values
+put_options command_kind (o ∷ os) values = option_and_then (put_options command_kind os) (put_option command_kind o values)
 
 -- the number of accesses to keep, by the value of its key
 abbrev pub keep_in : Option (List ℕ) → ℕ
@@ -119,7 +119,7 @@ has_tube values = is_some (value_of values (codes "--tube"))
 
 -- The machines of a command have their image: the host `--os`, the second processor `--tube`. Those
 -- of `resume` have it in the session file.
-abbrev pub has_images : Taker → Values → Bool
+abbrev pub has_images : CommandKind → Values → Bool
 has_images ReplayHost values = has_os values
 has_images ReplayPara values = has_tube values
 has_images Solo values = has_os values && has_tube values
@@ -132,13 +132,13 @@ has_images FollowPara values = has_tube values
 abbrev pub has_both : Values → Bool
 has_both values = is_some (value_of values (codes "--at")) && is_some (value_of values (codes "--points"))
 
-abbrev pub if_images : Taker → Values → Option Values
-if_images taker values = if has_images taker values && not (has_both values) then Some values else None
+abbrev pub if_images : CommandKind → Values → Option Values
+if_images command_kind values = if has_images command_kind values && not (has_both values) then Some values else None
 
 -- the options among the words, if each key has its value
-unfoldable pub closed_options : Taker → List (List ℕ) → Option Values
-closed_options taker words = if is_closed false words then put_options taker (options None words) no_values else None
+unfoldable pub closed_options : CommandKind → List (List ℕ) → Option Values
+closed_options command_kind words = if is_closed false words then put_options command_kind (options None words) no_values else None
 
 -- the options among the words, if the command accepts them
-unfoldable pub options_of : Taker → List (List ℕ) → Option Values
-options_of taker words = option_and_then (if_images taker) (closed_options taker words)
+unfoldable pub options_of : CommandKind → List (List ℕ) → Option Values
+options_of command_kind words = option_and_then (if_images command_kind) (closed_options command_kind words)

@@ -2,11 +2,11 @@
 use Rattle.std.specs.Prelude.{ℕ, ◌+◌, ◌&&◌, ◌==◌, nat_le, Bool, true, false, List, [], ◌∷◌, length, Option, Some, None, option_map, slice_index_or, if◌then◌else◌, codes}
 use Rattle.std.specs.List.{list_all}
 use Rattle.std.specs.Str.{bytes_eq}
-use Rattle.cmd_words.specs.declared.keys.Slot.{Slot}
-use Rattle.cmd_words.specs.declared.keys.Slot.TheVariants.{Os, Tube, Rom, Font, Disc, Keys, Points}
-use Rattle.cmd_words.specs.declared.keys.Taker.{Taker}
-use Rattle.cmd_words.specs.declared.keys.Taker.TheVariants.{ReplayHost, ReplayPara, Solo, Run, Resume, FollowHost, FollowPara}
-use Rattle.cmd_words.specs.declared.keys.Takers.{Takers}
+use Rattle.cmd_words.specs.declared.keys.InputKind.{InputKind}
+use Rattle.cmd_words.specs.declared.keys.InputKind.TheVariants.{Os, Tube, Rom, Font, Disc, Keys, Points}
+use Rattle.cmd_words.specs.declared.keys.CommandKind.{CommandKind}
+use Rattle.cmd_words.specs.declared.keys.CommandKind.TheVariants.{ReplayHost, ReplayPara, Solo, Run, Resume, FollowHost, FollowPara}
+use Rattle.cmd_words.specs.declared.keys.CommandSet.{CommandSet}
 use Rattle.cmd_words.specs.Alone.{is_name}
 use Rattle.digits.specs.Decimal.{decimal_number}
 use Rattle.digits.specs.Hexadecimal.{hex_number, is_hex}
@@ -14,7 +14,7 @@ use Rattle.digits.specs.Hexadecimal.{hex_number, is_hex}
 -- the kind of an option's value
 pub data Value : Type 0 where
   -- the name of a file that is read
-  file : (slot : Slot) → Value
+  file : (slot : InputKind) → Value
   -- the name of an output
   output : Value
   -- a decimal number from least to most
@@ -27,38 +27,38 @@ pub data Value : Type 0 where
 -- a key: its word, the commands that take it, and the kind of its value
 pub record Key : Type 0 where
   pub word : List ℕ
-  pub takers : Takers
+  pub command_set : CommandSet
   pub value : Value
 
-abbrev pub key : List ℕ → Takers → Value → Key
-key word takers value = record { word = word; takers = takers; value = value }
+abbrev pub key : List ℕ → CommandSet → Value → Key
+key word command_set value = record { word = word; command_set = command_set; value = value }
 
 -- the commands that make a host from the options
-abbrev pub hosts : Takers
+abbrev pub hosts : CommandSet
 hosts = record { replay_host = true; replay_para = false; solo = true; run = true; resume = false; follow_host = true; follow_para = false }
 
 -- the commands that make a second processor from the options
-abbrev pub paras : Takers
+abbrev pub paras : CommandSet
 paras = record { replay_host = false; replay_para = true; solo = true; run = true; resume = false; follow_host = false; follow_para = true }
 
 -- the commands that make a host or a second processor from the options
-abbrev pub machines : Takers
+abbrev pub machines : CommandSet
 machines = record { replay_host = true; replay_para = true; solo = true; run = true; resume = false; follow_host = true; follow_para = true }
 
 -- the commands that run both machines, from the options or from a session file
-abbrev pub runs : Takers
+abbrev pub runs : CommandSet
 runs = record { replay_host = false; replay_para = false; solo = true; run = true; resume = true; follow_host = false; follow_para = false }
 
 -- the commands with a host in their final state
-abbrev pub heard : Takers
+abbrev pub heard : CommandSet
 heard = record { replay_host = true; replay_para = false; solo = true; run = true; resume = true; follow_host = false; follow_para = false }
 
 -- the commands that list instructions
-abbrev pub lists : Takers
+abbrev pub lists : CommandSet
 lists = record { replay_host = false; replay_para = false; solo = false; run = false; resume = false; follow_host = true; follow_para = true }
 
 -- the commands that run only a host
-abbrev pub host_alone : Takers
+abbrev pub host_alone : CommandSet
 host_alone = record { replay_host = true; replay_para = false; solo = false; run = false; resume = false; follow_host = true; follow_para = false }
 
 -- The keys. The keys of files are in the order of reading.
@@ -100,12 +100,12 @@ keys =
     ∷ []
 
 -- no commands
-abbrev pub no_takers : Takers
-no_takers = record { replay_host = false; replay_para = false; solo = false; run = false; resume = false; follow_host = false; follow_para = false }
+abbrev pub no_command_kinds : CommandSet
+no_command_kinds = record { replay_host = false; replay_para = false; solo = false; run = false; resume = false; follow_host = false; follow_para = false }
 
 -- the entry past the last key
 abbrev pub no_key : Key
-no_key = key [] no_takers output
+no_key = key [] no_command_kinds output
 
 abbrev pub key_at : ℕ → Key
 key_at place = slice_index_or keys place no_key
@@ -120,14 +120,14 @@ abbrev pub place_of : List ℕ → Option ℕ
 place_of word = place_in keys word
 
 -- true if the command is among those that take an option
-abbrev pub takes : Taker → Takers → Bool
-takes ReplayHost takers = takers.replay_host
-takes ReplayPara takers = takers.replay_para
-takes Solo takers = takers.solo
-takes Run takers = takers.run
-takes Resume takers = takers.resume
-takes FollowHost takers = takers.follow_host
-takes FollowPara takers = takers.follow_para
+abbrev pub takes : CommandKind → CommandSet → Bool
+takes ReplayHost command_set = command_set.replay_host
+takes ReplayPara command_set = command_set.replay_para
+takes Solo command_set = command_set.solo
+takes Run command_set = command_set.run
+takes Resume command_set = command_set.resume
+takes FollowHost command_set = command_set.follow_host
+takes FollowPara command_set = command_set.follow_para
 
 -- true if a number was read and is at least least
 abbrev pub is_from : ℕ → Option ℕ → Bool
@@ -155,5 +155,5 @@ is_value (one_of words) word = is_among words word
 is_value four_digits word = is_four_digits word
 
 -- true if the command takes the key at a place, and with this value
-abbrev pub fits : Taker → ℕ → List ℕ → Bool
-fits taker place value = takes taker (key_at place).takers && is_value (key_at place).value value
+abbrev pub fits : CommandKind → ℕ → List ℕ → Bool
+fits command_kind place value = takes command_kind (key_at place).command_set && is_value (key_at place).value value

@@ -1,30 +1,30 @@
 -- The files that a command reads.
 use Rattle.std.specs.Prelude.{ℕ, ◌+◌, ◌≤◌, ◌&&◌, nat_le, nat_lt, Bool, true, IsTrue, List, [], ◌∷◌, ◌++◌, map, Option, Some, None}
 use Rattle.std.specs.List.{filter_map}
-use Rattle.cmd_words.specs.declared.keys.Slot.{Slot}
-use Rattle.cmd_words.specs.declared.keys.Slot.TheVariants.{Trace, Source, Image, State, Rom, Points}
+use Rattle.cmd_words.specs.declared.keys.InputKind.{InputKind}
+use Rattle.cmd_words.specs.declared.keys.InputKind.TheVariants.{Trace, Source, Image, State, Rom, Points}
 use Rattle.cmd_words.specs.Keys.{Value, file, Key, keys}
 use Rattle.cmd_words.specs.Given.{Values}
 use Rattle.cmd_words.specs.Command.{Command, check, asm, dis, replay, solo, run, resume, follow, gen, ticks_of, keep_of}
 
 -- the most bytes of a file that an option names
-abbrev pub cap_of : Slot → ℕ
+abbrev pub cap_of : InputKind → ℕ
 cap_of Points = 327680
 cap_of slot = 1048576
 
 -- the file that an option names
-abbrev pub file_of : Value → Option (List ℕ) → List (Slot × List ℕ × ℕ)
+abbrev pub file_of : Value → Option (List ℕ) → List (InputKind × List ℕ × ℕ)
 file_of (file slot) (Some name) = (slot, name, cap_of slot) ∷ []
 file_of value given = []
 
 -- the files that the options name, in the order of their keys
-abbrev pub files_of : List Key → Values → List (Slot × List ℕ × ℕ)
+abbrev pub files_of : List Key → Values → List (InputKind × List ℕ × ℕ)
 files_of [] values = []
 files_of (k ∷ ks) [] = []
 files_of (k ∷ ks) (v ∷ vs) = file_of k.value v ++ files_of ks vs
 
 -- The files that a command reads, in order: the slot, the name and the largest size of each.
-abbrev pub reads : Command → List (Slot × List ℕ × ℕ)
+abbrev pub reads : Command → List (InputKind × List ℕ × ℕ)
 reads (check trace) = (Trace, trace, 100663296) ∷ []
 reads (asm part source out) = (Source, source, 4194304) ∷ []
 reads (dis part image origin out) = (Image, image, 1048576) ∷ []
@@ -36,7 +36,7 @@ reads (follow side trace ticks out given) = (Trace, trace, 100663296) ∷ files_
 reads (gen seed) = []
 
 -- the number of a paged ROM's slot
-abbrev pub rom_slot : Slot → Option ℕ
+abbrev pub rom_slot : InputKind → Option ℕ
 rom_slot (Rom number) = Some number
 rom_slot slot = None
 
@@ -50,7 +50,7 @@ rise_from low [] = true
 rise_from low (n ∷ ns) = nat_le low n && nat_lt n 16 && rise_from (n + 1) ns
 
 -- the paged ROMs among the files have different slots below 16
-abbrev pub HaveRomSlots : List Slot → Type 0
+abbrev pub HaveRomSlots : List InputKind → Type 0
 HaveRomSlots slots = IsTrue (rise_from 0 (filter_map rom_slot slots))
 
 -- the numbers of a command and its ROM slots are within their limits

@@ -11,7 +11,7 @@ use Rattle.cmd_words.specs.declared.keys.Value.{Value}
 use Rattle.cmd_words.specs.declared.keys.Value.TheVariants.{File, Output, Number, OneOf, FourDigits}
 use Rattle.cmd_words.specs.declared.words.Both.{Both}
 use Rattle.cmd_words.specs.declared.words.Sided.{Sided}
-use Rattle.cmd_words.specs.declared.keys.Slot.{Slot}
+use Rattle.cmd_words.specs.declared.keys.InputKind.{InputKind}
 use Rattle.cmd_words.specs.Command as commands
 use Rattle.cmd_words.specs.Given.{Values}
 use Rattle.cmd_words.specs.Keys as keys
@@ -52,10 +52,10 @@ seen_value (OneOf words) = keys.one_of (map seen_word words.now)
 seen_value FourDigits = keys.four_digits
 
 abbrev pub seen_key : Key → keys.Key
-seen_key k = keys.key k.word.now k.takers (seen_value k.value)
+seen_key k = keys.key k.word.now k.command_set (seen_value k.value)
 
 -- the slot of a file, its name and its largest size
-abbrev pub seen_want : Slot × Bor (List ℕ) × ℕ → Slot × List ℕ × ℕ
+abbrev pub seen_want : InputKind × Bor (List ℕ) × ℕ → InputKind × List ℕ × ℕ
 seen_want w = (w.0, w.1.now, w.2)
 
 abbrev pub seen_sided : Sided → words.Sided

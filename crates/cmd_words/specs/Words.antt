@@ -5,8 +5,8 @@ use Rattle.op_table.specs.declared.Part.{Part}
 use Rattle.op_table.specs.declared.Part.TheVariants.{Nmos, Cmos}
 use Rattle.beeb_bits.specs.declared.Side.{Side}
 use Rattle.beeb_bits.specs.declared.Side.TheVariants.{Host, Para}
-use Rattle.cmd_words.specs.declared.keys.Taker.{Taker}
-use Rattle.cmd_words.specs.declared.keys.Taker.TheVariants as takers
+use Rattle.cmd_words.specs.declared.keys.CommandKind.{CommandKind}
+use Rattle.cmd_words.specs.declared.keys.CommandKind.TheVariants as command_set
 use Rattle.cmd_words.specs.Keys.{address_of}
 use Rattle.cmd_words.specs.Command.{Command, check, asm, dis, replay, solo, run, resume, follow, gen}
 use Rattle.cmd_words.specs.Alone.{is_name, alone, two, three, four}
@@ -45,7 +45,7 @@ abbrev pub side_of : List ℕ → Option Side
 side_of word = if bytes_eq word (codes "host") then Some Host else if bytes_eq word (codes "para") then Some Para else None
 
 -- host or para, by the side
-abbrev pub by_side : Taker → Taker → Side → Taker
+abbrev pub by_side : CommandKind → CommandKind → Side → CommandKind
 by_side host para Host = host
 by_side host para Para = para
 
@@ -61,29 +61,29 @@ pub record Sided : Type 0 where
 abbrev pub sided_given : Side → List ℕ → ℕ → List ℕ → Values → Sided
 sided_given side trace ticks out given = record { side = side; trace = trace; ticks = ticks; out = out; given = given }
 
-abbrev pub sided_with : Taker → Taker → List ℕ → List ℕ → List (List ℕ) → Side → ℕ → Option Sided
+abbrev pub sided_with : CommandKind → CommandKind → List ℕ → List ℕ → List (List ℕ) → Side → ℕ → Option Sided
 sided_with host para trace out words side ticks =
     if is_name trace && is_name out then option_map (sided_given side trace ticks out) (options_of (by_side host para side) words) else None
 
 -- SIDE TRACE TICKS OUT
-abbrev pub sided_by : Taker → Taker → List (List ℕ) → List ℕ × List ℕ × List ℕ × List ℕ → Option Sided
+abbrev pub sided_by : CommandKind → CommandKind → List (List ℕ) → List ℕ × List ℕ × List ℕ × List ℕ → Option Sided
 sided_by host para words w =
     option_and_then (λ side. option_and_then (sided_with host para w.1 w.3 words side) (decimal_number 1073741824 w.2)) (side_of w.0)
 
 -- SIDE TRACE TICKS OUT, with options in any place among them; the side chooses the command host or
 -- para
-abbrev pub sided_words : Taker → Taker → List (List ℕ) → Option Sided
+abbrev pub sided_words : CommandKind → CommandKind → List (List ℕ) → Option Sided
 sided_words host para words = option_and_then (sided_by host para words) (four (alone false words))
 
 -- the words after `replay`
 abbrev pub replay_words : List (List ℕ) → Option Command
 replay_words words =
-    option_map (λ (s : Sided). replay s.side s.trace s.ticks s.out s.given) (sided_words takers.ReplayHost takers.ReplayPara words)
+    option_map (λ (s : Sided). replay s.side s.trace s.ticks s.out s.given) (sided_words command_set.ReplayHost command_set.ReplayPara words)
 
 -- the words after `follow`
 abbrev pub follow_words : List (List ℕ) → Option Command
 follow_words words =
-    option_map (λ (s : Sided). follow s.side s.trace s.ticks s.out s.given) (sided_words takers.FollowHost takers.FollowPara words)
+    option_map (λ (s : Sided). follow s.side s.trace s.ticks s.out s.given) (sided_words command_set.FollowHost command_set.FollowPara words)
 
 -- the arguments of `solo` and `run`: the ticks, the name of the outputs, the number of accesses to
 -- keep, and the options
@@ -96,22 +96,22 @@ pub record Both : Type 0 where
 abbrev pub both_given : ℕ → List ℕ → Values → Both
 both_given ticks out given = record { ticks = ticks; out = out; keep = keep_of given; given = given }
 
-abbrev pub both_with : Taker → List ℕ → List (List ℕ) → ℕ → Option Both
-both_with taker out words ticks = if is_name out then option_map (both_given ticks out) (options_of taker words) else None
+abbrev pub both_with : CommandKind → List ℕ → List (List ℕ) → ℕ → Option Both
+both_with command_kind out words ticks = if is_name out then option_map (both_given ticks out) (options_of command_kind words) else None
 
 -- TICKS OUT
-abbrev pub both_by : Taker → List (List ℕ) → List ℕ × List ℕ → Option Both
-both_by taker words w = option_and_then (both_with taker w.1 words) (decimal_number 1073741824 w.0)
+abbrev pub both_by : CommandKind → List (List ℕ) → List ℕ × List ℕ → Option Both
+both_by command_kind words w = option_and_then (both_with command_kind w.1 words) (decimal_number 1073741824 w.0)
 
 -- the words after `solo` and `run`: TICKS OUT, with options in any place among them
-abbrev pub both_words : Taker → List (List ℕ) → Option Both
-both_words taker words = option_and_then (both_by taker words) (two (alone false words))
+abbrev pub both_words : CommandKind → List (List ℕ) → Option Both
+both_words command_kind words = option_and_then (both_by command_kind words) (two (alone false words))
 
 abbrev pub solo_words : List (List ℕ) → Option Command
-solo_words words = option_map (λ (b : Both). solo b.ticks b.out b.keep b.given) (both_words takers.Solo words)
+solo_words words = option_map (λ (b : Both). solo b.ticks b.out b.keep b.given) (both_words command_set.Solo words)
 
 abbrev pub run_words : List (List ℕ) → Option Command
-run_words words = option_map (λ (b : Both). run b.ticks b.out b.keep b.given) (both_words takers.Run words)
+run_words words = option_map (λ (b : Both). run b.ticks b.out b.keep b.given) (both_words command_set.Run words)
 
 -- the command that resumes a session
 abbrev pub resume_given : List ℕ → ℕ → List ℕ → Values → Command
@@ -119,7 +119,7 @@ resume_given state ticks out given = resume state ticks out (keep_of given) give
 
 abbrev pub resume_with : List ℕ → List ℕ → List (List ℕ) → ℕ → Option Command
 resume_with state out words ticks =
-    if is_name state && is_name out then option_map (resume_given state ticks out) (options_of takers.Resume words) else None
+    if is_name state && is_name out then option_map (resume_given state ticks out) (options_of command_set.Resume words) else None
 
 -- STATE TICKS OUT
 abbrev pub resume_by : List (List ℕ) → List ℕ × List ℕ × List ℕ → Option Command

@@ -6,7 +6,7 @@ ghost use Rattle.cmd_words.specs.View.{seen_command, seen_given, seen_value, see
 
 use crate::command::Command;
 use crate::given::Given;
-use crate::keys::{COUNT, Slot, Value, kind_of};
+use crate::keys::{COUNT, InputKind, Value, kind_of};
 use std::alloc::{AllocError, Global};
 
 /// The most bytes of a trace's file.
@@ -25,7 +25,7 @@ const POINTS_CAP: u64 = 327_680;
 const FILE_CAP: u64 = 1_048_576;
 
 /// The slot of a file, its name, and the most bytes that it may have.
-type Want<'a> = (Slot, &'a str, u64);
+type Want<'a> = (InputKind, &'a str, u64);
 
 // Makes a list of one file.
 fn one<'a>(alloc: Global, want: Want<'a>) -> Result<Vec<Want<'a>>, AllocError>
@@ -37,11 +37,11 @@ fn one<'a>(alloc: Global, want: Want<'a>) -> Result<Vec<Want<'a>>, AllocError>
 }
 
 // Returns the most bytes of a file that an option names.
-fn cap_of(slot: Slot) -> u64
+fn cap_of(slot: InputKind) -> u64
     ensures { result ≡ cap_of slot }
 {
     match slot {
-        Slot::Points => POINTS_CAP,
+        InputKind::Points => POINTS_CAP,
         _ => FILE_CAP,
     }
 }
@@ -84,20 +84,20 @@ fn with_options<'a>(files: Vec<Want<'a>>, given: Given<'a>) -> Result<Vec<Want<'
 impl<'a> Command<'a> {
     /// Returns the files that the command reads, in order: the slot, the name and the largest size
     /// of each.
-    pub fn reads(&self, alloc: Global) -> Result<Vec<(Slot, &'a str, u64)>, AllocError>
+    pub fn reads(&self, alloc: Global) -> Result<Vec<(InputKind, &'a str, u64)>, AllocError>
         ensures { IfOk result (λ v. map seen_want v.items ≡ reads (seen_command self.now)) }
     {
         match self {
-            Command::Check { trace } => one(alloc, (Slot::Trace, *trace, TRACE_CAP)),
-            Command::Asm { source, .. } => one(alloc, (Slot::Source, *source, SOURCE_CAP)),
-            Command::Dis { image, .. } => one(alloc, (Slot::Image, *image, FILE_CAP)),
+            Command::Check { trace } => one(alloc, (InputKind::Trace, *trace, TRACE_CAP)),
+            Command::Asm { source, .. } => one(alloc, (InputKind::Source, *source, SOURCE_CAP)),
+            Command::Dis { image, .. } => one(alloc, (InputKind::Image, *image, FILE_CAP)),
             Command::Replay { trace, given, .. } | Command::Follow { trace, given, .. } => {
-                with_options(one(alloc, (Slot::Trace, *trace, TRACE_CAP))?, *given)
+                with_options(one(alloc, (InputKind::Trace, *trace, TRACE_CAP))?, *given)
             }
             Command::Solo { given, .. } | Command::Run { given, .. } => {
                 with_options(Vec::new(alloc), *given)
             }
-            Command::Resume { state, .. } => one(alloc, (Slot::State, *state, STATE_CAP)),
+            Command::Resume { state, .. } => one(alloc, (InputKind::State, *state, STATE_CAP)),
             Command::Gen { .. } => Ok(Vec::new(alloc)),
         }
     }

@@ -8,7 +8,7 @@ ghost use Rattle.cmd_words.specs.Keys.{address_of};
 ghost use Rattle.cmd_words.specs.View.{seen_given, word_at};
 
 use crate::alone::{is_flag, takes_value};
-use crate::keys::{COUNT, MOST_KEEP, MOST_TICKS, Taker, address_of, fits, place_of};
+use crate::keys::{COUNT, MOST_KEEP, MOST_TICKS, CommandKind, address_of, fits, place_of};
 use beeb_bits::Clock;
 use digits::decimal_number;
 
@@ -205,28 +205,28 @@ impl<'a> Given<'a> {
     }
 
     // Returns true if the machines of a command have their image.
-    fn has_images(&self, taker: Taker) -> bool
-        ensures { result ≡ has_images taker (seen_given self.now) }
+    fn has_images(&self, command_kind: CommandKind) -> bool
+        ensures { result ≡ has_images command_kind (seen_given self.now) }
     {
-        match taker {
-            Taker::ReplayHost | Taker::FollowHost => self.has_os(),
-            Taker::ReplayPara | Taker::FollowPara => self.has_tube(),
-            Taker::Solo | Taker::Run => self.has_os() && self.has_tube(),
-            Taker::Resume => true,
+        match command_kind {
+            CommandKind::ReplayHost | CommandKind::FollowHost => self.has_os(),
+            CommandKind::ReplayPara | CommandKind::FollowPara => self.has_tube(),
+            CommandKind::Solo | CommandKind::Run => self.has_os() && self.has_tube(),
+            CommandKind::Resume => true,
         }
     }
 
     // Adds an option at a place, with the word `at` as its value. Returns `None` if the place is
     // taken or the value does not fit.
     #[tactic(auto, using(crate::proofs::GivenLemmas::places_set, crate::proofs::GivenLemmas::word_read, crate::proofs::GivenLemmas::copied_none))]
-    fn put_at(self, taker: Taker, place: usize, at: usize) -> Option<Given<'a>>
+    fn put_at(self, command_kind: CommandKind, place: usize, at: usize) -> Option<Given<'a>>
         requires place { place < COUNT }
         requires at { at < length self.words.now }
         ensures values { let word = word_at self.entry.words.now at in
-            option_map seen_given result ≡ put_at taker word (seen_given self.entry) place }
+            option_map seen_given result ≡ put_at command_kind word (seen_given self.entry) place }
         ensures words { IfSome result (λ g. g.words.now ≡ self.entry.words.now) }
     {
-        if fits(taker, place, self.words[at].as_str()) && self.value(place).is_none() {
+        if fits(command_kind, place, self.words[at].as_str()) && self.value(place).is_none() {
             let mut places = self.places;
             places[place] = Some(at);
             Some(Given {
@@ -239,14 +239,14 @@ impl<'a> Given<'a> {
     }
 
     // Adds an option of the given key, with the word `at` as its value.
-    fn put(self, taker: Taker, key: &str, at: usize) -> Option<Given<'a>>
+    fn put(self, command_kind: CommandKind, key: &str, at: usize) -> Option<Given<'a>>
         requires { at < length self.words.now }
         ensures values { let word = word_at self.entry.words.now at in
-            option_map seen_given result ≡ put_option taker (key.now, word) (seen_given self.entry) }
+            option_map seen_given result ≡ put_option command_kind (key.now, word) (seen_given self.entry) }
         ensures words { IfSome result (λ g. g.words.now ≡ self.entry.words.now) }
     {
         match place_of(key) {
-            Some(place) => self.put_at(taker, place, at),
+            Some(place) => self.put_at(command_kind, place, at),
             None => None,
         }
     }
@@ -254,8 +254,8 @@ impl<'a> Given<'a> {
 
 #[tactic(auto, unfolding(crate::specs::Given::closed_options, crate::specs::Given::no_values))]
 // Returns the options among the words, each in its place.
-fn put_options(words: &[String], taker: Taker) -> Option<Given<'_>>
-    ensures { option_map seen_given result ≡ closed_options taker (map string_bytes words.now) }
+fn put_options(words: &[String], command_kind: CommandKind) -> Option<Given<'_>>
+    ensures { option_map seen_given result ≡ closed_options command_kind (map string_bytes words.now) }
 {
     let mut given = Given {
         words,
@@ -265,7 +265,7 @@ fn put_options(words: &[String], taker: Taker) -> Option<Given<'_>>
     for (i, word) in words.iter().enumerate() {
         match key {
             Some(held) => {
-                match given.put(taker, held, i) {
+                match given.put(command_kind, held, i) {
                     Some(more) => given = more,
                     None => return None,
                 }
@@ -275,7 +275,7 @@ fn put_options(words: &[String], taker: Taker) -> Option<Given<'_>>
                 if takes_value(word.as_str()) {
                     key = Some(word.as_str());
                 } else if is_flag(word.as_str()) {
-                    match given.put(taker, word.as_str(), i) {
+                    match given.put(command_kind, word.as_str(), i) {
                         Some(more) => given = more,
                         None => return None,
                     }
@@ -289,11 +289,11 @@ fn put_options(words: &[String], taker: Taker) -> Option<Given<'_>>
 #[tactic(auto, unfolding(crate::specs::Given::options_of))]
 /// Returns the options among the words, if the command accepts them and its machines have their
 /// images.
-pub(crate) fn options_among(words: &[String], taker: Taker) -> Option<Given<'_>>
-    ensures { option_map seen_given result ≡ options_of taker (map string_bytes words.now) }
+pub(crate) fn options_among(words: &[String], command_kind: CommandKind) -> Option<Given<'_>>
+    ensures { option_map seen_given result ≡ options_of command_kind (map string_bytes words.now) }
 {
-    match put_options(words, taker) {
-        Some(given) if given.has_images(taker) && !given.has_both() => Some(given),
+    match put_options(words, command_kind) {
+        Some(given) if given.has_images(command_kind) && !given.has_both() => Some(given),
         _ => None,
     }
 }

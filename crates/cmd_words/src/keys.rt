@@ -10,7 +10,7 @@ use digits::{all_hex, decimal_number, hex_number};
 
 /// The purpose of a file in a command.
 #[derive(Clone, Copy, Debug, PartialEq, Eq)]
-pub enum Slot {
+pub enum InputKind {
     /// A trace.
     Trace,
     /// A source text.
@@ -37,7 +37,7 @@ pub enum Slot {
 
 /// A command that takes options.
 #[derive(Clone, Copy, Debug, PartialEq, Eq)]
-pub(crate) enum Taker {
+pub(crate) enum CommandKind {
     /// `replay host`
     ReplayHost,
     /// `replay para`
@@ -56,7 +56,7 @@ pub(crate) enum Taker {
 
 /// The commands that take an option.
 #[derive(Clone, Copy)]
-pub(crate) struct Takers {
+pub(crate) struct CommandSet {
     pub(crate) replay_host: bool,
     pub(crate) replay_para: bool,
     pub(crate) solo: bool,
@@ -67,7 +67,7 @@ pub(crate) struct Takers {
 }
 
 /// The commands that make a host from the options.
-const HOSTS: Takers = Takers {
+const HOSTS: CommandSet = CommandSet {
     replay_host: true,
     replay_para: false,
     solo: true,
@@ -78,7 +78,7 @@ const HOSTS: Takers = Takers {
 };
 
 /// The commands that make a second processor from the options.
-const PARAS: Takers = Takers {
+const PARAS: CommandSet = CommandSet {
     replay_host: false,
     replay_para: true,
     solo: true,
@@ -89,7 +89,7 @@ const PARAS: Takers = Takers {
 };
 
 /// The commands that make a host or a second processor from the options.
-const MACHINES: Takers = Takers {
+const MACHINES: CommandSet = CommandSet {
     replay_host: true,
     replay_para: true,
     solo: true,
@@ -100,7 +100,7 @@ const MACHINES: Takers = Takers {
 };
 
 /// The commands that run both machines, from the options or from a session file.
-const RUNS: Takers = Takers {
+const RUNS: CommandSet = CommandSet {
     replay_host: false,
     replay_para: false,
     solo: true,
@@ -111,7 +111,7 @@ const RUNS: Takers = Takers {
 };
 
 /// The commands with a host in their final state.
-const HEARD: Takers = Takers {
+const HEARD: CommandSet = CommandSet {
     replay_host: true,
     replay_para: false,
     solo: true,
@@ -122,7 +122,7 @@ const HEARD: Takers = Takers {
 };
 
 /// The commands that list instructions.
-const LISTS: Takers = Takers {
+const LISTS: CommandSet = CommandSet {
     replay_host: false,
     replay_para: false,
     solo: false,
@@ -133,7 +133,7 @@ const LISTS: Takers = Takers {
 };
 
 /// The commands that run only a host.
-const HOST_ALONE: Takers = Takers {
+const HOST_ALONE: CommandSet = CommandSet {
     replay_host: true,
     replay_para: false,
     solo: false,
@@ -147,7 +147,7 @@ const HOST_ALONE: Takers = Takers {
 #[derive(Clone, Copy)]
 pub(crate) enum Value {
     /// The name of a file that is read.
-    File(Slot),
+    File(InputKind),
     /// The name of an output.
     Output,
     /// A decimal number from `least` to `most`.
@@ -162,7 +162,7 @@ pub(crate) enum Value {
 #[derive(Clone, Copy)]
 struct Key {
     word: &'static str,
-    takers: Takers,
+    command_set: CommandSet,
     value: Value,
 }
 
@@ -184,12 +184,12 @@ const NO_TUBE: &[&str] = &["--no-tube"];
 const COUNTS: &[&str] = &["--counts"];
 
 // Makes a row of the table.
-fn row(word: &'static str, takers: Takers, value: Value) -> Key
-    ensures { seen_key result ≡ keys.key word.now takers (seen_value value) }
+fn row(word: &'static str, command_set: CommandSet, value: Value) -> Key
+    ensures { seen_key result ≡ keys.key word.now command_set (seen_value value) }
 {
     Key {
         word,
-        takers,
+        command_set,
         value,
     }
 }
@@ -200,29 +200,29 @@ fn table() -> [Key; COUNT]
     ensures { map seen_key result ≡ keys.keys }
 {
     [
-        row("--os", HOSTS, Value::File(Slot::Os)),
-        row("--tube", PARAS, Value::File(Slot::Tube)),
-        row("--rom0", HOSTS, Value::File(Slot::Rom(0))),
-        row("--rom1", HOSTS, Value::File(Slot::Rom(1))),
-        row("--rom2", HOSTS, Value::File(Slot::Rom(2))),
-        row("--rom3", HOSTS, Value::File(Slot::Rom(3))),
-        row("--rom4", HOSTS, Value::File(Slot::Rom(4))),
-        row("--rom5", HOSTS, Value::File(Slot::Rom(5))),
-        row("--rom6", HOSTS, Value::File(Slot::Rom(6))),
-        row("--rom7", HOSTS, Value::File(Slot::Rom(7))),
-        row("--rom8", HOSTS, Value::File(Slot::Rom(8))),
-        row("--rom9", HOSTS, Value::File(Slot::Rom(9))),
-        row("--rom10", HOSTS, Value::File(Slot::Rom(10))),
-        row("--rom11", HOSTS, Value::File(Slot::Rom(11))),
-        row("--rom12", HOSTS, Value::File(Slot::Rom(12))),
-        row("--rom13", HOSTS, Value::File(Slot::Rom(13))),
-        row("--rom14", HOSTS, Value::File(Slot::Rom(14))),
-        row("--rom15", HOSTS, Value::File(Slot::Rom(15))),
-        row("--font", HOSTS, Value::File(Slot::Font)),
-        row("--disc0", HOSTS, Value::File(Slot::Disc(0))),
-        row("--disc1", HOSTS, Value::File(Slot::Disc(1))),
-        row("--keys", HOSTS, Value::File(Slot::Keys)),
-        row("--points", LISTS, Value::File(Slot::Points)),
+        row("--os", HOSTS, Value::File(InputKind::Os)),
+        row("--tube", PARAS, Value::File(InputKind::Tube)),
+        row("--rom0", HOSTS, Value::File(InputKind::Rom(0))),
+        row("--rom1", HOSTS, Value::File(InputKind::Rom(1))),
+        row("--rom2", HOSTS, Value::File(InputKind::Rom(2))),
+        row("--rom3", HOSTS, Value::File(InputKind::Rom(3))),
+        row("--rom4", HOSTS, Value::File(InputKind::Rom(4))),
+        row("--rom5", HOSTS, Value::File(InputKind::Rom(5))),
+        row("--rom6", HOSTS, Value::File(InputKind::Rom(6))),
+        row("--rom7", HOSTS, Value::File(InputKind::Rom(7))),
+        row("--rom8", HOSTS, Value::File(InputKind::Rom(8))),
+        row("--rom9", HOSTS, Value::File(InputKind::Rom(9))),
+        row("--rom10", HOSTS, Value::File(InputKind::Rom(10))),
+        row("--rom11", HOSTS, Value::File(InputKind::Rom(11))),
+        row("--rom12", HOSTS, Value::File(InputKind::Rom(12))),
+        row("--rom13", HOSTS, Value::File(InputKind::Rom(13))),
+        row("--rom14", HOSTS, Value::File(InputKind::Rom(14))),
+        row("--rom15", HOSTS, Value::File(InputKind::Rom(15))),
+        row("--font", HOSTS, Value::File(InputKind::Font)),
+        row("--disc0", HOSTS, Value::File(InputKind::Disc(0))),
+        row("--disc1", HOSTS, Value::File(InputKind::Disc(1))),
+        row("--keys", HOSTS, Value::File(InputKind::Keys)),
+        row("--points", LISTS, Value::File(InputKind::Points)),
         row("--plugs", HOSTS, Value::Number { least: 0, most: 8 }),
         row(
             "--keep",
@@ -281,17 +281,17 @@ pub(crate) fn place_of(word: &str) -> Option<usize>
 }
 
 // Returns true if the command is among those that take an option.
-fn takes(taker: Taker, takers: Takers) -> bool
-    ensures { result ≡ takes taker takers }
+fn takes(command_kind: CommandKind, command_set: CommandSet) -> bool
+    ensures { result ≡ takes command_kind command_set }
 {
-    match taker {
-        Taker::ReplayHost => takers.replay_host,
-        Taker::ReplayPara => takers.replay_para,
-        Taker::Solo => takers.solo,
-        Taker::Run => takers.run,
-        Taker::Resume => takers.resume,
-        Taker::FollowHost => takers.follow_host,
-        Taker::FollowPara => takers.follow_para,
+    match command_kind {
+        CommandKind::ReplayHost => command_set.replay_host,
+        CommandKind::ReplayPara => command_set.replay_para,
+        CommandKind::Solo => command_set.solo,
+        CommandKind::Run => command_set.run,
+        CommandKind::Resume => command_set.resume,
+        CommandKind::FollowHost => command_set.follow_host,
+        CommandKind::FollowPara => command_set.follow_para,
     }
 }
 
@@ -350,10 +350,10 @@ fn is_value(kind: Value, word: &str) -> bool
 }
 
 /// Returns true if the command takes the key at a place, and with this value.
-pub(crate) fn fits(taker: Taker, place: usize, value: &str) -> bool
+pub(crate) fn fits(command_kind: CommandKind, place: usize, value: &str) -> bool
     requires { place < COUNT }
-    ensures { result ≡ fits taker place value.now }
+    ensures { result ≡ fits command_kind place value.now }
 {
     let key = key_at(place);
-    takes(taker, key.takers) && is_value(key.value, value)
+    takes(command_kind, key.command_set) && is_value(key.value, value)
 }

@@ -9,7 +9,7 @@ ghost use Rattle.cmd_words.specs.View.{seen_command, seen_sided, seen_both};
 use crate::alone::{four_alone, is_name, three_alone, two_alone};
 use crate::command::Command;
 use crate::given::{Given, options_among};
-use crate::keys::{MOST_KEEP, MOST_TICKS, Taker, address_of};
+use crate::keys::{MOST_KEEP, MOST_TICKS, CommandKind, address_of};
 use beeb_bits::Side;
 use digits::decimal_number;
 use op_table::Part;
@@ -95,7 +95,7 @@ fn side_of(word: &str) -> Option<Side>
 }
 
 // Returns `host` or `para`, by the side.
-fn by_side(host: Taker, para: Taker, side: Side) -> Taker
+fn by_side(host: CommandKind, para: CommandKind, side: Side) -> CommandKind
     ensures { result ≡ by_side host para side }
 {
     match side {
@@ -114,7 +114,7 @@ struct Sided<'a> {
     given: Given<'a>,
 }
 
-fn sided_words(words: &[String], host: Taker, para: Taker) -> Option<Sided<'_>>
+fn sided_words(words: &[String], host: CommandKind, para: CommandKind) -> Option<Sided<'_>>
     ensures told { option_map seen_sided result ≡ sided_words host para (map string_bytes words.now) }
     ensures ticks { IfSome result (λ s. s.ticks ≤ MOST_TICKS) }
 {
@@ -138,7 +138,7 @@ fn replay_words(words: &[String]) -> Option<Command<'_>>
     ensures command { option_map seen_command result ≡ replay_words (map string_bytes words.now) }
     ensures limits { IfSome result (λ c. IsLimited (seen_command c)) }
 {
-    let told = sided_words(words, Taker::ReplayHost, Taker::ReplayPara)?;
+    let told = sided_words(words, CommandKind::ReplayHost, CommandKind::ReplayPara)?;
     Some(Command::Replay {
         side: told.side,
         trace: told.trace,
@@ -152,7 +152,7 @@ fn follow_words(words: &[String]) -> Option<Command<'_>>
     ensures command { option_map seen_command result ≡ follow_words (map string_bytes words.now) }
     ensures limits { IfSome result (λ c. IsLimited (seen_command c)) }
 {
-    let told = sided_words(words, Taker::FollowHost, Taker::FollowPara)?;
+    let told = sided_words(words, CommandKind::FollowHost, CommandKind::FollowPara)?;
     Some(Command::Follow {
         side: told.side,
         trace: told.trace,
@@ -171,8 +171,8 @@ struct Both<'a> {
     given: Given<'a>,
 }
 
-fn both_words(words: &[String], taker: Taker) -> Option<Both<'_>>
-    ensures told { option_map seen_both result ≡ both_words taker (map string_bytes words.now) }
+fn both_words(words: &[String], command_kind: CommandKind) -> Option<Both<'_>>
+    ensures told { option_map seen_both result ≡ both_words command_kind (map string_bytes words.now) }
     ensures ticks { IfSome result (λ b. b.ticks ≤ MOST_TICKS) }
     ensures keep { IfSome result (λ b. b.keep ≤ MOST_KEEP) }
 {
@@ -181,7 +181,7 @@ fn both_words(words: &[String], taker: Taker) -> Option<Both<'_>>
     if !is_name(out) {
         return None;
     }
-    let given = options_among(words, taker)?;
+    let given = options_among(words, command_kind)?;
     Some(Both {
         ticks,
         out,
@@ -194,7 +194,7 @@ fn solo_words(words: &[String]) -> Option<Command<'_>>
     ensures command { option_map seen_command result ≡ solo_words (map string_bytes words.now) }
     ensures limits { IfSome result (λ c. IsLimited (seen_command c)) }
 {
-    let told = both_words(words, Taker::Solo)?;
+    let told = both_words(words, CommandKind::Solo)?;
     Some(Command::Solo {
         ticks: told.ticks,
         out: told.out,
@@ -207,7 +207,7 @@ fn run_words(words: &[String]) -> Option<Command<'_>>
     ensures command { option_map seen_command result ≡ run_words (map string_bytes words.now) }
     ensures limits { IfSome result (λ c. IsLimited (seen_command c)) }
 {
-    let told = both_words(words, Taker::Run)?;
+    let told = both_words(words, CommandKind::Run)?;
     Some(Command::Run {
         ticks: told.ticks,
         out: told.out,
@@ -225,7 +225,7 @@ fn resume_words(words: &[String]) -> Option<Command<'_>>
     if !is_name(state) || !is_name(out) {
         return None;
     }
-    let given = options_among(words, Taker::Resume)?;
+    let given = options_among(words, CommandKind::Resume)?;
     Some(Command::Resume {
         state,
         ticks,
@@ -278,7 +278,7 @@ fn command_within(words: &[String]) -> Option<Command<'_>>
 }
 
 /// Returns the command that the words spell. The command's numbers are within their limits.
-#[tactic(auto, using(crate::proofs::SlotLemmas::is_within))]
+#[tactic(auto, using(crate::proofs::InputKindLemmas::is_within))]
 pub fn command_of(words: &[String]) -> Option<Command<'_>>
     ensures command { option_map seen_command result ≡ command (map string_bytes words.now) }
     ensures within { IfSome result (λ c. IsWithin (seen_command c)) }

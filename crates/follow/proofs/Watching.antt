@@ -6,13 +6,13 @@ use Rattle.tube_chip.specs.declared.Answer.TheVariants.{Seen}
 use Rattle.tube_chip.specs.declared.Lines.{Lines}
 use Rattle.tube_party.specs.declared.party.Ask.{Ask}
 use Rattle.tube_party.specs.declared.party.Ask.TheVariants.{Look}
-use Rattle.tube_party.specs.Transitions.{Transitions, IsLawful, Looks, Advances, Sees, IsAsk, IsUnsure, shown_lines}
+use Rattle.tube_party.specs.Transitions.{Transitions, IsLawful, Looks, Advances, LookRunToAsk, IsAsk, IsNotSafe, shown_lines}
 use Rattle.tube_party.specs.Steps.{due_rises, looks_on}
 use Rattle.tube_party.proofs.Runs.{Steps, steps_of, runs_of}
 use Rattle.tube_party.proofs.Runs.Steps.{Over, Silent}
 use Rattle.tube_party.proofs.Seeing.{stops_there, sees_one_more}
-use Rattle.tube_machine.specs.declared.pass.Passing.{Passing}
-use Rattle.tube_machine.specs.Passing.{IsOver, Passes}
+use Rattle.tube_machine.specs.declared.skip_while.SkipWhile.{SkipWhile}
+use Rattle.tube_machine.specs.SkipWhile.{IsSkipped, Passes}
 use Rattle.op_table.specs.declared.names.Part.{Part}
 use Rattle.follow.specs.declared.choice.Choice.{Choice}
 use Rattle.follow.specs.Sight.{Sight, IsSeen, IsSame}
@@ -36,8 +36,8 @@ asking {m = m} {n = n} {last = last} silent asked = let some = runs_of m Host n 
 -- Looks in two parts: after them the party advanced, and stopped at a step that is no sure look, or at one, which saw the lines.
 module _ {S : Type 0} {m : Transitions S} {n : ℕ} {lines : Lines} {safe_until : ℕ} {old cur : S} (mid : S) (first : (j : ℕ) × Looks m n (shown_lines lines safe_until) j old mid)
     (more : (k : ℕ) × Looks m n (shown_lines lines safe_until) k mid cur) where
-  pub stops : {new : S} {ask : Ask} → Advances m n cur ask new → IsUnsure safe_until ask → Sees m n (shown_lines lines safe_until) old ask new
-  stops told unsure = stops_there m n lines safe_until old cur _ _ (looks_on m n lines safe_until first.0 more.0 old mid cur first.1 more.1) told unsure
+  pub stops : {new : S} {ask : Ask} → Advances m n cur ask new → IsNotSafe safe_until ask → LookRunToAsk m n (shown_lines lines safe_until) old ask new
+  stops told not_safe = stops_there m n lines safe_until old cur _ _ (looks_on m n lines safe_until first.0 more.0 old mid cur first.1 more.1) told not_safe
 
   pub sees_on : {at new : S} {ask : Ask} {t : Tick} → Advances m n cur ask at → ask ≡ Look t → t.0 < safe_until → new ≡ m.next at (Some (Seen lines)) → (k : ℕ) × Looks m n (shown_lines lines safe_until) k old new
   sees_on told is early answered = sees_one_more m n lines safe_until old cur _ _ _ _ (looks_on m n lines safe_until first.0 more.0 old mid cur first.1 more.1) told is early answered
@@ -64,9 +64,9 @@ module _ {T : Type 0} {w : Transitions T} {sights : T → Sight} (seen : IsSeen 
     steps_on leaves (Silent {s = s} low none on) = let more = steps_on (rw (no_start s none)) on in (Silent low none (rw leaves more.0), more.1)
 
     -- a start that is passed over leaves what is kept
-    module _ (passing : Passing) (leaves : LeavesKept set.choice kept.before passing) (n : ℕ) (lines : Lines) (safe_until : ℕ) where
+    module _ (skip : SkipWhile) (leaves : LeavesKept set.choice kept.before skip) (n : ℕ) (lines : Lines) (safe_until : ℕ) where
       abbrev over : T → Type 0
-      over s = IsOver passing (w.due s) (sights s).regs.pc (sights s).peek
+      over s = IsSkipped skip (w.due s) (sights s).regs.pc (sights s).peek
 
       leaves_noted : (t : T) → over t → noted w sights t set.choice kept ≡ kept
       leaves_noted t is = grind arith

@@ -1,8 +1,8 @@
 -- The notes of a replay, as contracts see them.
 use Rattle.std.specs.Prelude.{ℕ, ◌≡◌, List, [], ◌∷◌, ◌++◌, length, Bool, false, Option, Some, None, if◌then◌else◌}
 use Rattle.op_table.specs.declared.names.Part.{Part}
-use Rattle.tube_machine.specs.declared.pass.Passing.{Passing}
-use Rattle.tube_machine.specs.Passing.{IsOver}
+use Rattle.tube_machine.specs.declared.skip_while.SkipWhile.{SkipWhile}
+use Rattle.tube_machine.specs.SkipWhile.{IsSkipped}
 use Rattle.follow.specs.declared.choice.Choice.{Choice}
 use Rattle.follow.specs.Start.{StartState, watched_byte}
 use Rattle.follow.specs.Counts.{is_counted}
@@ -43,9 +43,9 @@ pub record IsKept (part : Part) (starts : List StartState) (text : List ℕ) (is
   pub count : chosen ≡ length starts
 
 -- A skipped start is neither chosen nor counted, and has the watched byte of the start before it.
-abbrev pub LeavesKept : Choice → Option (Option ℕ) → Passing → Type 0
-LeavesKept choice before passing =
-    (tick pc : ℕ) (peek : ℕ → Option ℕ) → IsOver passing tick pc peek →
+abbrev pub LeavesKept : Choice → Option (Option ℕ) → SkipWhile → Type 0
+LeavesKept choice before skip =
+    (tick pc : ℕ) (peek : ℕ → Option ℕ) → IsSkipped skip tick pc peek →
     (is_chosen choice before tick pc (watched_byte choice.watch peek) ≡ false) × (is_counted choice tick ≡ false) × (before ≡ Some (watched_byte choice.watch peek))
 
 -- the listing of the chosen starts, with the counts of the counted starts

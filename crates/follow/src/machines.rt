@@ -6,7 +6,7 @@ use cpu_alu::Regs;
 use host_mach::HostMachine;
 use para_mach::ParaMachine;
 use tube_chip::Lines;
-use tube_machine::Passing;
+use tube_machine::SkipWhile;
 
 impl<D: BusDevice> Seen for HostMachine<D> {
     ghost use Rattle.host_mach.specs.State.{HostState};
@@ -44,8 +44,8 @@ impl<D: BusDevice> Seen for HostMachine<D> {
     }
 
     #[inline(always)]
-    fn pass(&mut self, until: Tick, lines: &Lines, safe_until: Tick, passing: Passing) {
-        self.pass(until, lines, safe_until, passing);
+    fn skip_while(&mut self, until: Tick, lines: &Lines, safe_until: Tick, skip: SkipWhile) {
+        self.skip_while(until, lines, safe_until, skip);
     }
 }
 
@@ -84,7 +84,7 @@ impl Seen for ParaMachine {
     }
 
     #[inline(always)]
-    fn pass(&mut self, until: Tick, lines: &Lines, safe_until: Tick, passing: Passing) {
-        self.pass(until, lines, safe_until, passing);
+    fn skip_while(&mut self, until: Tick, lines: &Lines, safe_until: Tick, skip: SkipWhile) {
+        self.skip_while(until, lines, safe_until, skip);
     }
 }

@@ -19,7 +19,7 @@ use crate::trail::Trail;
 use beeb_bits::Tick;
 use op_table::Part;
 use std::alloc::{AllocError, Global};
-use tube_machine::Passing;
+use tube_machine::SkipWhile;
 
 /// The most lines of a listing.
 const MOST_LINES: u64 = 1_048_576;
@@ -189,24 +189,24 @@ impl Notes {
     /// counted, and leave these notes as they are. Returns `None` before the first start, and if
     /// all starts are chosen or counted.
     #[inline(always)]
-    pub(crate) fn passing(&self, now: u64) -> Option<Passing>
-        ensures leaves { IfSome result (λ passing. LeavesKept self.now.choice self.now.before passing) }
+    pub(crate) fn skip(&self, now: u64) -> Option<SkipWhile>
+        ensures leaves { IfSome result (λ skip. LeavesKept self.now.choice self.now.before skip) }
         ensures same { (at : ℕ) (byte : Option ℕ) → self.now.choice.counts ≡ false → self.now.choice.watch ≡ Some at → self.now.before ≡ Some byte →
-            result ≡ Some (Passing.Same at byte) }
+            result ≡ Some (SkipWhile.Same at byte) }
         ensures before { let choice = self.now.choice in
-            choice.watch ≡ None → now < choice.from → self.now.before ≡ Some None → result ≡ Some (Passing.Before choice.from) }
+            choice.watch ≡ None → now < choice.from → self.now.before ≡ Some None → result ≡ Some (SkipWhile.Before choice.from) }
         ensures elsewhere { let choice = self.now.choice in
             (at : ℕ) → choice.counts ≡ false → choice.watch ≡ None → choice.from ≤ now → choice.at ≡ Some at → self.now.before ≡ Some None →
-            result ≡ Some (Passing.Elsewhere at) }
+            result ≡ Some (SkipWhile.Elsewhere at) }
     {
         let Some(byte) = self.before else {
             return None;
         };
         match (self.choice.watch, self.choice.at, byte) {
-            (None, _, None) if now < self.choice.from => Some(Passing::Before(self.choice.from)),
+            (None, _, None) if now < self.choice.from => Some(SkipWhile::Before(self.choice.from)),
             _ if self.choice.counts => None,
-            (Some(watch), _, _) => Some(Passing::Same(watch, byte)),
-            (None, Some(at), None) => Some(Passing::Elsewhere(at)),
+            (Some(watch), _, _) => Some(SkipWhile::Same(watch, byte)),
+            (None, Some(at), None) => Some(SkipWhile::Elsewhere(at)),
             _ => None,
         }
     }

@@ -1,13 +1,13 @@
 //! A party whose processor can be inspected.
 ghost use Rattle.std.specs.Prelude.{ℕ, ◌≡◌, ◌≤◌, Bool, true};
 ghost use Rattle.tube_party.specs.Transitions.{Transitions, IsPermitted, shown_lines};
-ghost use Rattle.tube_machine.specs.Passing.{IsOver, Passes};
+ghost use Rattle.tube_machine.specs.SkipWhile.{IsSkipped, Passes};
 ghost use Rattle.follow.specs.Sight.{Sight, IsSeen, IsSame};
 
 use beeb_bits::Tick;
 use cpu_alu::Regs;
 use tube_chip::Lines;
-use tube_machine::Passing;
+use tube_machine::SkipWhile;
 use tube_party::{MOST, Party};
 
 /// A party whose processor can be inspected. Each view is a function of the party's state, and
@@ -41,11 +41,11 @@ pub trait Seen: Party {
 
     /// Runs instructions whose starts `skip` leaves out. Their looks see `lines`, and come before
     /// both `until` and `safe_until`. It may stop at any start.
-    fn pass(&mut self, until: Tick, lines: &Lines, safe_until: Tick, passing: Passing)
+    fn skip_while(&mut self, until: Tick, lines: &Lines, safe_until: Tick, skip: SkipWhile)
         requires { until.0 ≤ MOST }
         ensures { let old = inside self.old in
             let new = inside self.new in
-            (k : ℕ) × Passes steps (λ s. IsOver passing (steps.due s) (sights s).regs.pc (sights s).peek) until.0 (shown_lines lines.now safe_until.0) k old new };
+            (k : ℕ) × Passes steps (λ s. IsSkipped skip (steps.due s) (sights s).regs.pc (sights s).peek) until.0 (shown_lines lines.now safe_until.0) k old new };
 
     ghost seen: { IsSeen steps sights };
 

@@ -25,7 +25,7 @@ impl<M: Seen> Watcher<M> {
 
     // Runs past starts that are neither chosen nor counted, if there are any.
     #[inline(always)]
-    fn pass_over(&mut self, until: Tick, lines: &Lines, safe_until: Tick)
+    fn skip_over(&mut self, until: Tick, lines: &Lines, safe_until: Tick)
         requires { until.0 ≤ MOST }
         ensures { let transitions = watched_transitions M.steps M.sights in
             let old_kept = kept_of self.old.notes.trail.starts self.old.notes.before self.old.notes.counted.starts in
@@ -34,8 +34,8 @@ impl<M: Seen> Watcher<M> {
             let new = watched_of (M.inside self.new.machine) (order self.new.notes.part self.new.notes.choice) new_kept in
             (k : ℕ) × Looks transitions until.0 (shown_lines lines.now safe_until.0) k old new }
     {
-        if let Some(passing) = self.notes.passing(self.machine.due().0) {
-            self.machine.pass(until, lines, safe_until, passing);
+        if let Some(skip) = self.notes.skip(self.machine.due().0) {
+            self.machine.skip_while(until, lines, safe_until, skip);
         }
     }
 }
@@ -79,7 +79,7 @@ impl<M: Seen> Party for Watcher<M> {
     // If few starts are chosen, most are skipped.
     fn advance_seeing(&mut self, until: Tick, lines: &Lines, safe_until: Tick) -> Ask {
         loop {
-            self.pass_over(until, lines, safe_until);
+            self.skip_over(until, lines, safe_until);
             match self.advance(until) {
                 Ask::Nothing => return Ask::Nothing,
                 Ask::Access(tick, op) => return Ask::Access(tick, op),

@@ -97,29 +97,29 @@ module _ (a : Around) (to : ℕ) where
 
   -- Ticks from a microsecond on, up to a tick. Before that tick n microseconds begin, there is no
   -- shot, and keys and levels do not change.
-  beats : (n k : ℕ) {keys : Keys} {levels : List ℕ} (m : Moving) → k % micro a.clock ≡ 0 → HasNone a.script k to →
+  microseconds_in : (n k : ℕ) {keys : Keys} {levels : List ℕ} (m : Moving) → k % micro a.clock ≡ 0 → HasNone a.script k to →
       ((i : ℕ) → k ≤ i → i < to → (keys ≡ keys_at i a.script) × (levels ≡ levels_at i a.script)) →
       to ≤ k + n * micro a.clock → k + n * micro a.clock < to + micro a.clock →
       ticks a (to - k) k m ≡ record m { devices = microseconds a.ram a.font keys levels n m.devices }
-  beats zero k m begins none are all no_more =
+  microseconds_in zero k m begins none are all no_more =
       let nothing : 0 * micro a.clock ≡ 0 = omega arith in
       let over : to - k ≡ 0 = omega (arith, all, nothing) in
       rw over refl
-  beats (suc n) k {keys} {levels} m begins none are all no_more =
+  microseconds_in (suc n) k {keys} {levels} m begins none are all no_more =
       let u = micro a.clock in
       let more : suc n * u ≡ n * u + u = grind arith in
       let low : k < to = omega (arith, more, no_more) in
       let (typed, set) = are k (omega arith) low in
       rw (one-beat k m begins none low, ← typed, ← set)
-      (beats n (k + u) (record m { devices = microsecond a.ram a.font keys levels m.devices }) (add-mod_right k u ∙ begins)
+      (microseconds_in n (k + u) (record m { devices = microsecond a.ram a.font keys levels m.devices }) (add-mod_right k u ∙ begins)
       (λ i late high. none i (omega (arith, late)) high) (λ i late high. are i (omega (arith, late)) high) (omega (arith, more, all)) (omega (arith, more, no_more)))
 
 -- these ticks before the next event
-pub beats-played : (a : Around) (n : ℕ) {k : ℕ} (to : ℕ) (p : Playback) (m : Moving) → a.script ≡ p.script → IsPlayed p k → k % micro a.clock ≡ 0 → to ≤ p.event →
+pub microseconds_in-played : (a : Around) (n : ℕ) {k : ℕ} (to : ℕ) (p : Playback) (m : Moving) → a.script ≡ p.script → IsPlayed p k → k % micro a.clock ≡ 0 → to ≤ p.event →
     to ≤ k + n * micro a.clock → k + n * micro a.clock < to + micro a.clock →
     ticks a (to - k) k m ≡ record m { devices = microseconds a.ram a.font (keys_of p.keys) p.levels n m.devices }
-beats-played a n {k} to p m same h begins early all no_more =
-    beats a to n k m begins (rw same (none-between to h early))
+microseconds_in-played a n {k} to p m same h begins early all no_more =
+    microseconds_in a to n k m begins (rw same (none-between to h early))
     (λ i late high. rw same (stay i h (omega (arith, late)) (omega (arith, high, early))))
     all no_more
 
@@ -150,8 +150,8 @@ later-lines {b} {n} {t} h here low early few calm =
     let u = micro b.clock in
     let (m, less, all, no_more) = how-many b.clock (t - b.next) n few in
     let begins : b.closed % u ≡ 0 = subst (λ (k : ℕ). k % u ≡ 0) (omega (arith, here, h.on_time.least, low, early)) h.on_time.begins in
-    let moved = beats-played (around (board_seen b)) m t p (moving_part (board_seen b)) refl h.played begins early (omega (arith, here, low, all)) (omega (arith, here, low, no_more)) in
-    rw (moved, calm.irq b.ram.items b.letters.font p.levels m less, calm.nmis b.ram.items b.letters.font p.levels m less) refl
+    let moved = microseconds_in-played (around (board_seen b)) m t p (moving_part (board_seen b)) refl h.played begins early (omega (arith, here, low, all)) (omega (arith, here, low, no_more)) in
+    rw (moved, calm.irq b.ram.items b.glyphs.font p.levels m less, calm.nmis b.ram.items b.glyphs.font p.levels m less) refl
 
 -- the lines up to an event, and up to the end of the calm microseconds
 calm-lines : {b : Inside} {n t : ℕ} → IsValid b → AreCalm (keys_of b.playback.keys) n (board_seen b).devices → t ≤ b.playback.event → t ≤ b.next + n * micro b.clock →

@@ -18,11 +18,11 @@ abbrev pub board_seen : Inside → BoardState
 board_seen b = record {
   clock = b.clock;
   ram = b.ram.items;
-  roms = b.letters;
+  roms = b.glyphs;
   latch = b.latch;
   script = b.playback.script;
   breaks = breaks_before b.breaks.place b.playback.script;
-  devices = drawn b.ram.items b.letters.font b.devices;
+  devices = drawn b.ram.items b.glyphs.font b.devices;
   shots = b.playback.shots.frames;
   sound = b.sound;
   closed = b.closed;
@@ -43,7 +43,7 @@ pub record IsStored (ram shown : List ℕ) (roms : Roms) (latch : ℕ) : Type 0 
   pub slot : latch < 16
 
 pub record IsValid (b : Inside) : Type 0 where
-  pub stored : IsStored b.ram.items b.shown.items b.letters b.latch
+  pub stored : IsStored b.ram.items b.shown.items b.glyphs b.latch
   pub played : IsPlayed b.playback b.closed
   pub on_time : IsOnTime (micro b.clock) b.closed b.playback.event b.next
   pub next_break : IsNextBreak b.breaks b.playback.script

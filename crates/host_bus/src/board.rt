@@ -23,7 +23,7 @@ use host_devices::{Breaks, Device, Devices, Playback, SoundLog, device_at};
 use key_script::Script;
 use raster::{Frame, reads_go_on};
 use rom_set::RomSet;
-use saa5050::Letters;
+use saa5050::GlyphTable;
 use sn76489::SoundWrite;
 use std::alloc::Global;
 use std::marker::Model;
@@ -54,7 +54,7 @@ pub(crate) struct Board {
     // The bytes that reads show of the RAM, the paged ROM and the operating system: a read takes
     // one load.
     shown: Vec<u8>,
-    letters: Letters,
+    glyphs: GlyphTable,
     latch: u8,
     devices: Devices,
     playback: Playback,
@@ -159,17 +159,17 @@ fn first_shown(alloc: Global, roms: &RomSet) -> Result<Vec<u8>, NoMemory>
 }
 
 // Makes the RAM, the array for reads, and the images with the letters of their font, at power-on.
-fn first_memory(alloc: Global, roms: RomSet) -> Result<(Vec<u8>, Vec<u8>, Letters), NoMemory>
+fn first_memory(alloc: Global, roms: RomSet) -> Result<(Vec<u8>, Vec<u8>, GlyphTable), NoMemory>
     ensures ram { IfOk result (λ m. m.0.items ≡ clear_ram) }
     ensures memory { IfOk result (λ m. length m.0.items ≡ RAM_SIZE) }
     ensures addresses { IfOk result (λ m. length m.1.items ≡ ADDRESSES) }
     ensures shows { IfOk result (λ m. Shows clear_ram m.2.slots 0 m.2.os m.1.items) }
-    ensures letters { IfOk result (λ m. m.2 ≡ roms) }
+    ensures glyphs { IfOk result (λ m. m.2 ≡ roms) }
 {
     let ram = zeroed(alloc, RAM_SIZE)?;
     let shown = first_shown(alloc, &roms)?;
-    let letters = Letters::make(alloc, roms)?;
-    Ok((ram, shown, letters))
+    let glyphs = GlyphTable::make(alloc, roms)?;
+    Ok((ram, shown, glyphs))
 }
 
 // Returns both parts, if there was memory for each. It is generic, since a proof follows each field
@@ -185,7 +185,7 @@ fn both<A: Drop, B: Drop>(
 
 // Returns the number of microseconds that begin in `span` ticks, if one begins with the first of
 // them.
-fn beats(clock: Clock, span: u64) -> u64
+fn microseconds_in(clock: Clock, span: u64) -> u64
     requires { span < 2 ^ 48 }
     ensures all { span ≤ result * micro clock }
     ensures no_more { result * micro clock < span + micro clock }
@@ -200,11 +200,11 @@ fn beats(clock: Clock, span: u64) -> u64
 // and before the next event, or the events of tick `k`. Returns the tick of the next microsecond or
 // event.
 #[inline(always)]
-fn beats_or_events(
+fn microseconds_or_events(
     devices: &mut Devices,
     playback: &mut Playback,
     ram: &[u8],
-    letters: &Letters,
+    glyphs: &GlyphTable,
     clock: Clock,
     k: u64,
     t: u64,
@@ -216,19 +216,19 @@ fn beats_or_events(
     requires begins { k < playback.old.event → k % micro clock ≡ 0 }
     ensures on { k < result }
     ensures script { playback.new.script ≡ playback.old.script }
-    ensures ticks { let a = around_by clock ram.now letters.now.font playback.old.script in
-        let see = drawn ram.now letters.now.font in
+    ensures ticks { let a = around_by clock ram.now glyphs.now.font playback.old.script in
+        let see = drawn ram.now glyphs.now.font in
         let old = moving (see devices.old) playback.old.shots.frames in
         moving (see devices.new) playback.new.shots.frames ≡ ticks a (min t result - k) k old }
     ensures played { IsPlayed playback.new (min t result) }
     ensures next { IsOnTime (micro clock) (min t result) playback.new.event result }
 {
     if k < playback.event {
-        let n = beats(clock, t.min(playback.event) - k);
-        devices.advance(ram, letters, &playback.keys, playback.levels, n);
+        let n = microseconds_in(clock, t.min(playback.event) - k);
+        devices.advance(ram, glyphs, &playback.keys, playback.levels, n);
         (k + n * clock.micro()).min(playback.event)
     } else {
-        tick_with_events(devices, playback, ram, letters, clock, k)
+        tick_with_events(devices, playback, ram, glyphs, clock, k)
     }
 }
 
@@ -240,7 +240,7 @@ fn tick_with_events(
     devices: &mut Devices,
     playback: &mut Playback,
     ram: &[u8],
-    letters: &Letters,
+    glyphs: &GlyphTable,
     clock: Clock,
     k: u64,
 ) -> u64
@@ -248,20 +248,20 @@ fn tick_with_events(
     requires room { k < 2 ^ 48 }
     requires played { IsPlayed playback.old k }
     ensures script { playback.new.script ≡ playback.old.script }
-    ensures shots { let frame = last_frame (drawn ram.now letters.now.font devices.old) in
+    ensures shots { let frame = last_frame (drawn ram.now glyphs.now.font devices.old) in
         playback.new.shots.frames ≡ shot_at k playback.old.script frame playback.old.shots.frames }
     ensures played { IsPlayed playback.new (k + 1) }
     ensures devices { let keys = keys_of playback.new.keys in
-        let old = drawn ram.now letters.now.font devices.old in
-        let after = microsecond ram.now letters.now.font keys playback.new.levels old in
-        drawn ram.now letters.now.font devices.new ≡ (if k % micro clock == 0 then after else old) }
+        let old = drawn ram.now glyphs.now.font devices.old in
+        let after = microsecond ram.now glyphs.now.font keys playback.new.levels old in
+        drawn ram.now glyphs.now.font devices.new ≡ (if k % micro clock == 0 then after else old) }
     ensures next { IsOnTime (micro clock) (k + 1) playback.new.event result }
 {
     let micro = clock.micro();
-    devices.draw(ram, letters);
+    devices.draw(ram, glyphs);
     playback.play(devices.last_frame(), k);
     if k % micro == 0 {
-        devices.advance(ram, letters, &playback.keys, playback.levels, 1);
+        devices.advance(ram, glyphs, &playback.keys, playback.levels, 1);
     }
     (k + micro - k % micro).min(playback.event)
 }
@@ -287,7 +287,7 @@ impl Board {
             clock,
             ram: memory.0,
             shown: memory.1,
-            letters: memory.2,
+            glyphs: memory.2,
             latch: 0,
             devices,
             playback,
@@ -314,11 +314,11 @@ impl Board {
     {
         let mut next = self.next;
         while next < t {
-            next = beats_or_events(
+            next = microseconds_or_events(
                 &mut self.devices,
                 &mut self.playback,
                 &self.ram,
-                &self.letters,
+                &self.glyphs,
                 self.clock,
                 next,
                 t,
@@ -364,7 +364,7 @@ impl Board {
         requires { at < 0x8000 }
         ensures { self.new ≡ record self.old { ram = slice_set (self.old).ram at v } }
     {
-        self.devices.make_way(&self.ram, &self.letters, at);
+        self.devices.draw_before_store(&self.ram, &self.glyphs, at);
         self.ram[at as usize] = v;
         self.shown[at as usize] = v;
     }
@@ -379,7 +379,7 @@ impl Board {
     {
         let keys = &self.playback.keys;
         self.devices
-            .read(&self.ram, &self.letters, keys, device_at(at), at)
+            .read(&self.ram, &self.glyphs, keys, device_at(at), at)
     }
 
     /// Returns the byte of a 6522's register that does not depend on pins and that a read does not
@@ -399,7 +399,7 @@ impl Board {
         requires { slot < 16 }
         ensures { self.new ≡ record self.old { latch = slot } }
     {
-        show_slot(&mut self.shown, self.letters.roms(), self.latch, slot);
+        show_slot(&mut self.shown, self.glyphs.roms(), self.latch, slot);
         self.latch = slot;
     }
 
@@ -410,7 +410,7 @@ impl Board {
     {
         let was_high = self.devices.sound_line();
         self.devices
-            .write(&self.ram, &self.letters, Device::SystemVia, at, v);
+            .write(&self.ram, &self.glyphs, Device::SystemVia, at, v);
         if was_high && !self.devices.sound_line() {
             self.sound.tell(SoundWrite {
                 moment: self.closed.div_ceil(self.clock.micro()),
@@ -429,7 +429,7 @@ impl Board {
         match device_at(at) {
             Device::RomLatch => self.latch_slot(v % 16),
             Device::SystemVia => self.write_system(at, v),
-            device => self.devices.write(&self.ram, &self.letters, device, at, v),
+            device => self.devices.write(&self.ram, &self.glyphs, device, at, v),
         }
     }
 

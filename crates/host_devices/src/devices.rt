@@ -20,7 +20,7 @@ use beeb_bits::NoMemory;
 use disc_image::Disc;
 use keyboard::{Keys, Latch};
 use raster::{Frame, Raster, reads_go_on, stores_below_are_unseen, sync_stays_on};
-use saa5050::Letters;
+use saa5050::GlyphTable;
 use std::alloc::Global;
 use std::marker::Model;
 use via6522::{Pins, Via};
@@ -115,41 +115,41 @@ impl Devices {
 
     /// Draws what the picture owes.
     #[inline(never)]
-    pub fn draw(&mut self, ram: &[u8], letters: &Letters)
+    pub fn draw(&mut self, ram: &[u8], glyphs: &GlyphTable)
         requires { length ram.now ≡ 32768 }
-        ensures { self.new ≡ record { devices = drawn ram.now letters.now.font self.old; owed = 0 } }
+        ensures { self.new ≡ record { devices = drawn ram.now glyphs.now.font self.old; owed = 0 } }
     {
         sync_stays_on();
         reads_go_on();
-        self.video.advance(ram, self.size, letters, self.owed);
+        self.video.advance(ram, self.size, glyphs, self.owed);
         self.owed = 0;
     }
 
     /// Draws what the picture owes, if it may read the byte at `at`. The byte may then be written.
     #[inline(always)]
-    pub fn make_way(&mut self, ram: &[u8], letters: &Letters, at: u16)
+    pub fn draw_before_store(&mut self, ram: &[u8], glyphs: &GlyphTable, at: u16)
         requires { length ram.now ≡ 32768 }
-        ensures { let font = letters.now.font in
+        ensures { let font = glyphs.now.font in
             (v : ℕ) → drawn (slice_set ram.now at v) font self.new ≡ drawn ram.now font self.old }
     {
         stores_below_are_unseen();
         if at >= self.lowest {
-            self.draw(ram, letters);
+            self.draw(ram, glyphs);
         }
     }
 
     // Does one microsecond of a picture that owes nothing. Vertical sync may change.
     #[inline(always)]
     #[tactic(auto, using(crate::proofs::Steady::nothing_owed, crate::proofs::Steady::no_step))]
-    fn show(&mut self, ram: &[u8], letters: &Letters)
+    fn show(&mut self, ram: &[u8], glyphs: &GlyphTable)
         requires ram { length ram.now ≡ 32768 }
         requires drawn { (self.old).owed ≡ 0 }
         ensures { let old = (self.old).devices in
-            self.new ≡ record self.old { devices = record old { video = raster_after ram.now letters.now.font old } } }
+            self.new ≡ record self.old { devices = record old { video = raster_after ram.now glyphs.now.font old } } }
     {
         self.steady = 0;
         self.lowest = 0;
-        self.video.advance(ram, self.size, letters, 1);
+        self.video.advance(ram, self.size, glyphs, 1);
     }
 
     // Does one microsecond of the converter. Its line may change.
@@ -177,13 +177,13 @@ impl Devices {
     // Does a microsecond. A line between two devices may change.
     #[inline(never)]
     #[tactic(auto, unfolding(crate::specs::Devices::microsecond))]
-    fn step(&mut self, ram: &[u8], letters: &Letters, keys: &Keys, levels: [u16; 4])
+    fn step(&mut self, ram: &[u8], glyphs: &GlyphTable, keys: &Keys, levels: [u16; 4])
         requires { length ram.now ≡ 32768 }
-        ensures { let see = drawn ram.now letters.now.font in
-            see self.new ≡ microsecond ram.now letters.now.font (keys_of keys.now) levels (see self.old) }
+        ensures { let see = drawn ram.now glyphs.now.font in
+            see self.new ≡ microsecond ram.now glyphs.now.font (keys_of keys.now) levels (see self.old) }
     {
-        self.draw(ram, letters);
-        self.show(ram, letters);
+        self.draw(ram, glyphs);
+        self.show(ram, glyphs);
         self.disc.step();
         self.convert(levels);
         let line = self.converter.cb1();
@@ -199,7 +199,7 @@ impl Devices {
     fn some_microseconds(
         &mut self,
         ram: &[u8],
-        letters: &Letters,
+        glyphs: &GlyphTable,
         keys: &Keys,
         levels: [u16; 4],
         n: u64,
@@ -207,12 +207,12 @@ impl Devices {
         requires ram { length ram.now ≡ 32768 }
         requires some { 0 < n }
         ensures fewer { result < n }
-        ensures rest { let see = drawn ram.now letters.now.font in
-            let after = microseconds ram.now letters.now.font (keys_of keys.now) levels in
+        ensures rest { let see = drawn ram.now glyphs.now.font in
+            let after = microseconds ram.now glyphs.now.font (keys_of keys.now) levels in
             after result (see self.new) ≡ after n (see self.old) }
     {
         if self.steady == 0 {
-            self.step(ram, letters, keys, levels);
+            self.step(ram, glyphs, keys, levels);
             return n - 1;
         }
         devices_go_on_apart();
@@ -229,14 +229,14 @@ impl Devices {
     }
 
     /// Does `n` microseconds, with unchanged RAM, keys and levels of the converter's channels.
-    pub fn advance(&mut self, ram: &[u8], letters: &Letters, keys: &Keys, levels: [u16; 4], n: u64)
+    pub fn advance(&mut self, ram: &[u8], glyphs: &GlyphTable, keys: &Keys, levels: [u16; 4], n: u64)
         requires { length ram.now ≡ 32768 }
-        ensures { let see = drawn ram.now letters.now.font in
-            see self.new ≡ microseconds ram.now letters.now.font (keys_of keys.now) levels n (see self.old) }
+        ensures { let see = drawn ram.now glyphs.now.font in
+            see self.new ≡ microseconds ram.now glyphs.now.font (keys_of keys.now) levels n (see self.old) }
     {
         let mut left = n;
         while left > 0 {
-            left = self.some_microseconds(ram, letters, keys, levels, left);
+            left = self.some_microseconds(ram, glyphs, keys, levels, left);
         }
     }
 
@@ -273,19 +273,19 @@ impl Devices {
     pub fn read(
         &mut self,
         ram: &[u8],
-        letters: &Letters,
+        glyphs: &GlyphTable,
         keys: &Keys,
         device: Device,
         at: u16,
     ) -> u8
         requires { length ram.now ≡ 32768 }
-        ensures answer { result ≡ register_answer device at (keys_of keys.now) (drawn ram.now letters.now.font self.old) }
-        ensures after { let see = drawn ram.now letters.now.font in
+        ensures answer { result ≡ register_answer device at (keys_of keys.now) (drawn ram.now glyphs.now.font self.old) }
+        ensures after { let see = drawn ram.now glyphs.now.font in
             see self.new ≡ register_read device at (see self.old) }
     {
         match device {
             Device::Crtc => {
-                self.draw(ram, letters);
+                self.draw(ram, glyphs);
                 self.steady = 0;
                 self.lowest = 0;
                 if at % 2 == 0 {
@@ -332,14 +332,14 @@ impl Devices {
 
     /// Writes a register in SHEILA.
     #[tactic(auto, unfolding(crate::specs::Devices::register_written), using(crate::proofs::Steady::nothing_owed))]
-    pub fn write(&mut self, ram: &[u8], letters: &Letters, device: Device, at: u16, v: u8)
+    pub fn write(&mut self, ram: &[u8], glyphs: &GlyphTable, device: Device, at: u16, v: u8)
         requires { length ram.now ≡ 32768 }
-        ensures { let see = drawn ram.now letters.now.font in
+        ensures { let see = drawn ram.now glyphs.now.font in
             see self.new ≡ register_written device at v (see self.old) }
     {
         match device {
             Device::Crtc => {
-                self.draw(ram, letters);
+                self.draw(ram, glyphs);
                 self.steady = 0;
                 self.lowest = 0;
                 if at % 2 == 0 {
@@ -349,7 +349,7 @@ impl Devices {
                 }
             }
             Device::VideoUla => {
-                self.draw(ram, letters);
+                self.draw(ram, glyphs);
                 self.steady = 0;
                 self.lowest = 0;
                 if at % 2 == 0 {
@@ -360,7 +360,7 @@ impl Devices {
             }
             Device::SystemVia => {
                 self.system.write((at % 16) as u8, v);
-                self.latch_port_b(ram, letters, (at % 16) as u8);
+                self.latch_port_b(ram, glyphs, (at % 16) as u8);
             }
             Device::UserVia => self.user.write((at % 16) as u8, v),
             Device::DiscLatch => self.disc.latch(v),
@@ -376,13 +376,13 @@ impl Devices {
     // Puts the pins of port B into the addressable latch, if register 0 or 2 was written. The size
     // of the screen may change.
     #[tactic(auto, unfolding(crate::specs::Devices::after_latch))]
-    fn latch_port_b(&mut self, ram: &[u8], letters: &Letters, reg: u8)
+    fn latch_port_b(&mut self, ram: &[u8], glyphs: &GlyphTable, reg: u8)
         requires { length ram.now ≡ 32768 }
-        ensures { let see = drawn ram.now letters.now.font in
+        ensures { let see = drawn ram.now glyphs.now.font in
             see self.new ≡ after_latch reg (see self.old) }
     {
         if reg == 0 || reg == 2 {
-            self.draw(ram, letters);
+            self.draw(ram, glyphs);
             self.latch.write(self.system.out_b());
             self.size = self.latch.screen_size();
             self.lowest = self.video.lowest(self.size);

@@ -12,7 +12,7 @@ use host_bus::Bus;
 use host_devices::stretch;
 use op_table::Part;
 use tube_chip::{Lines, Op};
-use tube_machine::{Done, Interrupts, TubeBus, Unable};
+use tube_machine::{Done, Interrupts, TubeBus, AccessError};
 
 /// The bus, with the count of NMIs that its processor has taken.
 #[derive(Drop)]
@@ -225,12 +225,12 @@ impl<D: BusDevice> TubeBus<()> for HostBus<D> {
         branch_to::<(), HostBus<D>, L>(part, from, to, self)
     }
 
-    fn exchange(&mut self, t: u64, cycle: Cycle, _notes: &mut ()) -> Result<Done, Unable> {
+    fn exchange(&mut self, t: u64, cycle: Cycle, _notes: &mut ()) -> Result<Done, AccessError> {
         let clock = self.bus.clock();
         match cycle {
             Cycle::Read(at) => {
                 if self.answers(at) {
-                    return Err(Unable::Tube(Op::Read((at % 8) as u8)));
+                    return Err(AccessError::Tube(Op::Read((at % 8) as u8)));
                 }
                 Ok(Done {
                     byte: self.bus.read(Tick(t), at),
@@ -239,7 +239,7 @@ impl<D: BusDevice> TubeBus<()> for HostBus<D> {
             }
             Cycle::Write(at, v) => {
                 if self.answers(at) {
-                    return Err(Unable::Tube(Op::Write((at % 8) as u8, v)));
+                    return Err(AccessError::Tube(Op::Write((at % 8) as u8, v)));
                 }
                 self.bus.write(Tick(t), at, v);
                 Ok(Done {

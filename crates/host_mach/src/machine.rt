@@ -6,7 +6,7 @@ ghost use Rattle.sn76489.specs.Samples.{NeverFallFrom};
 ghost use Rattle.cpu6502.specs.Sequences.{halted, starting};
 ghost use Rattle.host_mach.specs.State.{power_on, with_tube};
 ghost use Rattle.tube_party.specs.Transitions.{shown_lines};
-ghost use Rattle.tube_machine.specs.Passing.{IsOver, Passes};
+ghost use Rattle.tube_machine.specs.SkipWhile.{IsSkipped, Passes};
 ghost use Rattle.host_mach.specs.Step.{host_bus_model, host_transitions};
 ghost use Rattle.host_mach.specs.Peek.{host_peek};
 
@@ -23,7 +23,7 @@ use rom_set::RomSet;
 use sn76489::SoundWrite;
 use std::alloc::Global;
 use tube_chip::{Answer, Lines};
-use tube_machine::{Passing, advance_at, advance_seeing, answer, pass_over};
+use tube_machine::{SkipWhile, advance_at, advance_seeing, answer, skip_over};
 use tube_party::{Ask, TubePort, MOST, NO_LINES, Party};
 
 /// The BBC Micro: a 6502 at 2 MHz and its bus, with the Tube at FEE0 to FEFF, unless it is made
@@ -119,17 +119,17 @@ impl<D: BusDevice> HostMachine<D> {
         self.bus.bus.peek(at)
     }
 
-    /// Skips instructions whose starts `passing` names. Their looks see these lines, and come
+    /// Skips instructions whose starts `skip` names. Their looks see these lines, and come
     /// before `until` and `safe_until`. It may stop at any start. In the middle of an instruction
     /// it does nothing.
     #[inline(always)]
-    pub fn pass(&mut self, until: Tick, lines: &Lines, safe_until: Tick, passing: Passing)
+    pub fn skip_while(&mut self, until: Tick, lines: &Lines, safe_until: Tick, skip: SkipWhile)
         requires { until.0 ≤ 2 ^ 30 }
         ensures { let old = host_seen D.plug self.old in
             let new = host_seen D.plug self.new in
-            (k : ℕ) × Passes host_transitions (λ s. IsOver passing s.due s.cpu.regs.pc (host_peek s)) until.0 (shown_lines lines.now safe_until.0) k old new }
+            (k : ℕ) × Passes host_transitions (λ s. IsSkipped skip s.due s.cpu.regs.pc (host_peek s)) until.0 (shown_lines lines.now safe_until.0) k old new }
     {
-        pass_over::<(), Cpu, HostBus<D>>(
+        skip_over::<(), Cpu, HostBus<D>>(
             &mut self.cpu,
             &mut self.bus,
             &mut self.due,
@@ -137,7 +137,7 @@ impl<D: BusDevice> HostMachine<D> {
             until,
             lines,
             safe_until,
-            passing,
+            skip,
         );
     }
 

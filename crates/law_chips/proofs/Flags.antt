@@ -6,7 +6,7 @@ use Rattle.via6522.specs.declared.Pins.{Pins}
 use Rattle.via6522.specs.Lines.{is_edge}
 use Rattle.via6522.specs.Step.{step}
 use Rattle.law_chips.specs.Edges.{has_active, Ca1Sees, Ca2Sees, Cb1Sees, Cb2Sees}
-use Rattle.via6522.specs.State.{State, power_on, Causes}
+use Rattle.via6522.specs.State.{State, power_on, InterruptFlags}
 use Rattle.via6522.specs.Registers.{read_leaves, write_leaves, port, answer_of, asks, causes_byte, set_marked, clear_marked}
 use Rattle.law_chips.specs.ViaBytes.{Move, microsecond, read, write, after_move, after_moves, WritesByte, WriteBytes, HasByteLatches, LatchesAreBytes}
 use Rattle.std.specs.Prelude.{bit_and, bit_or, if◌then◌else◌}
@@ -310,13 +310,13 @@ has_digits a b c d e f g h =
     }
 
 -- a register of flags, with something in bit 7
-flag_bit : (top : Bool) (s : Causes) (f : Flag) → bit (weight 128 top + causes_byte s) (bit_of f) ≡ is_set f s
+flag_bit : (top : Bool) (s : InterruptFlags) (f : Flag) → bit (weight 128 top + causes_byte s) (bit_of f) ≡ is_set f s
 unfolding byte_of
 flag_bit top s =
     let is = has_digits top s.timer1 s.timer2 s.cb1 s.cb2 s.shift s.ca1 s.ca2 in
     each (λ f. bit (weight 128 top + causes_byte s) (bit_of f) ≡ is_set f s) is.bit6 is.bit5 is.bit4 is.bit3 is.bit2 is.bit1 is.bit0
 
-top_bit : (top : Bool) (s : Causes) → bit (weight 128 top + causes_byte s) 7 ≡ top
+top_bit : (top : Bool) (s : InterruptFlags) → bit (weight 128 top + causes_byte s) 7 ≡ top
 unfolding byte_of
 top_bit top s = (has_digits top s.timer1 s.timer2 s.cb1 s.cb2 s.shift s.ca1 s.ca2).bit7
 
@@ -333,7 +333,7 @@ line c =
 marked : (up mark before : Bool) → (if up then before || mark else before && not mark) ≡ (if mark then up else before)
 marked up mark before = grind arith
 
-set_by : (up : Bool) (v : ℕ) (s : Causes) (f : Flag) →
+set_by : (up : Bool) (v : ℕ) (s : InterruptFlags) (f : Flag) →
     is_set f (if up then set_marked v s else clear_marked v s) ≡ (if up then is_set f s || bit v (bit_of f) else is_set f s && not (bit v (bit_of f)))
 set_by up v s f = grind arith
 

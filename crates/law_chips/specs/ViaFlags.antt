@@ -4,7 +4,7 @@ use Rattle.std.specs.Prelude.{ℕ, ◌≡◌, ◌==◌, ◌&&◌, ◌||◌, not,
 use Rattle.std.specs.List.{list_any}
 use Rattle.beeb_bits.specs.Bits.{bit}
 use Rattle.via6522.specs.declared.Pins.{Pins}
-use Rattle.via6522.specs.State.{State, Causes}
+use Rattle.via6522.specs.State.{State, InterruptFlags}
 use Rattle.via6522.specs.Registers.{answer_of, asks, read_leaves, write_leaves}
 use Rattle.via6522.specs.Step.{step}
 use Rattle.law_chips.specs.ViaBytes.{Move, microsecond, read, write, after_move, after_moves}
@@ -31,7 +31,7 @@ bit_of shift_register = 2
 bit_of line_ca1 = 1
 bit_of line_ca2 = 0
 
-abbrev pub is_set : Flag → Causes → Bool
+abbrev pub is_set : Flag → InterruptFlags → Bool
 is_set timer_1 s = s.timer1
 is_set timer_2 s = s.timer2
 is_set line_cb1 s = s.cb1

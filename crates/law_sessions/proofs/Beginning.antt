@@ -6,7 +6,7 @@ use Rattle.bus_plug.specs.Plug.{Plug}
 use Rattle.digits.specs.Decimal.{is_decimal, decimal_value}
 use Rattle.host_mach.specs.State.{HostState}
 use Rattle.para_mach.specs.State.{ParaState}
-use Rattle.cmd_words.specs.declared.keys.Slot.{Slot}
+use Rattle.cmd_words.specs.declared.keys.InputKind.{InputKind}
 use Rattle.cmd_words.specs.Keys.{keys}
 use Rattle.cmd_words.specs.Given.{Values, value_of, plugs_in}
 use Rattle.cmd_words.specs.Reads.{files_of, HaveRomSlots}
@@ -29,8 +29,8 @@ few_plugs (Some word) = by_value (is_decimal word) (decimal_value word)
 
 -- ---- a run that begins
 
-begins : (given : Values) (ws : List (Want Slot)) → AreCapped ws → HaveRomSlots (map (λ (w : Want Slot). w.0) ws) →
-    (list : Inputs Slot) (plugs : List Plug) (m : HostState × ParaState) → AreWithin ws list → machines_of (setup_of given plugs) (inputs.inputs_of list) ≡ Ok m →
+begins : (given : Values) (ws : List (Want InputKind)) → AreCapped ws → HaveRomSlots (map (λ (w : Want InputKind). w.0) ws) →
+    (list : Inputs InputKind) (plugs : List Plug) (m : HostState × ParaState) → AreWithin ws list → machines_of (setup_of given plugs) (inputs.inputs_of list) ≡ Ok m →
     Begins (setup_of given plugs) (inputs.inputs_of list) plugs m
 unfolding inputs.inputs_of
 begins given ws capped rise list plugs m fits made =

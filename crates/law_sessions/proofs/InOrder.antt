@@ -37,7 +37,7 @@ use Rattle.save_state.specs.declared.StateError.{StateError}
 use Rattle.save_state.specs.declared.StateError.TheVariants as state_errors
 use Rattle.save_state.specs.Saved.{Session}
 use Rattle.save_state.specs.File as sessions
-use Rattle.cmd_words.specs.declared.keys.Slot.{Slot}
+use Rattle.cmd_words.specs.declared.keys.InputKind.{InputKind}
 use Rattle.cmd_words.specs.Command.{Command, check, asm, dis, replay, solo, run, resume, follow, gen}
 use Rattle.cmd_words.specs.Reads.{reads}
 use Rattle.cmd_stages.specs.declared.stop.Stop.{Stop}
@@ -95,20 +95,20 @@ Says r list = Tells (or_stop r) list
 
 -- ---- reading
 
-by_length : (b : Bool) (slot : Slot) (name bytes : List ℕ) (rest : Result (plans.Inputs Slot) (Stop Cause)) (k : plans.Inputs Slot → Result (Verdict Ending) (Stop Cause))
+by_length : (b : Bool) (slot : InputKind) (name bytes : List ℕ) (rest : Result (plans.Inputs InputKind) (Stop Cause)) (k : plans.Inputs InputKind → Result (Verdict Ending) (Stop Cause))
     (list : List (Option Status)) → Tells (rest >>= λ more. k ((slot, bytes) ∷ more)) list →
     Tells (((if b then Err (stops.TooLong name) else Ok bytes) >>= λ (x : List ℕ). rest >>= λ more. Ok ((slot, x) ∷ more)) >>= k) ((if b then Some (TooLong name) else None) ∷ list)
 by_length true slot name bytes rest k list tells = refl
 by_length false slot name bytes (Ok more) k list tells = tells
 by_length false slot name bytes (Err stop) k list tells = tells
 
-one_read : (w : Want Slot) (o : Option (List ℕ)) (rest : Result (plans.Inputs Slot) (Stop Cause)) (k : plans.Inputs Slot → Result (Verdict Ending) (Stop Cause))
+one_read : (w : Want InputKind) (o : Option (List ℕ)) (rest : Result (plans.Inputs InputKind) (Stop Cause)) (k : plans.Inputs InputKind → Result (Verdict Ending) (Stop Cause))
     (list : List (Option Status)) → Tells (rest >>= λ more. k ((w.0, unwrap_or o []) ∷ more)) list →
     Tells ((within w.1 w.2 o >>= λ bytes. rest >>= λ more. Ok ((w.0, bytes) ∷ more)) >>= k) (unread_by w.1 w.2 o ∷ list)
 one_read w None rest k list tells = refl
 one_read w (Some bytes) rest k list tells = by_length (nat_lt w.2 (length bytes)) w.0 w.1 bytes rest k list tells
 
-all_read : (files : Files) (ws : List (Want Slot)) (k : plans.Inputs Slot → Result (Verdict Ending) (Stop Cause)) (list : List (Option Status)) →
+all_read : (files : Files) (ws : List (Want InputKind)) (k : plans.Inputs InputKind → Result (Verdict Ending) (Stop Cause)) (list : List (Option Status)) →
     Tells (k (held files ws)) list → Tells (read_all files ws >>= k) (map (unread files) ws ++ list)
 all_read files [] k list tells = tells
 all_read files (w ∷ ws) k list tells =
@@ -333,14 +333,14 @@ comes_to (Differs line doing) ending is = inr refl
 comes_to s ending is = cc
 
 -- both parts of what was read
-parts_read : (slot : Slot) (one : Result (List ℕ) (Stop Cause)) (more : Result (plans.Inputs Slot) (Stop Cause)) (inputs : plans.Inputs Slot) →
-    (one >>= λ bytes. more >>= λ m. Ok ((slot, bytes) ∷ m)) ≡ Ok inputs → (bytes : List ℕ) × (m : plans.Inputs Slot) × (one ≡ Ok bytes) × (more ≡ Ok m)
+parts_read : (slot : InputKind) (one : Result (List ℕ) (Stop Cause)) (more : Result (plans.Inputs InputKind) (Stop Cause)) (inputs : plans.Inputs InputKind) →
+    (one >>= λ bytes. more >>= λ m. Ok ((slot, bytes) ∷ m)) ≡ Ok inputs → (bytes : List ℕ) × (m : plans.Inputs InputKind) × (one ≡ Ok bytes) × (more ≡ Ok m)
 parts_read slot (Ok bytes) (Ok m) inputs is = (bytes, m, refl, refl)
 parts_read slot (Ok bytes) (Err stop) inputs is = cc
 parts_read slot (Err stop) more inputs is = cc
 
 -- a file that is not there, behind files that were read
-stops_there : (files : Files) (front : List (Want Slot)) (w : Want Slot) (rest : List (Want Slot)) (inputs : plans.Inputs Slot) →
+stops_there : (files : Files) (front : List (Want InputKind)) (w : Want InputKind) (rest : List (Want InputKind)) (inputs : plans.Inputs InputKind) →
     read_all {C = Cause} files front ≡ Ok inputs → bytes_of files w.1 ≡ None → read_all {C = Cause} files (front ++ w ∷ rest) ≡ Err (stops.ReadFault w.1)
 stops_there files [] w rest inputs read gone = rw gone
 stops_there files (x ∷ front) w rest inputs read gone =
@@ -348,17 +348,17 @@ stops_there files (x ∷ front) w rest inputs read gone =
     rw (got.2, stops_there files front w rest got.1 got.3 gone)
 
 -- no cause holds of files that were read
-none_unread : (files : Files) (front : List (Want Slot)) (inputs : plans.Inputs Slot) → read_all {C = Cause} files front ≡ Ok inputs → first_of (map (unread files) front) ≡ Done
+none_unread : (files : Files) (front : List (Want InputKind)) (inputs : plans.Inputs InputKind) → read_all {C = Cause} files front ≡ Ok inputs → first_of (map (unread files) front) ≡ Done
 none_unread files front inputs read =
     let done : Verdict Ending = record { ending = endings.Done; files = []; said = [] } in
     let tells : Tells (read_all files front >>= λ _. Ok done) (map (unread files) front ++ []) = all_read files front (λ _. Ok done) [] refl in
     same_end (first_of (map (unread files) front)) Done
     (ap (λ xs. end_of (first_of xs)) (sym (append-nil (map (unread files) front))) ∙ tells
-    ∙ ap (λ (r : Result (plans.Inputs Slot) (Stop Cause)). Some (ending_of (r >>= λ _. Ok done))) read)
+    ∙ ap (λ (r : Result (plans.Inputs InputKind) (Stop Cause)). Some (ending_of (r >>= λ _. Ok done))) read)
 
 module _ (lengths : LengthsComeFirst) (plugs : List Plug) (files : Files) (c : Command) (old new : World) (told : old.shelf.files ≡ Some files)
     (alone : (seed : ℕ) → Some c ≡ Some (gen seed) → ⊥) where
-  abbrev the_plan : Plan Slot Ending Cause
+  abbrev the_plan : Plan InputKind Ending Cause
   the_plan = plan plugs c
 
   abbrev the_causes : List (Option Status)
@@ -371,8 +371,8 @@ module _ (lengths : LengthsComeFirst) (plugs : List Plug) (files : Files) (c : C
   lands status r is end =
       same_end status (first_of the_causes) (end ∙ sym (verdict_told lengths plugs c files alone ∙ ap (λ (x : Result (Verdict Ending) (Stop Cause)). Some (ending_of x)) is))
 
-  stopped : (r : Result (plans.Inputs Slot) (Stop Cause)) → read_all {C = Cause} files (reads c) ≡ r → verdict the_plan files ≡ (r >>= λ inputs. or_stop (the_plan.after inputs))
-  stopped r is = ap (λ (x : Result (plans.Inputs Slot) (Stop Cause)). x >>= λ inputs. or_stop (the_plan.after inputs)) is
+  stopped : (r : Result (plans.Inputs InputKind) (Stop Cause)) → read_all {C = Cause} files (reads c) ≡ r → verdict the_plan files ≡ (r >>= λ inputs. or_stop (the_plan.after inputs))
+  stopped r is = ap (λ (x : Result (plans.Inputs InputKind) (Stop Cause)). x >>= λ inputs. or_stop (the_plan.after inputs)) is
 
   unread_lands : (status : Status) (name : List ℕ) → end_of status ≡ Some (Err (stops.ReadFault name)) → IsReached Cause (reads c) name files → bytes_of files name ≡ None →
       status ≡ first_of the_causes

@@ -6,8 +6,8 @@ use Rattle.std.specs.List.{range_with_len}
 use Rattle.disc_image.specs.declared.Kind.{Kind}
 use Rattle.disc_image.specs.declared.Kind.TheVariants.{Ssd, Dsd}
 use Rattle.rom_set.specs.Roms.{Rom}
-use Rattle.cmd_words.specs.declared.keys.Slot.{Slot}
-use Rattle.cmd_words.specs.declared.keys.Slot.TheVariants as slots
+use Rattle.cmd_words.specs.declared.keys.InputKind.{InputKind}
+use Rattle.cmd_words.specs.declared.keys.InputKind.TheVariants as slots
 use Rattle.cmd_words.specs.Reads.{rise_from}
 use Rattle.save_state.specs.Saved.{Session}
 use Rattle.cmd_machines.specs.Inputs.{Inputs, no_inputs, with_input, with_inputs, inputs_of}
@@ -35,10 +35,10 @@ none_in slot low (r ∷ roms) h rises =
     rw other (none_in slot (r.slot + 1) roms further later)
 
 -- those of a range of slots, and then more
-abbrev these : ℕ → ℕ → List Slot → List Slot
+abbrev these : ℕ → ℕ → List InputKind → List InputKind
 these low count more = map slots.Rom (range_with_len low count) ++ more
 
-module _ (i : Inputs) (more : List Slot) where
+module _ (i : Inputs) (more : List InputKind) where
   abbrev Reads : ℕ → ℕ → Inputs → Inputs → Type 0
   Reads low count x y =
       with_inputs (there (these low count more) (map (part_of i) (these low count more))) x ≡ with_inputs (there more (map (part_of i) more)) y
@@ -118,30 +118,30 @@ module _ (os tube : List ℕ) (roms : List Rom) where
   read_keys font disc0 disc1 None = refl
   read_keys font disc0 disc1 (Some bytes) = refl
 
-  read_disc1 : (font disc0 p : Option (List ℕ)) (more : List (Slot × List ℕ)) →
+  read_disc1 : (font disc0 p : Option (List ℕ)) (more : List (InputKind × List ℕ)) →
       with_inputs (if_there (slots.Disc 1) p ++ more) (made_of os tube roms font disc0 None None) ≡ with_inputs more (made_of os tube roms font disc0 p None)
   read_disc1 font disc0 None more = refl
   read_disc1 font disc0 (Some bytes) more = refl
 
-  read_disc0 : (font p : Option (List ℕ)) (more : List (Slot × List ℕ)) →
+  read_disc0 : (font p : Option (List ℕ)) (more : List (InputKind × List ℕ)) →
       with_inputs (if_there (slots.Disc 0) p ++ more) (made_of os tube roms font None None None) ≡ with_inputs more (made_of os tube roms font p None None)
   read_disc0 font None more = refl
   read_disc0 font (Some bytes) more = refl
 
-  read_font : (p : Option (List ℕ)) (more : List (Slot × List ℕ)) →
+  read_font : (p : Option (List ℕ)) (more : List (InputKind × List ℕ)) →
       with_inputs (if_there slots.Font p ++ more) (made_of os tube roms None None None None) ≡ with_inputs more (made_of os tube roms p None None None)
   read_font None more = refl
   read_font (Some bytes) more = refl
 
-abbrev last_slots : List Slot
+abbrev last_slots : List InputKind
 last_slots = slots.Font ∷ slots.Disc 0 ∷ slots.Disc 1 ∷ slots.Keys ∷ []
 
 read_last : (i : Inputs) (roms : List Rom) →
     with_inputs (there last_slots (map (part_of i) last_slots)) (made_of i.os i.tube roms None None None None) ≡ made_of i.os i.tube roms i.font i.disc0 i.disc1 i.keys
 read_last i roms =
-    let keys : List (Slot × List ℕ) = if_there slots.Keys i.keys ++ [] in
-    let disc1 : List (Slot × List ℕ) = if_there (slots.Disc 1) i.disc1 ++ keys in
-    let disc0 : List (Slot × List ℕ) = if_there (slots.Disc 0) i.disc0 ++ disc1 in
+    let keys : List (InputKind × List ℕ) = if_there slots.Keys i.keys ++ [] in
+    let disc1 : List (InputKind × List ℕ) = if_there (slots.Disc 1) i.disc1 ++ keys in
+    let disc0 : List (InputKind × List ℕ) = if_there (slots.Disc 0) i.disc0 ++ disc1 in
     read_font i.os i.tube roms i.font disc0
     ∙ read_disc0 i.os i.tube roms i.font i.disc0 disc1
     ∙ read_disc1 i.os i.tube roms i.font i.disc0 i.disc1 keys

@@ -12,7 +12,7 @@ use Rattle.para_mach.specs.Step.{para_transitions}
 use Rattle.save_state.specs.Saved.{Session}
 use Rattle.save_state.specs.File.{file_of, IsSession}
 use Rattle.save_state.specs.Laws.{AreBytes}
-use Rattle.cmd_words.specs.declared.keys.Slot.{Slot}
+use Rattle.cmd_words.specs.declared.keys.InputKind.{InputKind}
 use Rattle.cmd_words.specs.Given.{Values}
 use Rattle.cmd_words.specs.Command.{Command, solo, run}
 use Rattle.cmd_words.specs.Reads.{reads, rise_from, IsWithin}
@@ -109,7 +109,7 @@ SavedRunIsOneRun =
 abbrev pub GoesOn : Command → ℕ → ℕ → Values → Type 0
 GoesOn c n keep given =
     IsWithin c →
-    (list : plans.Inputs Slot) (plugs : List Plug) (m : HostState × ParaState) →
+    (list : plans.Inputs InputKind) (plugs : List Plug) (m : HostState × ParaState) →
     AreWithin (reads c) list →
     machines_of (setup_of given plugs) (inputs_of list) ≡ Ok m →
     IsOneRun (setup_of given plugs) (inputs_of list) plugs m n keep

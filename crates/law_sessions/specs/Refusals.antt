@@ -34,7 +34,7 @@ use Rattle.save_state.specs.declared.StateError.{StateError}
 use Rattle.save_state.specs.declared.StateError.TheVariants as state_errors
 use Rattle.save_state.specs.Saved.{Session}
 use Rattle.save_state.specs.File as sessions
-use Rattle.cmd_words.specs.declared.keys.Slot.{Slot}
+use Rattle.cmd_words.specs.declared.keys.InputKind.{InputKind}
 use Rattle.cmd_words.specs.Command.{Command, check, asm, dis, replay, solo, run, resume, follow, gen}
 use Rattle.cmd_words.specs.Reads.{reads}
 use Rattle.cmd_stages.specs.Plan.{Verdict, Want, verdict}
@@ -70,7 +70,7 @@ abbrev pub unread_by : List ℕ → ℕ → Option (List ℕ) → Option Status
 unread_by name cap None = Some (ReadFault name)
 unread_by name cap (Some bytes) = if nat_lt cap (length bytes) then Some (TooLong name) else None
 
-abbrev pub unread : Files → Want Slot → Option Status
+abbrev pub unread : Files → Want InputKind → Option Status
 unread files w = unread_by w.1 w.2 (bytes_of files w.1)
 
 -- The image's length is outside its set.
@@ -153,8 +153,8 @@ differs_at (Some place) = Some (Differs place.0 place.1)
 -- ---- The subjects of the causes
 
 -- the bytes of each file that is read, or none if the shelf has no such file
-abbrev pub held : Files → List (Want Slot) → List (Slot × List ℕ)
-held files ws = map (λ (w : Want Slot). (w.0, unwrap_or (bytes_of files w.1) [])) ws
+abbrev pub held : Files → List (Want InputKind) → List (InputKind × List ℕ)
+held files ws = map (λ (w : Want InputKind). (w.0, unwrap_or (bytes_of files w.1) [])) ws
 
 -- the entries of a trace, or none if the bytes are no trace
 abbrev pub entries_in : Result (Clock × List Entry) TraceError → List Entry
@@ -274,7 +274,7 @@ pub record RefusesInOrder (plugs : List Plug) (files : Files) (spelt : Option Co
   pub first : IfSome spelt (NoFault plugs files old new) → (status ≡ first_of (causes plugs files spelt)) ⊎ (status ≡ NoMemory)
   -- A fault of reading takes the place of its file: no cause holds for the files before it.
   pub reading : (name : List ℕ) → status ≡ ReadFault name →
-      (c : Command) × (front : List (Want Slot)) × (w : Want Slot) × (rest : List (Want Slot))
+      (c : Command) × (front : List (Want InputKind)) × (w : Want InputKind) × (rest : List (Want InputKind))
       × (spelt ≡ Some c) × (reads c ≡ front ++ w ∷ rest) × (w.1 ≡ name) × (first_of (map (unread files) front) ≡ Done)
   -- Faults of threads and of writing come after all reading.
   pub starting : status ≡ NoThread → ComesToWriting (causes plugs files spelt)

@@ -4,7 +4,7 @@ use Rattle.std.specs.Prelude.{ℕ, ◌≡◌, List, Ok}
 use Rattle.bus_plug.specs.Plug.{Plug}
 use Rattle.host_mach.specs.State.{HostState}
 use Rattle.para_mach.specs.State.{ParaState}
-use Rattle.cmd_words.specs.declared.keys.Slot.{Slot}
+use Rattle.cmd_words.specs.declared.keys.InputKind.{InputKind}
 use Rattle.cmd_words.specs.Given.{Values}
 use Rattle.cmd_words.specs.Command.{Command, solo, run}
 use Rattle.cmd_words.specs.Reads.{reads, IsWithin}
@@ -20,7 +20,7 @@ use Rattle.law_sessions.specs.OneRun.{Begins}
 abbrev pub Begin : Command → Values → Type 0
 Begin c given =
     IsWithin c →
-    (list : plans.Inputs Slot) (plugs : List Plug) (m : HostState × ParaState) →
+    (list : plans.Inputs InputKind) (plugs : List Plug) (m : HostState × ParaState) →
     AreWithin (reads c) list →
     machines_of (setup_of given plugs) (inputs_of list) ≡ Ok m →
     Begins (setup_of given plugs) (inputs_of list) plugs m

@@ -14,13 +14,13 @@ use Rattle.tube_chip.specs.declared.Lines.{Lines}
 use Rattle.tube_chip.specs.declared.Op.{Op}
 use Rattle.tube_chip.specs.declared.Answer.{Answer}
 use Rattle.tube_chip.specs.declared.Answer.TheVariants.{Byte, Seen}
-use Rattle.tube_party.specs.Transitions.{Shown, Looks, Talks, Sees, Hears, GoesHearing, IsAsk, shown_lines}
-use Rattle.tube_party.specs.Steps.{After, look_last, looks_wider, silent_all, talks_on}
+use Rattle.tube_party.specs.Transitions.{Shown, Looks, PortRun, LookRunToAsk, PortRunToAsk, PortRunToAnyAsk, IsAsk, shown_lines}
+use Rattle.tube_party.specs.Steps.{After, look_last, looks_wider, silent_all, port_run_on}
 use Rattle.tube_party.specs.declared.party.Ask.{Ask}
 use Rattle.tube_party.specs.declared.party.Ask.TheVariants.{Nothing, Access, Look}
 use Rattle.tube_machine.specs.Step.{asks_by, after_held_cycle, after_step, closed_to, lines_in}
-use Rattle.tube_machine.specs.declared.pass.Passing.{Passing}
-use Rattle.tube_machine.specs.Passing.{IsOver, ToLook, Passes, over_at}
+use Rattle.tube_machine.specs.declared.skip_while.SkipWhile.{SkipWhile}
+use Rattle.tube_machine.specs.SkipWhile.{IsSkipped, ToLook, Passes, skipped_at}
 use Rattle.para_mach.specs.State.{ParaBusState, ParaState, shown_regs}
 use Rattle.para_mach.specs.Peek.{peek_of, para_peek}
 use Rattle.para_mach.specs.Step.{para_bus_model, para_transitions, next_state}
@@ -57,19 +57,19 @@ module _ (n : ℕ) (lines : Lines) (safe_until : ℕ) where
   ask_held last new (Access t o) held is = rw is.3 held
   ask_held last new (Look t) held is = rw is.3 held
 
-  talks_held : {D : Type 0} (answers : D → ℕ → Op → ℕ → D → Type 0) (j : ℕ) (s last : ParaState) (d e : D) → IsHeldAtLook s
-      → Talks para_transitions answers n (shown_lines lines safe_until) j s d last e → IsHeldAtLook last
-  talks_held answers zero s last d e held h = looks_held h.1.0 s last held h.1.1
-  talks_held answers (suc j) s last d e held h =
+  port_run_held : {D : Type 0} (answers : D → ℕ → Op → ℕ → D → Type 0) (j : ℕ) (s last : ParaState) (d e : D) → IsHeldAtLook s
+      → PortRun para_transitions answers n (shown_lines lines safe_until) j s d last e → IsHeldAtLook last
+  port_run_held answers zero s last d e held h = looks_held h.1.0 s last held h.1.1
+  port_run_held answers (suc j) s last d e held h =
       let there : IsHeldAtLook h.0 = looks_held h.3.0 s h.0 held h.3.1 in
-      talks_held answers j h.1 last h.2 e (rw h.4.goes (next_held h.0 (Some (Byte h.4.byte)) there)) h.5
+      port_run_held answers j h.1 last h.2 e (rw h.4.goes (next_held h.0 (Some (Byte h.4.byte)) there)) h.5
 
 module _ {n : ℕ} {lines : Lines} {safe_until : ℕ} {old new : ParaState} {ask : Ask} (held : IsHeldAtLook old) where
-  pub sees_held : Sees para_transitions n (shown_lines lines safe_until) old ask new → IsHeldAtLook new
+  pub sees_held : LookRunToAsk para_transitions n (shown_lines lines safe_until) old ask new → IsHeldAtLook new
   sees_held sees = ask_held n lines safe_until sees.last new ask (looks_held n lines safe_until sees.steps old sees.last held sees.looks) sees.asked
 
-  pub hears_held : {D : Type 0} {answers : D → ℕ → Op → ℕ → D → Type 0} {d e : D} → Hears para_transitions answers n (shown_lines lines safe_until) old d ask new e → IsHeldAtLook new
-  hears_held {answers = answers} {d} {e} hears = ask_held n lines safe_until hears.last new ask (talks_held n lines safe_until answers hears.accesses old hears.last d e held hears.talks) hears.asked
+  pub port_run_to_ask_held : {D : Type 0} {answers : D → ℕ → Op → ℕ → D → Type 0} {d e : D} → PortRunToAsk para_transitions answers n (shown_lines lines safe_until) old d ask new e → IsHeldAtLook new
+  port_run_to_ask_held {answers = answers} {d} {e} port_run_to_ask = ask_held n lines safe_until port_run_to_ask.last new ask (port_run_held n lines safe_until answers port_run_to_ask.accesses old port_run_to_ask.last d e held port_run_to_ask.port_run) port_run_to_ask.asked
 
 -- ---- Held
 
@@ -104,19 +104,19 @@ held_more {n} {lines} {safe_until} {start} {s} {new} so_far stands other low ear
 
 -- the steps of a run, and the next ask; its looks may be nearer than they need be
 module _ (n : ℕ) (lines : Lines) {near safe_until : ℕ} {D : Type 0} (answers : D → ℕ → Op → ℕ → D → Type 0) (low : near ≤ safe_until) where
-  talks_wider : (j : ℕ) (s last : ParaState) (d e : D) → Talks para_transitions answers n (shown_lines lines near) j s d last e → Talks para_transitions answers n (shown_lines lines safe_until) j s d last e
-  talks_wider zero s last d e h = (h.0, (h.1.0, looks_wider para_transitions n lines near safe_until h.1.0 s last low h.1.1))
-  talks_wider (suc j) s last d e h = (h.0, h.1, h.2, (h.3.0, looks_wider para_transitions n lines near safe_until h.3.0 s h.0 low h.3.1), h.4, talks_wider j h.1 last h.2 e h.5)
+  port_run_wider : (j : ℕ) (s last : ParaState) (d e : D) → PortRun para_transitions answers n (shown_lines lines near) j s d last e → PortRun para_transitions answers n (shown_lines lines safe_until) j s d last e
+  port_run_wider zero s last d e h = (h.0, (h.1.0, looks_wider para_transitions n lines near safe_until h.1.0 s last low h.1.1))
+  port_run_wider (suc j) s last d e h = (h.0, h.1, h.2, (h.3.0, looks_wider para_transitions n lines near safe_until h.3.0 s h.0 low h.3.1), h.4, port_run_wider j h.1 last h.2 e h.5)
 
 module _ {n : ℕ} {lines : Lines} {near safe_until : ℕ} {D : Type 0} {answers : D → ℕ → Op → ℕ → D → Type 0} (low : near ≤ safe_until) {old new : ParaState} {d e : D} {ask : Ask} where
-  pub hears_wider : Hears para_transitions answers n (shown_lines lines near) old d ask new e → GoesHearing para_transitions answers n (shown_lines lines safe_until) old d ask new e
-  hears_wider hears = record { accesses = hears.accesses; last = hears.last; talks = talks_wider n lines answers low hears.accesses old hears.last d e hears.talks; asked = hears.asked }
+  pub port_run_to_ask_wider : PortRunToAsk para_transitions answers n (shown_lines lines near) old d ask new e → PortRunToAnyAsk para_transitions answers n (shown_lines lines safe_until) old d ask new e
+  port_run_to_ask_wider port_run_to_ask = record { accesses = port_run_to_ask.accesses; last = port_run_to_ask.last; port_run = port_run_wider n lines answers low port_run_to_ask.accesses old port_run_to_ask.last d e port_run_to_ask.port_run; asked = port_run_to_ask.asked }
 
-  pub goes_on_wider : {last : ParaState} → (j : ℕ) × Talks para_transitions answers n (shown_lines lines near) j old d last e
-      → LooksOn n (shown_lines lines safe_until) last ask new → GoesHearing para_transitions answers n (shown_lines lines safe_until) old d ask new e
+  pub goes_on_wider : {last : ParaState} → (j : ℕ) × PortRun para_transitions answers n (shown_lines lines near) j old d last e
+      → LooksOn n (shown_lines lines safe_until) last ask new → PortRunToAnyAsk para_transitions answers n (shown_lines lines safe_until) old d ask new e
   goes_on_wider {last} came goes =
-      let all = talks_on para_transitions answers n lines safe_until came.0 0 old last goes.last d e e (talks_wider n lines answers low came.0 old last d e came.1) (refl, (goes.steps, goes.looks)) in
-      record { accesses = all.0; last = goes.last; talks = all.1; asked = goes.asked }
+      let all = port_run_on para_transitions answers n lines safe_until came.0 0 old last goes.last d e e (port_run_wider n lines answers low came.0 old last d e came.1) (refl, (goes.steps, goes.looks)) in
+      record { accesses = all.0; last = goes.last; port_run = all.1; asked = goes.asked }
 
 -- ---- Rolled back
 
@@ -148,11 +148,11 @@ to_look_held n v s u held looks =
     rw looks.next (next_held looks.last (Some (Seen v.lines)) (rw looks.goes.asked.3 there))
 
 -- by the registers that are shown
-pub passes_held : (passing : Passing) (n : ℕ) (v : Shown) (k : ℕ) (s last : ParaState) → IsHeldAtLook s → Passes para_transitions (over_at (λ b at. peek_of b.ram b.rom b.rom_in at) passing) n v k s last →
-    Passes para_transitions (λ (x : ParaState). IsOver passing x.due (shown_regs x).pc (para_peek x)) n v k s last × IsHeldAtLook last
-passes_held passing n v zero s last held h = (h, subst IsHeldAtLook h held)
-passes_held passing n v (suc k) s last held h =
+pub passes_held : (skip : SkipWhile) (n : ℕ) (v : Shown) (k : ℕ) (s last : ParaState) → IsHeldAtLook s → Passes para_transitions (skipped_at (λ b at. peek_of b.ram b.rom b.rom_in at) skip) n v k s last →
+    Passes para_transitions (λ (x : ParaState). IsSkipped skip x.due (shown_regs x).pc (para_peek x)) n v k s last × IsHeldAtLook last
+passes_held skip n v zero s last held h = (h, subst IsHeldAtLook h held)
+passes_held skip n v (suc k) s last held h =
     let u : ParaState = h.1.0 in
-    let rest = passes_held passing n v k u last (to_look_held n v s u held h.1.1.0) h.1.1.1 in
-    let over : IsOver passing s.due (shown_regs s).pc (para_peek s) = rw (shown_at s held h.0.0) h.0.1 in
+    let rest = passes_held skip n v k u last (to_look_held n v s u held h.1.1.0) h.1.1.1 in
+    let over : IsSkipped skip s.due (shown_regs s).pc (para_peek s) = rw (shown_at s held h.0.0) h.0.1 in
     ((over, (u, (h.1.1.0, rest.0))), rest.1)

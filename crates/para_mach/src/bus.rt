@@ -10,7 +10,7 @@ use cpu_whole::{LastAccess, Plain, branch_to, last_access, whole};
 use op_table::Part;
 use std::marker::Model;
 use tube_chip::{Lines, Op};
-use tube_machine::{Done, Interrupts, TubeBus, Unable};
+use tube_machine::{Done, Interrupts, TubeBus, AccessError};
 
 /// The memory and the Tube, with the counts of the Tube's lines that were taken.
 #[derive(Drop)]
@@ -206,7 +206,7 @@ impl<N: Notes> TubeBus<N> for ParaBus {
     }
 
     #[inline(always)]
-    fn exchange(&mut self, t: u64, cycle: Cycle, notes: &mut N) -> Result<Done, Unable> {
+    fn exchange(&mut self, t: u64, cycle: Cycle, notes: &mut N) -> Result<Done, AccessError> {
         match self.memory.exchange(cycle, notes) {
             Ok(byte) => {
                 self.closed = t + 1;

@@ -1,8 +1,8 @@
 //! The machine.
 ghost use Rattle.std.specs.Prelude.{◌≡◌, ◌≤◌, ◌≢◌, ◌↔◌, ◌⊎◌, ◌<◌, ◌+◌, ◌-◌, ◌^◌, ℕ, IfOk, IfErr, IfSome, length, Err, None, MatchOption, IsSome, is_none, true, vec_len, vec_capacity};
 ghost use Rattle.cpu65c02.specs.Sequences.{next_cycle, starting};
-ghost use Rattle.tube_party.specs.Transitions.{GoesHearing, shown_lines};
-ghost use Rattle.tube_machine.specs.Passing.{IsOver, Passes};
+ghost use Rattle.tube_party.specs.Transitions.{PortRunToAnyAsk, shown_lines};
+ghost use Rattle.tube_machine.specs.SkipWhile.{IsSkipped, Passes};
 ghost use Rattle.para_mach.specs.State.{power_on, shown_regs};
 ghost use Rattle.para_mach.specs.Step.{para_transitions, para_bus_model};
 ghost use Rattle.para_mach.specs.Peek.{para_peek};
@@ -20,7 +20,7 @@ use std::marker::Model;
 use thiserror::Error;
 use tube_chip::{Answer, Lines};
 use tube_machine::{
-    Left, Passing, advance_at, advance_seeing, answer, carry_on, look, pass_over, take_lines,
+    RunExit, SkipWhile, advance_at, advance_seeing, answer, carry_on, look, skip_over, take_lines,
 };
 use tube_party::{Ask, TubePort, NO_LINES, Party, Rewinds};
 
@@ -153,16 +153,16 @@ impl ParaMachine {
         self.bus.memory.peek(at)
     }
 
-    /// Skips instructions whose starts `passing` names. Their looks see these lines, and come
+    /// Skips instructions whose starts `skip` names. Their looks see these lines, and come
     /// before `until` and `safe_until`. It may stop at any start. In the middle of an instruction
     /// it does nothing.
     #[inline(always)]
-    pub fn pass(&mut self, until: Tick, lines: &Lines, safe_until: Tick, passing: Passing)
+    pub fn skip_while(&mut self, until: Tick, lines: &Lines, safe_until: Tick, skip: SkipWhile)
         requires { until.0 ≤ 2 ^ 30 }
-        ensures { (k : ℕ) × Passes para_transitions (λ s. IsOver passing s.due (shown_regs s).pc (para_peek s)) until.0
+        ensures { (k : ℕ) × Passes para_transitions (λ s. IsSkipped skip s.due (shown_regs s).pc (para_peek s)) until.0
             (shown_lines lines.now safe_until.0) k self.old self.new }
     {
-        pass_over::<NoNotes, Cpu, ParaBus>(
+        skip_over::<NoNotes, Cpu, ParaBus>(
             &mut self.cpu,
             &mut self.bus,
             &mut self.due,
@@ -170,7 +170,7 @@ impl ParaMachine {
             until,
             lines,
             safe_until,
-            passing,
+            skip,
         );
     }
 
@@ -233,7 +233,7 @@ impl ParaMachine {
     ) -> Ask
         requires ticks { until.0 ≤ 2 ^ 30 }
         requires room { 16 ≤ vec_capacity undo_log.old.stood - vec_len undo_log.old.stood }
-        ensures goes { GoesHearing para_transitions K.answers until.0 (shown_lines lines.now safe_until.0) self.old (K.state port.old) result self.new (K.state port.new) }
+        ensures goes { PortRunToAnyAsk para_transitions K.answers until.0 (shown_lines lines.now safe_until.0) self.old (K.state port.old) result self.new (K.state port.new) }
         ensures noted { let old = self.old.bus in
             let new = self.new.bus in
             part_kept (put_back undo_log.new.stood.items new.ram) new
@@ -251,9 +251,9 @@ impl ParaMachine {
             port,
         );
         match left {
-            Left::Asked(ask) => ask,
-            Left::Look => self.hold(until, lines, safe_until),
-            Left::Full => unreachable!(),
+            RunExit::Asked(ask) => ask,
+            RunExit::Look => self.hold(until, lines, safe_until),
+            RunExit::Full => unreachable!(),
         }
     }
 }
@@ -349,7 +349,7 @@ impl Rewinds for ParaMachine {
         ensures some { IsSome result }
         ensures noted { let past = past.new in
             MatchOption result ((self.new ≡ self.old) × (K.state port.new ≡ K.state port.old)) (λ ask.
-            GoesHearing para_transitions K.answers until.0 (shown_lines lines.now safe_until.0) self.old (K.state port.old) ask self.new (K.state port.new)
+            PortRunToAnyAsk para_transitions K.answers until.0 (shown_lines lines.now safe_until.0) self.old (K.state port.old) ask self.new (K.state port.new)
             × (roll_back_leaves past.cpu past.was_held past.due past.closed past.undo_log.stood.items self.new ≡ self.old)) }
     {
         // A machine that is held is noted too.

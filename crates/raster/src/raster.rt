@@ -15,7 +15,7 @@ use crate::frame::Frame;
 use crate::screen::Screen;
 use beeb_bits::{NoMemory, bit};
 use crtc6845::Crtc;
-use saa5050::Letters;
+use saa5050::GlyphTable;
 use std::alloc::Global;
 use std::marker::Model;
 use video_ula::Ula;
@@ -91,7 +91,7 @@ impl Raster {
     /// Does one character clock. `ram` has 32,768 bytes, and `size` is that of the screen: 16384,
     /// 8192, 20480 or 10240 bytes.
     #[inline(always)]
-    pub fn char_clock(&mut self, ram: &[u8], size: u16, font: &Letters)
+    pub fn char_clock(&mut self, ram: &[u8], size: u16, font: &GlyphTable)
         requires ram { length ram.now ≡ 32768 }
         requires size { IsScreenSize size }
         ensures { self.new ≡ char_clock_leaves ram.now size font.now.font self.old }
@@ -101,7 +101,7 @@ impl Raster {
 
     /// Does `n` microseconds, each of two character clocks if the ULA selects the 2 MHz clock,
     /// otherwise of one. `ram` and `size` are as in `char_clock`.
-    pub fn advance(&mut self, ram: &[u8], size: u16, font: &Letters, n: u64)
+    pub fn advance(&mut self, ram: &[u8], size: u16, font: &GlyphTable, n: u64)
         requires ram { length ram.now ≡ 32768 }
         requires size { IsScreenSize size }
         ensures { self.new ≡ microseconds ram.now size font.now.font n self.old }
@@ -114,7 +114,7 @@ impl Raster {
     }
 
     // Does `2 * n` character clocks, at once if that number fits.
-    fn char_clock_pairs(&mut self, ram: &[u8], size: u16, font: &Letters, n: u64)
+    fn char_clock_pairs(&mut self, ram: &[u8], size: u16, font: &GlyphTable, n: u64)
         requires ram { length ram.now ≡ 32768 }
         requires size { IsScreenSize size }
         ensures { let on = char_clocks ram.now size font.now.font n in
@@ -129,7 +129,7 @@ impl Raster {
     }
 
     // Does `n` character clocks, and those that are alike at once.
-    fn char_clocks(&mut self, ram: &[u8], size: u16, font: &Letters, n: u64)
+    fn char_clocks(&mut self, ram: &[u8], size: u16, font: &GlyphTable, n: u64)
         requires ram { length ram.now ≡ 32768 }
         requires size { IsScreenSize size }
         ensures { self.new ≡ char_clocks ram.now size font.now.font n self.old }
@@ -142,7 +142,7 @@ impl Raster {
 
     // Does at least one and at most `most` of the next character clocks, and returns their number.
     #[inline(always)]
-    fn some_clocks(&mut self, ram: &[u8], size: u16, font: &Letters, most: u64) -> u64
+    fn some_clocks(&mut self, ram: &[u8], size: u16, font: &GlyphTable, most: u64) -> u64
         requires ram { length ram.now ≡ 32768 }
         requires size { IsScreenSize size }
         requires some { 0 < most }

@@ -22,7 +22,7 @@ use crate::place::Place;
 use crate::text::Text;
 use beeb_bits::{NoMemory, bit};
 use crtc6845::{Beam, Crtc, Span, clocks_at_rest_are_alike};
-use saa5050::Letters;
+use saa5050::GlyphTable;
 use std::alloc::Global;
 use std::marker::Model;
 use std::mem::swap;
@@ -110,7 +110,7 @@ fn draw_cells(
     text: &mut Text,
     canvas: &mut Canvas,
     place: &Place,
-    font: &Letters,
+    font: &GlyphTable,
     span: Span,
     bytes: &[u8],
     step: usize,
@@ -207,7 +207,7 @@ impl Screen {
 
     /// Does one character clock. Reports if the screen is then known to be quiet.
     #[inline(never)]
-    pub(crate) fn clock(&mut self, ram: &[u8], size: u16, font: &Letters) -> bool
+    pub(crate) fn clock(&mut self, ram: &[u8], size: u16, font: &GlyphTable) -> bool
         requires ram { length ram.now ≡ 32768 }
         requires size { IsScreenSize size }
         ensures state { self.new ≡ char_clock_leaves ram.now size font.now.font self.old }
@@ -230,7 +230,7 @@ impl Screen {
         &mut self,
         ram: &[u8],
         size: u16,
-        font: &Letters,
+        font: &GlyphTable,
         most: u64,
     ) -> u64
         requires ram { length ram.now ≡ 32768 }
@@ -302,7 +302,7 @@ impl Screen {
     /// Does at least one and at most `most` character clocks inside a line, and returns their
     /// number.
     #[inline(always)]
-    pub(crate) fn stretch(&mut self, ram: &[u8], size: u16, font: &Letters, most: u64) -> u64
+    pub(crate) fn stretch(&mut self, ram: &[u8], size: u16, font: &GlyphTable, most: u64) -> u64
         requires ram { length ram.now ≡ 32768 }
         requires size { IsScreenSize size }
         requires start { starts_line self.old.crtc ≡ false }
@@ -351,7 +351,7 @@ impl Screen {
     // Draws some of the next characters of a span, at most `n`, and returns their number. Returns
     // 0, with nothing drawn, if the first must be drawn by itself.
     #[inline(always)]
-    fn draw_some(&mut self, ram: &[u8], size: u16, font: &Letters, span: Span, n: u16) -> u16
+    fn draw_some(&mut self, ram: &[u8], size: u16, font: &GlyphTable, span: Span, n: u16) -> u16
         requires ram { length ram.now ≡ 32768 }
         requires size { IsScreenSize size }
         requires told { (k : ℕ) → k < n → beam_of (clocks k self.old.crtc) ≡ beam_in_span span k }
@@ -380,7 +380,7 @@ impl Screen {
 
     // Draws some of the next characters of a shown span, in teletext, and returns their number.
     #[inline(always)]
-    fn draw_text(&mut self, ram: &[u8], size: u16, font: &Letters, span: Span, n: u16) -> u16
+    fn draw_text(&mut self, ram: &[u8], size: u16, font: &GlyphTable, span: Span, n: u16) -> u16
         requires ram { length ram.now ≡ 32768 }
         requires size { IsScreenSize size }
         requires plain { ArePlain span n self.old }
@@ -487,7 +487,7 @@ impl Screen {
 
     // Draws a character, if it is shown.
     #[inline(always)]
-    fn show(&mut self, ram: &[u8], size: u16, font: &Letters, beam: &Beam)
+    fn show(&mut self, ram: &[u8], size: u16, font: &GlyphTable, beam: &Beam)
         requires ram { length ram.now ≡ 32768 }
         requires size { IsScreenSize size }
         ensures { self.new ≡ show_leaves ram.now size font.now.font beam.now self.old }
@@ -499,7 +499,7 @@ impl Screen {
 
     // Draws a shown character.
     #[inline(always)]
-    fn draw(&mut self, ram: &[u8], size: u16, font: &Letters, beam: &Beam)
+    fn draw(&mut self, ram: &[u8], size: u16, font: &GlyphTable, beam: &Beam)
         requires ram { length ram.now ≡ 32768 }
         requires size { IsScreenSize size }
         ensures { self.new ≡ draw_leaves ram.now size font.now.font beam.now self.old }
@@ -525,7 +525,7 @@ impl Screen {
     }
 
     #[inline(never)]
-    fn draw_cell(&mut self, font: &Letters, code: u8, ra: u8, fields: u32, marked: bool)
+    fn draw_cell(&mut self, font: &GlyphTable, code: u8, ra: u8, fields: u32, marked: bool)
         requires { code < 128 }
         ensures { self.new ≡ cell_drawn_on font.now.font code ra fields marked self.old }
     {
@@ -539,7 +539,7 @@ impl Screen {
     // Draws the cell of a control code. It is not inlined, so that `draw_cell` stays small for the
     // other codes.
     #[inline(never)]
-    fn draw_control(&mut self, font: &Letters, code: u8, ra: u8, fields: u32, marked: bool)
+    fn draw_control(&mut self, font: &GlyphTable, code: u8, ra: u8, fields: u32, marked: bool)
         requires { code < 128 }
         ensures { self.new ≡ cell_drawn_on font.now.font code ra fields marked self.old }
     {
@@ -547,7 +547,7 @@ impl Screen {
     }
 
     #[inline(always)]
-    fn draw_code(&mut self, font: &Letters, code: u8, ra: u8, fields: u32, marked: bool)
+    fn draw_code(&mut self, font: &GlyphTable, code: u8, ra: u8, fields: u32, marked: bool)
         requires { code < 128 }
         ensures { self.new ≡ cell_drawn_on font.now.font code ra fields marked self.old }
     {

@@ -4,7 +4,7 @@ ghost use Rattle.raster.specs.Text.{first_text, text_at, text_after, text_past};
 ghost use Rattle.raster.specs.CodeSteps.{cell_on};
 
 use crtc6845::Beam;
-use saa5050::{Letters, RowState};
+use saa5050::{GlyphTable, RowState};
 use std::marker::Model;
 
 #[derive(Drop)]
@@ -47,7 +47,7 @@ impl Text {
     /// Takes the code of a shown character, and stores its sixteen colours in `to`.
     #[inline(always)]
     #[tactic(auto, unfolding(crate::specs::Text::codes_after, crate::specs::CodeSteps::cell_on))]
-    pub(crate) fn put(&mut self, font: &Letters, code: u8, ra: u8, fields: u32, to: &mut [u8; 16])
+    pub(crate) fn put(&mut self, font: &GlyphTable, code: u8, ra: u8, fields: u32, to: &mut [u8; 16])
         requires { code < 128 }
         ensures state { self.new ≡ text_after code self.old }
         ensures colours { to.new ≡ cell_on font.now.font code ra fields self.old }

@@ -20,8 +20,8 @@ plain = record {
 }
 
 -- The effects. The low three bits of a colour code are its colour. Such a code ends conceal.
-abbrev pub letters : ℕ → Style → Style
-letters code s = record s { graphics = false; foreground = code % 8; concealed = false; held = None }
+abbrev pub glyphs : ℕ → Style → Style
+glyphs code s = record s { graphics = false; foreground = code % 8; concealed = false; held = None }
 
 abbrev pub graphics : ℕ → Style → Style
 graphics code s = record s { graphics = true; foreground = code % 8; concealed = false }
@@ -77,7 +77,7 @@ at first last effect = record { first = first; last = last; effect = effect; at_
 -- The table of the control codes. Other codes below 20 do nothing.
 abbrev pub controls : List Control
 controls =
-    after 0x01 0x07 letters
+    after 0x01 0x07 glyphs
     ∷ after 0x11 0x17 graphics
     ∷ after 0x08 0x08 flash
     ∷ at 0x09 0x09 steady

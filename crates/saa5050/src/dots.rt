@@ -5,7 +5,7 @@ ghost use Rattle.saa5050.specs.Shapes.{letter_row, near_row, rounded_dot, letter
 ghost use Rattle.saa5050.specs.CodeDots.{IsLine, doubled_dot, columns};
 ghost use Rattle.beeb_bits.specs.Bits.{bit};
 
-use crate::letters::Letters;
+use crate::glyphs::GlyphTable;
 use crate::style::{Shape, Style};
 use beeb_bits::bit;
 use rom_set::RomSet;
@@ -127,7 +127,7 @@ pub(crate) fn rounded_line(font: &RomSet, code: u8, line: u8) -> u16
 #[inline(always)]
 pub(crate) fn half_dots(
     style: &Style,
-    font: &Letters,
+    font: &GlyphTable,
     code: u8,
     ra: u8,
     bottom: bool,
@@ -145,7 +145,7 @@ pub(crate) fn half_dots(
 
 // Returns the half dots of any cell.
 #[inline(always)]
-fn special_dots(style: &Style, font: &Letters, code: u8, ra: u8, bottom: bool, fields: u32) -> u16
+fn special_dots(style: &Style, font: &GlyphTable, code: u8, ra: u8, bottom: bool, fields: u32) -> u16
     requires { code < 0x80 }
     ensures { IsLine result (cell_dot font.now.font code ra bottom fields style.now) }
 {

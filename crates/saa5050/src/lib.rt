@@ -4,10 +4,10 @@
 
 mod dots;
 mod law;
-mod letters;
+mod glyphs;
 mod row;
 mod style;
 
 pub use law::row_is_fold;
-pub use letters::Letters;
+pub use glyphs::GlyphTable;
 pub use row::RowState;

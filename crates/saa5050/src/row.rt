@@ -3,7 +3,7 @@ ghost use Rattle.std.specs.Prelude.{◌≡◌, ◌≤◌, ◌<◌};
 ghost use Rattle.saa5050.specs.Row.{row_start, row_after, cell, styled_cell};
 
 use crate::dots::{half_dots, pixels};
-use crate::letters::Letters;
+use crate::glyphs::GlyphTable;
 use crate::style::Style;
 use std::marker::Model;
 
@@ -26,7 +26,7 @@ impl Model for RowState {
 #[inline(always)]
 fn styled_cell(
     style: &Style,
-    font: &Letters,
+    font: &GlyphTable,
     code: u8,
     ra: u8,
     bottom: bool,
@@ -57,7 +57,7 @@ impl RowState {
     #[inline(always)]
     pub fn put(
         &mut self,
-        font: &Letters,
+        font: &GlyphTable,
         code: u8,
         ra: u8,
         bottom: bool,
@@ -80,7 +80,7 @@ impl RowState {
     #[tactic(auto, using(crate::proofs::Codes::in_two_parts))]
     fn put_control(
         &mut self,
-        font: &Letters,
+        font: &GlyphTable,
         code: u8,
         ra: u8,
         bottom: bool,
@@ -102,7 +102,7 @@ impl RowState {
     #[tactic(auto, using(crate::proofs::Codes::kept_in_its_cell, crate::proofs::Codes::none_for_double))]
     fn put_character(
         &mut self,
-        font: &Letters,
+        font: &GlyphTable,
         code: u8,
         ra: u8,
         bottom: bool,

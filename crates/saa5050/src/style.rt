@@ -1,6 +1,6 @@
 //! The style of the cells to come, by the control codes of a row.
 ghost use Rattle.std.specs.Prelude.{◌≡◌, ◌<◌};
-ghost use Rattle.saa5050.specs.Controls.{plain, letters, graphics, normal_height, double_height, controls, effect_of, holds_at_once};
+ghost use Rattle.saa5050.specs.Controls.{plain, glyphs, graphics, normal_height, double_height, controls, effect_of, holds_at_once};
 ghost use Rattle.saa5050.specs.Row.{is_sixel, sixel_of, held_shape, style_at, style_after, shape_of, shape_line, is_blank};
 ghost use Rattle.saa5050.specs.CodeSteps.{style_past, is_special};
 ghost use Rattle.saa5050.specs.CodeDots.{IsInFont};
@@ -91,8 +91,8 @@ impl Style {
     }
 
     // Selects letters, in the colour of a code.
-    fn letters(&mut self, code: u8)
-        ensures { self.new ≡ letters code self.old }
+    fn glyphs(&mut self, code: u8)
+        ensures { self.new ≡ glyphs code self.old }
     {
         self.graphics = false;
         self.foreground = code % 8;
@@ -134,7 +134,7 @@ impl Style {
         ensures { self.new ≡ effect_of controls code self.old }
     {
         match code {
-            0x01..=0x07 => self.letters(code),
+            0x01..=0x07 => self.glyphs(code),
             0x11..=0x17 => self.graphics(code),
             0x08 => self.flashing = true,
             0x09 => self.flashing = false,

@@ -20,7 +20,7 @@ use Rattle.session.specs.CodeLookahead.{GoneOn, MovedOn, HasStayed}
 use Rattle.session.specs.Work.{MayWork, HasWorked}
 use Rattle.tube_party.proofs.Runs.{Over, Asking, SomeRuns, runs_of}
 use Rattle.session.proofs.Runs.{append, rises}
-use Rattle.session.proofs.Gone.{events_few}
+use Rattle.session.proofs.EventLemmas.{events_few}
 
 -- From one place on, the machine followed the events that were added to the pass's, and their
 -- accesses were stored and counted. The pass's horizon is neither above the next step nor above n.

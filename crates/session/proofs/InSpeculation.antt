@@ -28,7 +28,7 @@ use Rattle.tube_party.proofs.Runs.{Steps, Over, Silent, Asking, steps_of, runs_o
 use Rattle.session.proofs.Runs.{append, rises}
 use Rattle.tube_party.proofs.Ways.{still_kept}
 use Rattle.session.proofs.Kept.{noted_on, counted_on}
-use Rattle.session.proofs.Gone.{events_low, events_under}
+use Rattle.session.proofs.EventLemmas.{events_low, events_under}
 use Rattle.session.proofs.Observing.{none_late, below_limit, cut, watches, made, readings_show, seen_on}
 use Rattle.session.proofs.InProgress.{asks_there}
 

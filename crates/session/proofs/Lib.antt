@@ -2,8 +2,8 @@ pub mod Runs
 pub mod Kept
 pub mod InProgress
 pub mod Observing
-pub mod Gone
-pub mod Heard
+pub mod EventLemmas
+pub mod ObservationLemmas
 pub mod InSpeculation
 pub mod Merged
 pub mod Ends

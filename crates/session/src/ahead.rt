@@ -20,7 +20,7 @@ use std::sync::Wait;
 use tube_cell::TubeCell;
 use tube_chip::Op;
 use tube_party::{Ask, MOST, Rewinds};
-use tube_side::{GhostSpeculation, Mark, SpinThenPark, finish, tell_first, wait_passed};
+use tube_side::{GhostSpeculation, Mark, SpinThenPark, finish, speculate_first, wait_for_host};
 
 /// Runs the parasite's machine for the ticks below `n`, with each of its steps that asks done at
 /// the shared cell. Below the host's horizon it works as `drive` does. Past that horizon it
@@ -157,7 +157,7 @@ fn go_ahead<W: GhostSpeculation, M: Rewinds, R: Wait>(
     let end = stride.set_out(from.mark.tick);
     let first = set_out(half, past, n, from, end)?;
     let t = reached(n, first);
-    if !tell_first::<W, R>(rt, cell, &mut half.pass, &from.mark, t) {
+    if !speculate_first::<W, R>(rt, cell, &mut half.pass, &from.mark, t) {
         half.machine.rewind(past);
         half.log.cut(from.log);
         return None;
@@ -165,7 +165,7 @@ fn go_ahead<W: GhostSpeculation, M: Rewinds, R: Wait>(
     stride.is_made();
     let ask = strides_on::<W, M, R>(rt, cell, half, past, n, from, first, stride);
     let t = reached(n, ask);
-    wait_passed::<W, R>(rt, cell, &mut half.pass, t, pause);
+    wait_for_host::<W, R>(rt, cell, &mut half.pass, t, pause);
     let spec_horizon = cell.spec_horizon(&half.pass);
     if spec_horizon < t {
         stride.is_cut(spec_horizon.0.saturating_sub(from.mark.tick.0));

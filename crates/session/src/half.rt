@@ -13,7 +13,7 @@ use std::sync::Wait;
 use tube_cell::{Pass, TubeCell};
 use tube_chip::Answer;
 use tube_party::{Ask, Log, MOST, Party};
-use tube_side::{SpinThenPark, come, finish};
+use tube_side::{SpinThenPark, wait_until_admitted, finish};
 use tube_trace::Entry;
 
 /// One side at work: the machine, its pass to the cell, and the log of its accesses.
@@ -72,7 +72,7 @@ pub(crate) fn step_when_admitted<M: Party, R: Wait>(
     ensures paid { IsPaid half.old.pass half.new.pass }
 {
     let t = next_tick(&half.machine, n, ask);
-    come(rt, cell, &mut half.pass, t, is_published, pause);
+    wait_until_admitted(rt, cell, &mut half.pass, t, is_published, pause);
     match ask {
         Ask::Nothing => unreachable!(),
         Ask::Access(tick, op) => {

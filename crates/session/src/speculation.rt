@@ -17,7 +17,7 @@ use beeb_bits::{Side, Tick};
 use std::sync::Wait;
 use tube_cell::TubeCell;
 use tube_party::{Ask, LogMark, MOST, Rewinds};
-use tube_side::{GhostSpeculation, Mark, tell_more};
+use tube_side::{GhostSpeculation, Mark, speculate_more};
 
 /// A checkpoint: the start of a speculation, and the end of the log there.
 #[derive(Drop)]
@@ -126,7 +126,7 @@ pub(crate) fn strides_on<W: GhostSpeculation, M: Rewinds, R: Wait>(
             return ask;
         }
         stride.is_made();
-        if !tell_more::<W, R>(rt, cell, &mut half.pass, &from.mark, t) {
+        if !speculate_more::<W, R>(rt, cell, &mut half.pass, &from.mark, t) {
             return ask;
         }
     }

@@ -18,7 +18,7 @@ use Rattle.tube_chip.specs.Events.{Event, merge, after, IsLegal}
 use Rattle.tube_chip.specs.Packing.{packed_words, IsRegister, IsChip, PackingIsOneToOne}
 use Rattle.tube_cell.specs.Views.{CellSnapshot, words_of, new_snapshot, Role, undivided, one_side, rejoined, View, flip, word_of_other, own_bound}
 use Rattle.tube_cell.specs.Views.{other_bound, pick, known_with, tie_offset, Admits, admits, horizon, past_last, AllBelow, below, spec_horizon_after}
-use Rattle.tube_cell.specs.Rules.{Consistent, Knows, FitsAs, CellInvariant, whole, spent_view, host_part, para_part, joined_view, GoesOn, firm, pending_events}
+use Rattle.tube_cell.specs.Rules.{Consistent, Knows, FitsAs, CellInvariant, whole, spent_view, host_part, para_part, joined_view, GoesOn, confirmed, unconfirmed_events}
 use Rattle.tube_cell.specs.Rules.{found_view, Exchanged, published_view, Finds, Publishes, speculated_view, Speculates, told_view, PublishesAndSpeculates}
 use Rattle.tube_cell.specs.Rules.{added_view, look_at, looked_view, LooksAs, Looks, Ends}
 use Rattle.tube_cell.specs.Steps.{Runs, MayPublish, MayLook, MaySpeculate, MayPublishAndSpeculate}
@@ -146,16 +146,16 @@ knows_all s k well = grind (arith, nat_tests)
 goes_on : {s : Side} {k v : CellSnapshot} → Knows s k v → GoesOn (one_side s) v k
 goes_on knows = (sym knows.own_word, knows.other_word, knows.spec_horizon, knows.same_chip)
 
-settles : (k : CellSnapshot) (mine speculative : List Event) → mine ++ below k.spec_horizon speculative ≡ (mine ++ firm k speculative) ++ below k.spec_horizon (pending_events k speculative)
+settles : (k : CellSnapshot) (mine speculative : List Event) → mine ++ below k.spec_horizon speculative ≡ (mine ++ confirmed k speculative) ++ below k.spec_horizon (unconfirmed_events k speculative)
 settles k mine [] = sym (append-nil (mine ++ []))
 settles k mine (e ∷ es) = elim (nat_le k.spec_horizon k.host) as (λ b. mine ++ below k.spec_horizon (e ∷ es) ≡ (mine ++ cond b (below k.spec_horizon (e ∷ es)) []) ++ below k.spec_horizon (cond b [] (e ∷ es))) [
   | true ↦ sym (append-nil (mine ++ below k.spec_horizon (e ∷ es)))
   | false ↦ ap (λ l. l ++ below k.spec_horizon (e ∷ es)) (sym (append-nil mine))
 ]
 
-pub firm_low : (k : CellSnapshot) (speculative : List Event) → AllBelow k.host (firm k speculative)
-firm_low k [] = low_nil
-firm_low k (x ∷ xs) =
+pub confirmed_low : (k : CellSnapshot) (speculative : List Event) → AllBelow k.host (confirmed k speculative)
+confirmed_low k [] = low_nil
+confirmed_low k (x ∷ xs) =
     (elim (nat_le k.spec_horizon k.host) as (λ b. nat_le k.spec_horizon k.host ≡ b → AllBelow k.host (cond b (below k.spec_horizon (x ∷ xs)) [])) [
       | true ↦ λ h.
           let le = nat_le-true k.spec_horizon k.host h in
@@ -164,9 +164,9 @@ firm_low k (x ∷ xs) =
     ]) refl
 
 fits_found : (s : Side) {words : List ℕ} {views : List View} (k : CellInvariant words views) (j : ℕ) (v : View) → FitsIn k (one_side s) j v → FitsIn k (one_side s) j (found_view v k.known)
-fits_found Host k j v f = (f.0, ap (λ l. v.mine ++ firm k.known l) f.2 ∙ append-nil v.mine ∙ f.1, ap (pending_events k.known) f.2, knows_all Host k.known k.well)
+fits_found Host k j v f = (f.0, ap (λ l. v.mine ++ confirmed k.known l) f.2 ∙ append-nil v.mine ∙ f.1, ap (unconfirmed_events k.known) f.2, knows_all Host k.known k.well)
 fits_found Para k j v f =
-    (f.0, f.1 ∙ settles k.known v.mine v.speculative, All-append (λ e. e.tick < k.known.host) v.mine (firm k.known v.speculative) f.2 (firm_low k.known v.speculative), knows_all Para k.known k.well)
+    (f.0, f.1 ∙ settles k.known v.mine v.speculative, All-append (λ e. e.tick < k.known.host) v.mine (confirmed k.known v.speculative) f.2 (confirmed_low k.known v.speculative), knows_all Para k.known k.well)
 
 -- a step that changes no word and no list
 kept_found : (s : Side) {words : List ℕ} {views : List View} (k : CellInvariant words views) (pass : ℕ) (v : View) → get_elem? views pass ≡ some v → v.role ≡ one_side s
@@ -348,7 +348,7 @@ kept_looked Host k pass {v} {t} at may admitted =
     let good = good_calm (look_at t Host n.chip) k.good refl (omega arith) (omega arith) (omega arith) refl n.host (omega arith)
     (λ a. absurd (true≢false (sym a))) (shows_itself n.chip) in
     kept_step k Host _ v _ at may.role k.words_are k.well good (λ j u f. f) may.role
-    (fit.0, ap (λ l. l ++ look_at t Host n.chip ∷ []) fit.1, ap (pending_events n) may.none_speculative, knows_all Host n k.well)
+    (fit.0, ap (λ l. l ++ look_at t Host n.chip ∷ []) fit.1, ap (unconfirmed_events n) may.none_speculative, knows_all Host n k.well)
 kept_looked Para k pass {v} {t} at may admitted =
     let fit = fit_of k Para pass v at may.role in
     let n = k.known in
@@ -360,7 +360,7 @@ kept_looked Para k pass {v} {t} at may admitted =
     (λ a. absurd (true≢false (sym a))) (λ a. absurd (true≢false (sym a))) (λ a. absurd (true≢false a)) in
     kept_step k Para _ v _ at may.role k.words_are k.well good (λ j u f. f) may.role (
       fit.0,
-      ap (λ l. l ++ look ∷ []) bare ∙ sym (append-nil (v.mine ++ look ∷ [])) ∙ ap (λ l. (v.mine ++ look ∷ []) ++ below n.spec_horizon (pending_events n l)) (sym may.none_speculative),
+      ap (λ l. l ++ look ∷ []) bare ∙ sym (append-nil (v.mine ++ look ∷ [])) ∙ ap (λ l. (v.mine ++ look ∷ []) ++ below n.spec_horizon (unconfirmed_events n l)) (sym may.none_speculative),
       All-append (λ e. e.tick < n.host) v.mine (look ∷ []) fit.2 (low_cons look [] (omega arith) low_nil),
       knows_all Para n k.well,
     )

@@ -9,12 +9,12 @@ use Rattle.tube_chip.specs.Events.{Event}
 use Rattle.tube_chip.specs.Packing.{IsChip}
 use Rattle.tube_cell.specs.Views.{AllBelow, CellSnapshot, words_of, one_side, View, word_of_other, own_bound, other_bound, bound_at, Admits, horizon, past_last}
 use Rattle.tube_cell.specs.Views.{below, chip_after_event, same_readings, spec_horizon_after}
-use Rattle.tube_cell.specs.Rules.{SpecHorizons, GoesOn, rise, firm, pending_events, Found}
+use Rattle.tube_cell.specs.Rules.{SpecHorizons, GoesOn, rise, confirmed, unconfirmed_events, Found}
 use Rattle.tube_cell.specs.Passes.{PassState, pass_state_of, Learns, own_horizon, here}
 use Rattle.tube_cell.specs.Steps.{Runs, IsPassOf, CutIs, Local, LocalAfter}
 use Rattle.tube_cell.proofs.Law.{All-below}
 use Rattle.tube_cell.proofs.Grows.{spec_horizons_fall, past_append, below_same}
-use Rattle.tube_cell.proofs.Keeps.{firm_low}
+use Rattle.tube_cell.proofs.Keeps.{confirmed_low}
 use Rattle.tube_cell.proofs.Law.{low_nil, lower}
 
 -- ---- a pass with nothing unpublished
@@ -94,7 +94,7 @@ bound_falls Host v k on = let o = on.0 in omega arith
 bound_falls Para v k on = let t = spec_horizons_fall v k on.2 in omega arith
 
 -- what stays speculative lies below it
-pending_low : (s : Side) (v k : CellSnapshot) (speculative : List Event) → SpecHorizons s v k → AllBelow v.spec_horizon speculative → AllBelow k.spec_horizon (pending_events k speculative)
+pending_low : (s : Side) (v k : CellSnapshot) (speculative : List Event) → SpecHorizons s v k → AllBelow v.spec_horizon speculative → AllBelow k.spec_horizon (unconfirmed_events k speculative)
 pending_low s v k [] t low = low_nil
 pending_low s v k (x ∷ xs) t low =
     (elim (nat_le k.spec_horizon k.host) as (λ b. nat_le k.spec_horizon k.host ≡ b → AllBelow k.spec_horizon (cond b [] (x ∷ xs))) [
@@ -110,30 +110,30 @@ pending_low s v k (x ∷ xs) t low =
     rises Para v k t lt = omega arith
 
 -- those that are confirmed lie below the bound that was known
-firm_bound : (s : Side) (v k : CellSnapshot) (speculative : List Event) → GoesOn (one_side s) v k → AllBelow v.spec_horizon speculative → AllBelow (own_bound s v) (firm k speculative)
-firm_bound Host v k speculative on low = lower (firm k speculative) (firm_low k speculative) (omega arith)
-firm_bound Para v k speculative on low = lower (firm k speculative) (go speculative low) (omega arith)
+confirmed_bound : (s : Side) (v k : CellSnapshot) (speculative : List Event) → GoesOn (one_side s) v k → AllBelow v.spec_horizon speculative → AllBelow (own_bound s v) (confirmed k speculative)
+confirmed_bound Host v k speculative on low = lower (confirmed k speculative) (confirmed_low k speculative) (omega arith)
+confirmed_bound Para v k speculative on low = lower (confirmed k speculative) (go speculative low) (omega arith)
   where
-    go : (xs : List Event) → AllBelow v.spec_horizon xs → AllBelow v.spec_horizon (firm k xs)
+    go : (xs : List Event) → AllBelow v.spec_horizon xs → AllBelow v.spec_horizon (confirmed k xs)
     go [] all = low_nil
     go (x ∷ xs) all = elim (nat_le k.spec_horizon k.host) as (λ b. AllBelow v.spec_horizon (cond b (below k.spec_horizon (x ∷ xs)) [])) [
       | true ↦ All-below (λ e. e.tick < v.spec_horizon) k.spec_horizon (x ∷ xs) all
       | false ↦ low_nil
     ]
 
-pub bare_firm : (k : CellSnapshot) (mine : List Event) {speculative : List Event} → speculative ≡ [] → mine ++ firm k speculative ≡ mine
-bare_firm k mine none = ap (λ l. mine ++ firm k l) none ∙ append-nil mine
+pub bare_confirmed : (k : CellSnapshot) (mine : List Event) {speculative : List Event} → speculative ≡ [] → mine ++ confirmed k speculative ≡ mine
+bare_confirmed k mine none = ap (λ l. mine ++ confirmed k l) none ∙ append-nil mine
 
 horizon_falls : (s : Side) (v k : CellSnapshot) (mine speculative es : List Event) → GoesOn (one_side s) v k → AllBelow v.spec_horizon speculative → (es ≢ [] → speculative ≡ [])
-    → horizon (own_bound s k) ((mine ++ firm k speculative) ++ es) ≤ horizon (own_bound s v) (mine ++ es)
+    → horizon (own_bound s k) ((mine ++ confirmed k speculative) ++ es) ≤ horizon (own_bound s v) (mine ++ es)
 horizon_falls s v k mine speculative [] on low bare =
-    let a = ap past_last (append-nil (mine ++ firm k speculative)) in
+    let a = ap past_last (append-nil (mine ++ confirmed k speculative)) in
     let b = ap past_last (append-nil mine) in
-    let c = past_append (own_bound s v) mine (firm k speculative) (firm_bound s v k speculative on low) in
+    let c = past_append (own_bound s v) mine (confirmed k speculative) (confirmed_bound s v k speculative on low) in
     let d = bound_falls s v k on in
     omega arith
 horizon_falls s v k mine speculative (e ∷ es) on low bare =
-    let a = ap (λ l. past_last (l ++ e ∷ es)) (bare_firm k mine (bare (λ same. absurd (cc)))) in
+    let a = ap (λ l. past_last (l ++ e ∷ es)) (bare_confirmed k mine (bare (λ same. absurd (cc)))) in
     let d = bound_falls s v k on in
     omega arith
 
@@ -147,14 +147,14 @@ local_kept same (inl t) = t.1
 local_kept same (inr t) = absurd (t.0 same)
 
 found_runs : (s : Side) (v k : CellSnapshot) (mine speculative es : List Event) (old new : State) → GoesOn (one_side s) v k → Local v.chip old k.chip new → (es ≢ [] → speculative ≡ []) → RunsOn s v mine es old
-    → RunsOn s k (mine ++ firm k speculative) es new
+    → RunsOn s k (mine ++ confirmed k speculative) es new
 found_runs s v k mine speculative [] old new on local bare h =
-    let e = ap past_last (append-nil (mine ++ firm k speculative)) in (
+    let e = ap past_last (append-nil (mine ++ confirmed k speculative)) in (
       local_is h.0 local,
       (omega arith),
     )
 found_runs s v k mine speculative (e ∷ es) old new on local bare h =
-    let mine_is = bare_firm k mine (bare (λ same. absurd (cc))) in
+    let mine_is = bare_confirmed k mine (bare (λ same. absurd (cc))) in
     let bound = bound_stays s v k e.tick on (omega arith) h.2 in
     let chip = on.3 (omega arith) in
     let kept = local_kept (sym chip) local in
@@ -175,44 +175,44 @@ pass_found {s} new {v} {w} is f local =
       well = f.well;
       words_are = f.words_are;
       speculative = subst (AllBelow k.spec_horizon) (sym (ap (λ u. u.speculative) w_is)) (pending_low s v.known k v.speculative on.2 is.speculative);
-      not_both = λ some. ap (λ u. u.speculative) w_is ∙ ap (pending_events k) (is.not_both (rw (ap (λ u. u.ahead) w_is) at some));
+      not_both = λ some. ap (λ u. u.speculative) w_is ∙ ap (unconfirmed_events k) (is.not_both (rw (ap (λ u. u.ahead) w_is) at some));
       runs = subst (λ (y : List Event × List Event). RunsOn s k y.0 y.1 new) (λ i. ((sym w_is i).mine, (sym w_is i).ahead))
           (found_runs s _ k v.mine v.speculative _ _ new on local is.not_both is.runs);
     }
 
 -- what happens to speculative events
-firm_past : (k : CellSnapshot) (xs : List Event) → k.spec_horizon ≤ k.host → (firm k xs ≡ below k.spec_horizon xs) × (pending_events k xs ≡ [])
-firm_past k [] le = (refl, refl)
-firm_past k (x ∷ xs) le = let e = le-true k.spec_horizon k.host le in (ap (λ b. cond b (below k.spec_horizon (x ∷ xs)) []) e, ap (λ b. cond b [] (x ∷ xs)) e)
+confirmed_past : (k : CellSnapshot) (xs : List Event) → k.spec_horizon ≤ k.host → (confirmed k xs ≡ below k.spec_horizon xs) × (unconfirmed_events k xs ≡ [])
+confirmed_past k [] le = (refl, refl)
+confirmed_past k (x ∷ xs) le = let e = le-true k.spec_horizon k.host le in (ap (λ b. cond b (below k.spec_horizon (x ∷ xs)) []) e, ap (λ b. cond b [] (x ∷ xs)) e)
   where
     le-true : (m n : ℕ) → m ≤ n → nat_le m n ≡ true
     le-true m n le = grind (arith, nat_tests)
 
-firm_ahead : (k : CellSnapshot) (xs : List Event) → k.host < k.spec_horizon → (firm k xs ≡ []) × (pending_events k xs ≡ xs)
-firm_ahead k [] lt = (refl, refl)
-firm_ahead k (x ∷ xs) lt = let e = le-false k.spec_horizon k.host lt in (ap (λ b. cond b (below k.spec_horizon (x ∷ xs)) []) e, ap (λ b. cond b [] (x ∷ xs)) e)
+confirmed_ahead : (k : CellSnapshot) (xs : List Event) → k.host < k.spec_horizon → (confirmed k xs ≡ []) × (unconfirmed_events k xs ≡ xs)
+confirmed_ahead k [] lt = (refl, refl)
+confirmed_ahead k (x ∷ xs) lt = let e = le-false k.spec_horizon k.host lt in (ap (λ b. cond b (below k.spec_horizon (x ∷ xs)) []) e, ap (λ b. cond b [] (x ∷ xs)) e)
   where
     le-false : (m n : ℕ) → n < m → nat_le m n ≡ false
     le-false m n lt = grind (arith, nat_tests)
 
 -- a pass with the words k found, and n rises
 abbrev pub finding : PassState → CellSnapshot → ℕ → PassState
-finding p k n = record p { events = p.events ++ firm k p.speculative; speculative = pending_events k p.speculative; known = k; higher = n }
+finding p k n = record p { events = p.events ++ confirmed k p.speculative; speculative = unconfirmed_events k p.speculative; known = k; higher = n }
 
 -- what is found, from there on, is learnt
 pub learns_of : {p q : PassState} → q ≡ finding p q.known (p.higher + rise (one_side p.side) p.known q.known) → AllBelow p.known.spec_horizon p.speculative → GoesOn (one_side p.side) p.known q.known
     → own_horizon q ≤ own_horizon p → (p.ahead ≢ [] → q.known.chip ≡ p.known.chip) → Learns p q
 learns_of {p} {q} rest low on falls chip = record {
   rest = rest;
-  taken = λ lt. let f = firm_past k p.speculative (passed p.side on.2 lt) in (events_are ∙ ap (λ l. p.events ++ l) f.0, speculative_are ∙ f.1);
+  taken = λ lt. let f = confirmed_past k p.speculative (passed p.side on.2 lt) in (events_are ∙ ap (λ l. p.events ++ l) f.0, speculative_are ∙ f.1);
   settled = λ same le.
-      let f = firm_past k p.speculative le in
+      let f = confirmed_past k p.speculative le in
       let all = below_same k.spec_horizon p.speculative (rw same low) in
       (events_are ∙ ap (λ l. p.events ++ l) (f.0 ∙ all), speculative_are ∙ f.1);
-  stays = λ lt. let f = firm_ahead k p.speculative lt in (events_are ∙ ap (λ l. p.events ++ l) f.0 ∙ append-nil p.events, speculative_are ∙ f.1);
+  stays = λ lt. let f = confirmed_ahead k p.speculative lt in (events_are ∙ ap (λ l. p.events ++ l) f.0 ∙ append-nil p.events, speculative_are ∙ f.1);
   plain = λ none. rest ∙ (λ i. record p {
-    events = bare_firm k p.events none i;
-    speculative = (ap (pending_events k) none ∙ sym none) i;
+    events = bare_confirmed k p.events none i;
+    speculative = (ap (unconfirmed_events k) none ∙ sym none) i;
     known = k;
     higher = p.higher + rise (one_side p.side) p.known k;
   });
@@ -226,10 +226,10 @@ learns_of {p} {q} rest low on falls chip = record {
     k : CellSnapshot
     k = q.known
 
-    events_are : q.events ≡ p.events ++ firm q.known p.speculative
+    events_are : q.events ≡ p.events ++ confirmed q.known p.speculative
     events_are = ap (λ x. x.events) rest
 
-    speculative_are : q.speculative ≡ pending_events q.known p.speculative
+    speculative_are : q.speculative ≡ unconfirmed_events q.known p.speculative
     speculative_are = ap (λ x. x.speculative) rest
 
     passed : (s : Side) → SpecHorizons s p.known q.known → q.known.spec_horizon < p.known.spec_horizon → q.known.spec_horizon ≤ q.known.host
@@ -243,7 +243,7 @@ learned {id} {id'} {s} {v} {w} view is cell f =
     let on = on_of s v k is.role f.goes_on in
     let w_is = f.view_is in
     let falls = horizon_falls s _ k v.mine v.speculative v.ahead on is.speculative is.not_both in
-    let now : horizon (own_bound s k) (w.mine ++ w.ahead) ≡ horizon (own_bound s k) ((v.mine ++ firm k v.speculative) ++ v.ahead) = λ i. horizon (own_bound s k) ((w_is i).mine ++ (w_is i).ahead) in
+    let now : horizon (own_bound s k) (w.mine ++ w.ahead) ≡ horizon (own_bound s k) ((v.mine ++ confirmed k v.speculative) ++ v.ahead) = λ i. horizon (own_bound s k) ((w_is i).mine ++ (w_is i).ahead) in
     let rest = (λ i. pass_state_of (cell i) s (w_is i)) ∙ ap (λ r. finding (pass_state_of id s v) k (v.higher + rise r v.known k)) is.role in
     subst (λ q. Learns q (pass_state_of id' s w)) view (learns_of rest is.speculative on (omega arith)
     (λ some. sym (on.3 (runs_admit s (own_bound s v.known) _ _ v.mine _ v.ahead _ _ is.runs some))))

@@ -13,13 +13,13 @@ use Rattle.tube_chip.specs.Act.{chip_after}
 use Rattle.tube_chip.specs.Events.{Event}
 use Rattle.tube_chip.specs.Packing.{IsChip, PackingIsOneToOne}
 use Rattle.tube_cell.specs.Views.{AllBelow, CellSnapshot, words_of, one_side, View, word_of_other, own_bound, other_bound, known_with, Admits, admits, horizon, past_last, spec_horizon_next, spec_horizon_after}
-use Rattle.tube_cell.specs.Rules.{CellInvariant, rise, pending_events, found_view, published_view, speculated_view, Publishes, Speculates, Looks, looked_view}
+use Rattle.tube_cell.specs.Rules.{CellInvariant, rise, unconfirmed_events, found_view, published_view, speculated_view, Publishes, Speculates, Looks, looked_view}
 use Rattle.tube_cell.specs.Passes.{PassState, pass_state_of, Learns, own_horizon, after_raise, after_commit, after_look, after_speculate, access_at, lines_at}
 use Rattle.tube_cell.specs.Steps.{Watches, MayPublish, MayLook, MaySpeculate, LookedAt, IsPassOf, CutIs, Local}
 use Rattle.tube_cell.proofs.Law.{past_last-on}
 use Rattle.tube_cell.proofs.Grows.{speculating, watches_low}
 use Rattle.tube_cell.proofs.Keeps.{publishes, speculates, looks}
-use Rattle.tube_cell.proofs.Learns.{local_is, cut_kept, bare_horizon, bare_local, pass_fresh, none_low, bare_of, none_of, later_of, bound_falls, bare_firm, on_of, finding, learns_of}
+use Rattle.tube_cell.proofs.Learns.{local_is, cut_kept, bare_horizon, bare_local, pass_fresh, none_low, bare_of, none_of, later_of, bound_falls, bare_confirmed, on_of, finding, learns_of}
 use Rattle.tube_cell.proofs.Law.{lower}
 
 -- ---- steps
@@ -129,7 +129,7 @@ module _ {id : TableId} {s : Side} {words : List ℕ} {here : State} {p : PassSt
       let falls = bound_falls s _ k on in
       let now : past_last (w.mine ++ w.ahead) ≡ past_last (looked ++ v.ahead) = (λ i. past_last ((w_is i).mine ++ (w_is i).ahead)) ∙ ap (λ l. past_last (l ++ v.ahead)) same in
       let rest = (λ i. pass_state_of (cell i) s (w_is i)) ∙ (λ i. record (finding (after_look (pass_state_of id s v) t lines) k 0) {
-        events = (same ∙ sym (bare_firm k looked no_spec_horizon)) i;
+        events = (same ∙ sym (bare_confirmed k looked no_spec_horizon)) i;
         higher = v.higher + rise (is.role i) v.known k;
       }) in
       subst (λ q. Learns (after_look q t lines) (pass_state_of id' s w)) view (learns_of rest is.speculative on (omega arith) (λ some. absurd (some bare)))
@@ -156,7 +156,7 @@ is_speculated {s} es t view cell w_is = (λ i. pass_state_of (cell i) s (w_is i)
 
 -- what a look leaves of the view, but for the list
 looked_as : (b : Bool) (t : ℕ) (s : Side) (v w : View) → MatchBool b (w ≡ looked_view v t s w.known) (w ≡ found_view v w.known)
-    → (w.role ≡ v.role) × (w.ahead ≡ v.ahead) × (w.speculative ≡ pending_events w.known v.speculative)
+    → (w.role ≡ v.role) × (w.ahead ≡ v.ahead) × (w.speculative ≡ unconfirmed_events w.known v.speculative)
 looked_as b t s v w is = grind arith
 
 pub looked_ahead : {s : Side} {t : ℕ} {words : List ℕ} {v w : View} → LookedAt t s words v w → w.ahead ≡ v.ahead
@@ -169,7 +169,7 @@ pub pass_looked : {s : Side} {words found : List ℕ} {old : State} (new : State
     → LookedAt t s found v w → Local v.known.chip old w.known.chip new → IsPassOf s found new w
 pass_looked {s} {found} new {t} {v} {w} is none speculative f local =
     let left = looked_as (admits s (other_bound s w.known) t) t s v w f.view_is in
-    pass_fresh s w (left.0 ∙ is.role) f.well f.words_are (none_low w.known.spec_horizon (left.2 ∙ ap (pending_events w.known) speculative))
+    pass_fresh s w (left.0 ∙ is.role) f.well f.words_are (none_low w.known.spec_horizon (left.2 ∙ ap (unconfirmed_events w.known) speculative))
     (left.1 ∙ none) (looked_local new w is none local)
 
 -- ---- own horizons

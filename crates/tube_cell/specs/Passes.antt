@@ -9,7 +9,7 @@ use Rattle.tube_chip.specs.State.{State}
 use Rattle.tube_chip.specs.Act.{access, look, answer_of, chip_after}
 use Rattle.tube_chip.specs.Events.{Event, after_from}
 use Rattle.tube_cell.specs.Views.{CellSnapshot, new_snapshot, View, one_side, word_of, word_of_other, own_bound, known_with, bound_at, has_access, horizon, below, spec_horizon_next, spec_horizon_after}
-use Rattle.tube_cell.specs.Rules.{rise, firm, pending_events, SpecHorizons}
+use Rattle.tube_cell.specs.Rules.{rise, confirmed, unconfirmed_events, SpecHorizons}
 
 -- A side's pass: its cell and side; its confirmed events, its speculative events and its
 -- unpublished events; the words that it knows; the number of its exchanges that published an
@@ -40,8 +40,8 @@ own_horizon p = horizon (own_bound p.side p.known) (p.events ++ p.ahead)
 -- parasite's pass, a speculative horizon at or below the host's word is unchanged.
 pub record Learns (p q : PassState) : Type 0 where
   pub rest : q ≡ record p {
-    events = p.events ++ firm q.known p.speculative;
-    speculative = pending_events q.known p.speculative;
+    events = p.events ++ confirmed q.known p.speculative;
+    speculative = unconfirmed_events q.known p.speculative;
     known = q.known;
     higher = p.higher + rise (one_side p.side) p.known q.known;
   }

@@ -118,21 +118,21 @@ rise r k k' = 0
 
 -- The speculative events that these words confirm: if the host has reached the speculative horizon,
 -- those below it.
-abbrev pub firm : CellSnapshot → List Event → List Event
-firm k [] = []
-firm k (e ∷ events) = if nat_le k.spec_horizon k.host then below k.spec_horizon (e ∷ events) else []
+abbrev pub confirmed : CellSnapshot → List Event → List Event
+confirmed k [] = []
+confirmed k (e ∷ events) = if nat_le k.spec_horizon k.host then below k.spec_horizon (e ∷ events) else []
 
 -- the speculative events that stay unconfirmed: all, if the host has not reached the speculative
 -- horizon
-abbrev pub pending_events : CellSnapshot → List Event → List Event
-pending_events k [] = []
-pending_events k (e ∷ events) = if nat_le k.spec_horizon k.host then [] else e ∷ events
+abbrev pub unconfirmed_events : CellSnapshot → List Event → List Event
+unconfirmed_events k [] = []
+unconfirmed_events k (e ∷ events) = if nat_le k.spec_horizon k.host then [] else e ∷ events
 
 -- the view that knows the words found
 abbrev pub found_view : View → CellSnapshot → View
 found_view v k = record v {
-  mine = v.mine ++ firm k v.speculative;
-  speculative = pending_events k v.speculative;
+  mine = v.mine ++ confirmed k v.speculative;
+  speculative = unconfirmed_events k v.speculative;
   known = k;
   higher = v.higher + rise v.role v.known k;
 }

@@ -16,11 +16,11 @@ use Rattle.tube_chip.specs.declared.Answer.TheVariants.{Byte}
 use Rattle.tube_chip.specs.declared.Lines.{Lines}
 use Rattle.tube_chip.specs.declared.Op.{Op}
 use Rattle.tube_chip.specs.Act.{access}
-use Rattle.tube_party.specs.Transitions.{Talks, IsAnswered, IsAnsweredAgain, shown_lines}
-use Rattle.tube_party.specs.Steps.{talks_on}
+use Rattle.tube_party.specs.Transitions.{PortRun, IsAnswered, IsAnsweredAgain, shown_lines}
+use Rattle.tube_party.specs.Steps.{port_run_on}
 use Rattle.tube_machine.specs.BusModel.{BusModel, IsWired, StaysPlain}
 use Rattle.tube_machine.specs.Step.{At, at_of, is_break, asks, asks_by, after_look, closed_to, next_state, transitions_of}
-use Rattle.tube_machine.specs.Exchange.{IsAtTube, IsPassing, owed_at}
+use Rattle.tube_machine.specs.Exchange.{IsAtTube, IsSkipping, owed_at}
 use Rattle.tube_machine.specs.Lawful.{asked_closed, break_closed, next_closed}
 use Rattle.tube_machine.specs.NoBreak.{no-break, plain-asks}
 use Rattle.tube_machine.specs.Whole.{reach_of, IsMemory, StaysAtRest, IsOnward, IsServed}
@@ -37,10 +37,10 @@ module _ {part : Part} {B D : Type 0} {w : BusModel B} {plain : B → Lines → 
   pub served-then : {bound : ℕ} {old mid new : At B} {d f e : D} → IsServed part w plain answers lines bound old d mid f → IsServed part w plain answers lines bound mid f new e
       → IsServed part w plain answers lines bound old d new e
   served-then {old = old} {mid} {new} {d} {f} {e} a b = record {
-    talks = λ until safe_until in_run early.
-        let one = a.talks until safe_until in_run early in
-        let two = b.talks until safe_until in_run early in
-        talks_on (transitions_of part w) answers until lines safe_until one.0 two.0 old mid new d f e one.1 two.1;
+    port_run = λ until safe_until in_run early.
+        let one = a.port_run until safe_until in_run early in
+        let two = b.port_run until safe_until in_run early in
+        port_run_on (transitions_of part w) answers until lines safe_until one.0 two.0 old mid new d f e one.1 two.1;
     alike =
         let x = a.alike in
         let y = b.alike in
@@ -54,7 +54,7 @@ module _ {part : Part} {B D : Type 0} {w : BusModel B} {plain : B → Lines → 
   -- steps that are served up to a tick are served up to a later one
   pub served-wider : {end bound : ℕ} {old new : At B} {d e : D} → end ≤ bound → IsServed part w plain answers lines end old d new e → IsServed part w plain answers lines bound old d new e
   served-wider high a = record {
-    talks = λ until safe_until in_run early. a.talks until safe_until (omega (arith, in_run, high)) (omega (arith, early, high));
+    port_run = λ until safe_until in_run early. a.port_run until safe_until (omega (arith, in_run, high)) (omega (arith, early, high));
     alike =
         let x = a.alike in
         record { goes_on = x.goes_on; closed = x.closed; cycle = x.cycle; free = λ far far_on clear. x.free far (omega (arith, far_on, high)) clear; is_plain = x.is_plain };
@@ -65,7 +65,7 @@ module _ (part : Part) {B D : Type 0} {w : BusModel B} (wired : IsWired w) {read
     {rests : B → Lines → Bool → ℕ → Type 0} (stays_at_rest : StaysAtRest w writes rests) {plain : B → Lines → Bool} (stays : StaysPlain w plain)
     (answers : D → ℕ → Op → ℕ → D → Type 0) (bound byte : ℕ) {lines : Lines} {masks : Bool} {quiet n : ℕ} {m : B} {r : Regs} {o : LastAccess} {asked : Op}
     (cycle : n ≡ w.cycle m) (first : plain m lines ≡ true) (free : IsFree part w bound m)
-    (outside : (t : ℕ) → IsOutside part (reach_of w reads writes) t r m o) (passing : IsPassing w m (access_of o) asked) (some : 1 < n)
+    (outside : (t : ℕ) → IsOutside part (reach_of w reads writes) t r m o) (skip : IsSkipping w m (access_of o) asked) (some : 1 < n)
     (rest : rests m lines masks quiet) (held : masks ≡ has_flag r.p INTERRUPT) where
   abbrev c : Cycle
   c = access_of o
@@ -82,7 +82,7 @@ module _ (part : Part) {B D : Type 0} {w : BusModel B} (wired : IsWired w) {read
   ended from = at_of (fresh Instruction (outcome part o r byte)) (w.close m (top from + n)) (top from + n)
 
   at_tube : (t : ℕ) → IsAtTube w (w.close m t) c
-  at_tube t = at-tube part w m (w.close m t) c (wired.tube_close m t) (rw passing.asks tt)
+  at_tube t = at-tube part w m (w.close m t) c (wired.tube_close m t) (rw skip.asks tt)
 
   free_to : (u far : ℕ) → IsFree part w far m → IsFree part w far (w.close m u)
   free_to u far clear t low = wired.pending_close m u t ∙ clear t low
@@ -139,7 +139,7 @@ module _ (part : Part) {B D : Type 0} {w : BusModel B} (wired : IsWired w) {read
     asks-there v =
         plain-asks part w (closed_to w there v) (break_closed part w wired there v ∙ unbroken) ∙ ap (asks_by w (w.close came.0 v)) (outside from).next
         ∙ asked_closed part w wired false (Some c) came.0 v ∙ sym (asked_closed part w wired false (Some c) came.0 u)
-        ∙ ap (λ (x : B). asks_by w x (Some c)) (same u (omega arith)) ∙ asked_closed part w wired false (Some c) m u ∙ passing.asks
+        ∙ ap (λ (x : B). asks_by w x (Some c)) (same u (omega arith)) ∙ asked_closed part w wired false (Some c) m u ∙ skip.asks
 
     cycle_on : n ≡ w.cycle b
     cycle_on = cycle ∙ sym (wired.cycle_close m (top from + 1))
@@ -152,8 +152,8 @@ module _ (part : Part) {B D : Type 0} {w : BusModel B} (wired : IsWired w) {read
         let pends : w.pending b (top from + (n - 1)) ≡ false = free_to (top from + 1) bound free (top from + (n - 1)) (omega (arith, fits, some)) in
         sym (rw (pends, (outside from).over byte))
         ∙ taken part w wired there c b byte n (outside from).next unbroken (rw same_on (at_tube (top from + 1)))
-        (rw same_on (sym (passing.leaves (top from + 1)))) cycle_on
-        (rw same_on (passing.fast (top from) (top from + 1)))
+        (rw same_on (sym (skip.leaves (top from + 1)))) cycle_on
+        (rw same_on (skip.fast (top from) (top from + 1)))
         ∙ sym (next_closed part w wired there v (Some (Byte byte)) high)
 
     looked : ended from ≡ after_look part w (closed_to w over_there (over_there.due + 1)) lines
@@ -170,7 +170,7 @@ module _ (part : Part) {B D : Type 0} {w : BusModel B} (wired : IsWired w) {read
         at-look part wired stays cycle_on ((outside from).over byte) (omega (arith, closed_on)) (free_to (top from + 1) bound free) (plain_to (top from + 1))
         (omega (arith, fits, in_run, some)) (omega (arith, fits, early, some)) (omega (arith, fits, some)) looked
 
-    talk : (until safe_until : ℕ) → bound ≤ until → bound ≤ safe_until → (j : ℕ) × Talks (transitions_of part w) answers until (shown_lines lines safe_until) j (starts u from) d (ended from) e
+    talk : (until safe_until : ℕ) → bound ≤ until → bound ≤ safe_until → (j : ℕ) × PortRun (transitions_of part w) answers until (shown_lines lines safe_until) j (starts u from) d (ended from) e
     talk until safe_until in_run early =
         let way = to-there until safe_until in_run in
         let v : ℕ = owed_at n from (top from) (w.closed came.0) in
@@ -196,7 +196,7 @@ module _ (part : Part) {B D : Type 0} {w : BusModel B} (wired : IsWired w) {read
     -- it is a part of a run
     pub asked-whole : IsServed part w plain answers lines bound (starts u from) d (ended from) e
     asked-whole = record {
-      talks = talk;
+      port_run = talk;
       alike = record {
         goes_on = begins part Instruction (outcome part o r byte);
         closed = let is = wired.closed m (top from + n) in omega (arith, is, before, some);

@@ -15,7 +15,7 @@ use Rattle.tube_chip.specs.declared.Op.TheVariants as op
 use Rattle.tube_chip.specs.declared.Lines.{Lines}
 use Rattle.tube_chip.specs.declared.Answer.{Answer}
 use Rattle.tube_chip.specs.declared.Answer.TheVariants.{Seen}
-use Rattle.tube_party.specs.Transitions.{Looks, Hears, IsAsk, IsUnsure, shown_lines}
+use Rattle.tube_party.specs.Transitions.{Looks, PortRunToAsk, IsAsk, IsNotSafe, shown_lines}
 use Rattle.tube_party.specs.Steps.{After}
 use Rattle.tube_party.specs.declared.party.Ask.{Ask}
 use Rattle.tube_machine.specs.BusModel.{BusModel, IsWired}
@@ -98,12 +98,12 @@ module _ (part : Part) {B : Type 0} (w : BusModel B) (wired : IsWired w) where
     more-look s new low early h over is = grind arith
 
     -- a look that is not below `safe_until`, or none below n
-    unsure-by : (last new : At B) (ask : Ask) → IsAsk (transitions_of part w) n last ask new → (is_break part w last ≡ true) ⊎ (min n safe_until ≤ last.due) → IsUnsure safe_until ask
-    unsure-by last new ask is late = grind arith
+    not_safe-by : (last new : At B) (ask : Ask) → IsAsk (transitions_of part w) n last ask new → (is_break part w last ≡ true) ⊎ (min n safe_until ≤ last.due) → IsNotSafe safe_until ask
+    not_safe-by last new ask is late = grind arith
 
     pub stops-at-look : {D : Type 0} {answers : D → ℕ → Op → ℕ → D → Type 0} {d : D} {last new : At B} {ask : Ask} →
-        IsAsk (transitions_of part w) n last ask new → (is_break part w last ≡ true) ⊎ (min n safe_until ≤ last.due) → Hears (transitions_of part w) answers n (shown_lines lines safe_until) last d ask new d
-    stops-at-look {last = last} {new} {ask} is late = record { accesses = 0; last = last; talks = (refl, (0, refl)); asked = is; unsure = unsure-by last new ask is late }
+        IsAsk (transitions_of part w) n last ask new → (is_break part w last ≡ true) ⊎ (min n safe_until ≤ last.due) → PortRunToAsk (transitions_of part w) answers n (shown_lines lines safe_until) last d ask new d
+    stops-at-look {last = last} {new} {ask} is late = record { accesses = 0; last = last; port_run = (refl, (0, refl)); asked = is; not_safe = not_safe-by last new ask is late }
 
   -- the tick rises
   pub next-rises : (s : At B) {new : At B} (a : Option Answer) → new ≡ next_state part w s a → s.due < new.due

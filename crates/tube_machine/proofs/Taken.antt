@@ -77,5 +77,5 @@ module _ (part : Part) {B : Type 0} (w : BusModel B) where
   passed wired s b byte n none at closed ticks =
       let c : Cycle = at.cycle in
       let there : IsAtTube w (w.close s.bus (s.due + 1)) c =
-      at-tube s.bus (w.close s.bus (s.due + 1)) c (wired.tube_close s.bus (s.due + 1)) (rw at.passing.asks tt) in
-      taken wired s c b byte n at.next none there (closed ∙ sym (at.passing.leaves (s.due + 1))) ticks (at.passing.fast s.due (s.due + 1))
+      at-tube s.bus (w.close s.bus (s.due + 1)) c (wired.tube_close s.bus (s.due + 1)) (rw at.skip.asks tt) in
+      taken wired s c b byte n at.next none there (closed ∙ sym (at.skip.leaves (s.due + 1))) ticks (at.skip.fast s.due (s.due + 1))

@@ -14,7 +14,7 @@ use Rattle.tube_party.specs.Steps.{none_seen}
 use Rattle.tube_machine.specs.BusModel.{BusModel, IsWired, StaysPlain}
 use Rattle.tube_machine.specs.Step.{At, at_of, transitions_of}
 use Rattle.tube_machine.specs.Whole.{reach_of, IsMemory, StaysAtRest}
-use Rattle.tube_machine.specs.Passing.{ToLook, Passes}
+use Rattle.tube_machine.specs.SkipWhile.{ToLook, Passes}
 use Rattle.tube_machine.proofs.InProgress.{IsInProgress, IsFree, begins, caught-up, look-asks, look-next, quick-last, quick-free}
 use Rattle.tube_machine.proofs.WholeSteps.{whole-last}
 

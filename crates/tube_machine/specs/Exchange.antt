@@ -10,14 +10,14 @@ use Rattle.tube_chip.specs.Act.{access}
 use Rattle.tube_chip.specs.declared.Answer.TheVariants.{Byte}
 use Rattle.tube_chip.specs.declared.Lines.{Lines}
 use Rattle.tube_chip.specs.declared.Op.{Op}
-use Rattle.tube_party.specs.Transitions.{FitsAnswer, IsAnswered, Talks, Hears, shown_lines}
+use Rattle.tube_party.specs.Transitions.{FitsAnswer, IsAnswered, PortRun, PortRunToAsk, shown_lines}
 use Rattle.tube_machine.specs.declared.bus.Done.{Done}
-use Rattle.tube_machine.specs.declared.bus.Unable.{Unable}
-use Rattle.tube_machine.specs.declared.bus.Unable.TheVariants.{Tube, Full}
-use Rattle.tube_machine.specs.declared.steps.Left.{Left}
-use Rattle.tube_machine.specs.declared.steps.Left.TheVariants as left
-use Rattle.tube_machine.specs.declared.run.Stop.{Stop}
-use Rattle.tube_machine.specs.declared.run.Stop.TheVariants.{Look, Access, End}
+use Rattle.tube_machine.specs.declared.bus.AccessError.{AccessError}
+use Rattle.tube_machine.specs.declared.bus.AccessError.TheVariants.{Tube, Full}
+use Rattle.tube_machine.specs.declared.steps.RunExit.{RunExit}
+use Rattle.tube_machine.specs.declared.steps.RunExit.TheVariants as left
+use Rattle.tube_machine.specs.declared.run.LoopExit.{LoopExit}
+use Rattle.tube_machine.specs.declared.run.LoopExit.TheVariants.{Look, Access, End}
 use Rattle.tube_machine.specs.BusModel.{BusModel}
 use Rattle.tube_machine.specs.Step.{At, is_break, asks, asks_by, byte_of, next_state, transitions_of}
 
@@ -29,14 +29,14 @@ module _ {B : Type 0} (w : BusModel B) where
 
   -- An access asks this of the Tube, takes one cycle, and does not change the bus, however far that
   -- is closed.
-  pub record IsPassing (b : B) (c : Cycle) (op : Op) : Type 0 where
+  pub record IsSkipping (b : B) (c : Cycle) (op : Op) : Type 0 where
     pub asks : asks_by w b (Some c) ≡ Some (access op)
     pub leaves : (t : ℕ) → w.after (w.close b t) c ≡ w.close b t
     pub fast : (t u : ℕ) → w.takes (w.close b u) t c ≡ w.cycle (w.close b u)
 
   -- An access at tick t is done, with the devices closed before it; or it asks the Tube; or it
   -- cannot be noted.
-  abbrev pub IsExchanged : B → ℕ → Cycle → Result Done Unable → B → Type 0
+  abbrev pub IsExchanged : B → ℕ → Cycle → Result Done AccessError → B → Type 0
   IsExchanged b t c (Ok done) new =
       (asks_by w b (Some c) ≡ None)
       × (done.byte ≡ byte_of w (w.close b (t + 1)) t None c)
@@ -75,14 +75,14 @@ module _ (part : Part) {B : Type 0} (w : BusModel B) where
     pub cycle : Cycle
     pub op : Op
     pub next : next_cycle part s.cpu ≡ Some cycle
-    pub passing : IsPassing w s.bus cycle op
+    pub skip : IsSkipping w s.bus cycle op
 
   -- the next step is an access to the Tube
   abbrev pub IsAskedByte : At B → Type 0
   IsAskedByte s = MatchOption (asks part w s) ⊥ (λ q. FitsAnswer q (Byte 0))
 
   -- Where steps in a row stop: at a look, at another step below the end, or past the end.
-  abbrev pub IsStop : ℕ → Stop → At B → Type 0
+  abbrev pub IsStop : ℕ → LoopExit → At B → Type 0
   IsStop until Look s = next_cycle part s.cpu ≡ None
   IsStop until Access s = IsSome (next_cycle part s.cpu) × (s.due < until)
   IsStop until End s = until ≤ s.due
@@ -90,7 +90,7 @@ module _ (part : Part) {B : Type 0} (w : BusModel B) where
 -- The next step is done, possibly by the port's answer; or it asks the Tube; or it cannot be noted.
 -- The port goes from d to e.
 module _ (part : Part) {B D : Type 0} (w : BusModel B) (answers : D → ℕ → Op → ℕ → D → Type 0) where
-  abbrev pub IsDone : At B → D → Result (Unit {0}) Unable → At B → D → Type 0
+  abbrev pub IsDone : At B → D → Result (Unit {0}) AccessError → At B → D → Type 0
   IsDone old d (Ok x) new e =
       (IsSilent part w old new × (d ≡ e)) ⊎ ((is_break part w old ≡ false) × IsAnswered (transitions_of part w) answers (old.due + 1) old d new e)
   IsDone old d (Err (Tube o)) new e = (asks part w old ≡ Some (access o)) × (new ≡ old) × (d ≡ e)
@@ -118,7 +118,7 @@ ready part c due = if is_none (next_cycle part c) then due + 1 else due
 
 -- The cost of steps up to an access, of a CMOS part: at most a note for each cycle, and no sequence
 -- that began too late. Of other stops nothing is said.
-abbrev pub Spends : Part → ℕ → ℕ → NoteBudget → Stop → NoteBudget → Type 0
+abbrev pub Spends : Part → ℕ → ℕ → NoteBudget → LoopExit → NoteBudget → Type 0
 Spends part cycle safe_until old Access new = HasSpent (part ≡ Cmos) cycle safe_until old new
 Spends part cycle safe_until old _ new = Unit {0}
 
@@ -126,11 +126,11 @@ Spends part cycle safe_until old _ new = Unit {0}
 -- to a look, of which nothing more is said, or to an ask. The port goes from d to e. Of a run that
 -- cannot be noted nothing is said.
 module _ (part : Part) {B D : Type 0} (w : BusModel B) (answers : D → ℕ → Op → ℕ → D → Type 0) where
-  abbrev pub IsRun : ℕ → Lines → ℕ → At B → D → Left → At B → D → Type 0
+  abbrev pub IsRun : ℕ → Lines → ℕ → At B → D → RunExit → At B → D → Type 0
   IsRun until lines safe_until old d left.Full new e = Unit {0}
-  IsRun until lines safe_until old d (left.Asked ask) new e = Hears (transitions_of part w) answers until (shown_lines lines safe_until) old d ask new e
+  IsRun until lines safe_until old d (left.Asked ask) new e = PortRunToAsk (transitions_of part w) answers until (shown_lines lines safe_until) old d ask new e
   IsRun until lines safe_until old d left.Look new e =
-      ((j : ℕ) × Talks (transitions_of part w) answers until (shown_lines lines safe_until) j old d new e) × (next_cycle part new.cpu ≡ None)
+      ((j : ℕ) × PortRun (transitions_of part w) answers until (shown_lines lines safe_until) j old d new e) × (next_cycle part new.cpu ≡ None)
 
 -- The notes of a run from tick `from` had room for at most the cycles up to `safe_until`, plus 15:
 -- each note is of a write, which takes a cycle, and fewer than 16 cycles of the last sequence are

@@ -4,4 +4,4 @@ pub mod Lawful
 pub mod Exchange
 pub mod NoBreak
 pub mod Whole
-pub mod Passing
+pub mod SkipWhile

@@ -11,7 +11,7 @@ use Rattle.cpu_alu.specs.Flags.{has_flag}
 use Rattle.cpu_whole.specs.Whole.{Reach, IsPlain}
 use Rattle.tube_chip.specs.declared.Lines.{Lines}
 use Rattle.tube_chip.specs.declared.Op.{Op}
-use Rattle.tube_party.specs.Transitions.{Looks, Talks, shown_lines}
+use Rattle.tube_party.specs.Transitions.{Looks, PortRun, shown_lines}
 use Rattle.tube_machine.specs.BusModel.{BusModel}
 use Rattle.tube_machine.specs.Step.{At, transitions_of}
 use Rattle.tube_machine.specs.Exchange.{IsAtTube}
@@ -79,7 +79,7 @@ pub record IsOnward (part : Part) {B : Type 0} (w : BusModel B) (plain : B → L
 -- As `IsOnward`, and with accesses that the port answers. The port goes from d to e.
 pub record IsServed (part : Part) {B D : Type 0} (w : BusModel B) (plain : B → Lines → Bool) (answers : D → ℕ → Op → ℕ → D → Type 0) (lines : Lines) (bound : ℕ)
     (old : At B) (d : D) (new : At B) (e : D) : Type 0 where
-  pub talks : (until safe_until : ℕ) → bound ≤ until → bound ≤ safe_until → (j : ℕ) × Talks (transitions_of part w) answers until (shown_lines lines safe_until) j old d new e
+  pub port_run : (until safe_until : ℕ) → bound ≤ until → bound ≤ safe_until → (j : ℕ) × PortRun (transitions_of part w) answers until (shown_lines lines safe_until) j old d new e
   pub alike : GoesOnAlike part w plain lines bound old new
 
 -- Looks that see these lines, with the flag I of `p`, ask for nothing and do not change the bus, at

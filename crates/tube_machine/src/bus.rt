@@ -3,7 +3,7 @@ ghost use Rattle.std.specs.Prelude.{ℕ, Bool, ◌≡◌, ◌≤◌, ◌<◌, �
 ghost use Rattle.cpu_alu.specs.declared.Cycle.{Cycle};
 ghost use Rattle.tube_chip.specs.declared.Lines.{Lines};
 ghost use Rattle.tube_machine.specs.BusModel.{BusModel, IsWired, StaysPlain};
-ghost use Rattle.tube_machine.specs.Exchange.{IsExchanged, IsQuick, IsAtTube, IsPassing};
+ghost use Rattle.tube_machine.specs.Exchange.{IsExchanged, IsQuick, IsAtTube, IsSkipping};
 ghost use Rattle.tube_machine.specs.Whole.{reach_of, IsMemory, StaysAtRest};
 ghost use Rattle.cpu_whole.specs.Whole as whole;
 ghost use Rattle.cpu_whole.specs.Outside as outside;
@@ -23,7 +23,7 @@ pub struct Done {
 
 /// The reason why an access is not done.
 #[derive(Clone, Copy, Debug, PartialEq, Eq)]
-pub enum Unable {
+pub enum AccessError {
     /// It is the Tube's.
     Tube(Op),
     /// It is a write, and there is no room to note it.
@@ -209,7 +209,7 @@ pub trait TubeBus<N>: Drop {
     /// Returns what an access asks of the Tube, if it does not change the bus, or `None` if nothing
     /// is known.
     fn asked(&self, cycle: Cycle) -> Option<Op>
-        ensures { MatchOption result (Unit {0}) (λ op. IsPassing bus_model (state self.now) cycle op) };
+        ensures { MatchOption result (Unit {0}) (λ op. IsSkipping bus_model (state self.now) cycle op) };
 
     /// Returns the number of cycles of the instruction at the program counter, if it is a branch
     /// over plain memory that leads from registers `from` to registers `to`, and otherwise 0. `L`
@@ -221,7 +221,7 @@ pub trait TubeBus<N>: Drop {
 
     /// Does any access at tick `t`. Returns as `Err` what it asks of the Tube, or that it cannot be
     /// noted.
-    fn exchange(&mut self, t: u64, cycle: Cycle, notes: &mut N) -> Result<Done, Unable>
+    fn exchange(&mut self, t: u64, cycle: Cycle, notes: &mut N) -> Result<Done, AccessError>
         requires closed { bus_model.closed (state self.old) ≤ t + 1 }
         requires room { t < 2 ^ 40 }
         ensures closed { IfOk result (λ done. bus_model.closed (state self.new) ≡ t + 1) }
@@ -229,5 +229,5 @@ pub trait TubeBus<N>: Drop {
         ensures done { IsExchanged bus_model (state self.old) t cycle result (state self.new) }
         ensures noted { before notes.new self.new ≡ before notes.old self.old }
         ensures room { room notes.old ≤ room notes.new + 1 }
-        ensures full { result ≡ Err Unable.Full → (endless ≡ false) × (room notes.old ≡ 0) };
+        ensures full { result ≡ Err AccessError.Full → (endless ≡ false) × (room notes.old ≡ 0) };
 }

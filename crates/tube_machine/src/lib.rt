@@ -3,12 +3,12 @@
 #![tactic(auto)]
 
 mod bus;
-mod pass;
+mod skip_while;
 mod processor;
 mod run;
 mod steps;
 
-pub use bus::{Done, Interrupts, TubeBus, Unable};
-pub use pass::{Passing, pass_over};
+pub use bus::{Done, Interrupts, TubeBus, AccessError};
+pub use skip_while::{SkipWhile, skip_over};
 pub use processor::Processor;
-pub use steps::{Left, advance_at, advance_seeing, answer, carry_on, look, take_lines};
+pub use steps::{RunExit, advance_at, advance_seeing, answer, carry_on, look, take_lines};

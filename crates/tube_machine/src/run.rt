@@ -4,7 +4,7 @@ ghost use Rattle.std.specs.Prelude.{◌≡◌, ◌≤◌, ◌<◌, ◌+◌, ◌-
 ghost use Rattle.op_table.specs.declared.Part.TheVariants.{Cmos};
 ghost use Rattle.cpu_core.specs.declared.Sequence.TheVariants.{Instruction};
 ghost use Rattle.cpu_core.specs.Sequences.{next_cycle, starting, fresh};
-ghost use Rattle.tube_party.specs.Transitions.{Talks, shown_lines};
+ghost use Rattle.tube_party.specs.Transitions.{PortRun, shown_lines};
 ghost use Rattle.tube_machine.specs.Step.{at_of, transitions_of, closed_to, after_look};
 ghost use Rattle.tube_machine.specs.Exchange.{behind, owed_at, ready, spent, HasSpent, IsStop, Spends};
 ghost use Rattle.tube_machine.specs.Whole.{IsOnward, IsServed, IsResting};
@@ -19,7 +19,7 @@ use tube_party::TubePort;
 
 /// Where such steps stop.
 #[derive(Clone, Copy, Debug, PartialEq, Eq)]
-pub(crate) enum Stop {
+pub(crate) enum LoopExit {
     /// At a look that is past the end of the run, is not below `safe_until` or is not plain; or at
     /// a break in place of it.
     Look,
@@ -140,7 +140,7 @@ fn go_whole<N, P: Processor, B: TubeBus<N>>(
     let late = (end + 1).saturating_sub(LONGEST * cycle);
     let mut due = from;
     while due < late {
-        let cycles = bus.whole::<Stop>(cpu.kind(), &mut regs, due, notes);
+        let cycles = bus.whole::<LoopExit>(cpu.kind(), &mut regs, due, notes);
         if cycles == 0 {
             break;
         }
@@ -189,7 +189,7 @@ fn ask_whole<N, P: Processor, B: TubeBus<N>, D: TubePort>(
     ensures noted { (notes : N) → B.before notes bus.new ≡ B.before notes bus.old }
 {
     let part = cpu.kind();
-    let last = bus.last_access::<Stop>(part, at);
+    let last = bus.last_access::<LoopExit>(part, at);
     if last.cycles == 0 {
         return from;
     }
@@ -204,7 +204,7 @@ fn ask_whole<N, P: Processor, B: TubeBus<N>, D: TubePort>(
     let before = *at;
     take_in(part, &last, at, byte);
     let mut due = tick + cycle;
-    let back = bus.branch_to::<Stop>(part, at, &before);
+    let back = bus.branch_to::<LoopExit>(part, at, &before);
     let period = due + cycle * back - from;
     if back > 0 && from + period <= end {
         let more = port.again(Tick(tick), op, byte, period, times_more(from, period, end));
@@ -310,13 +310,13 @@ pub(crate) fn go_quick<N, P: Processor, B: TubeBus<N>, D: TubePort>(
     safe_until: u64,
     lines: &Lines,
     port: &mut D,
-) -> (u64, Stop)
+) -> (u64, LoopExit)
     requires room { until ≤ 2 ^ 30 }
     requires before { (B.bus_model).closed (B.state bus.old) ≤ from + 1 }
     ensures before { (B.bus_model).closed (B.state bus.new) ≤ result.0 + 1 }
-    ensures talks { let old = at_of (P.core cpu.old) (B.state bus.old) from in
+    ensures port_run { let old = at_of (P.core cpu.old) (B.state bus.old) from in
         let new = at_of (P.core cpu.new) (B.state bus.new) result.0 in
-        (j : ℕ) × Talks (transitions_of P.part B.bus_model) D.answers until (shown_lines lines.now safe_until) j old (D.state port.old) new (D.state port.new) }
+        (j : ℕ) × PortRun (transitions_of P.part B.bus_model) D.answers until (shown_lines lines.now safe_until) j old (D.state port.old) new (D.state port.new) }
     ensures stops { let new = at_of (P.core cpu.new) (B.state bus.new) result.0 in
         IsStop P.part B.bus_model until result.1 new }
     ensures noted { B.before notes.new bus.new ≡ B.before notes.old bus.old }
@@ -332,7 +332,7 @@ pub(crate) fn go_quick<N, P: Processor, B: TubeBus<N>, D: TubePort>(
     let mut due = from;
     if cpu.last() {
         if due >= bound {
-            return (due, Stop::Look);
+            return (due, LoopExit::Look);
         }
         see::<N, P, B>(cpu, bus, due, lines);
         due = go_asking::<N, P, B, D>(cpu, bus, notes, due + 1, bound, lines, port);
@@ -347,7 +347,7 @@ pub(crate) fn go_quick<N, P: Processor, B: TubeBus<N>, D: TubePort>(
                     due += cycle;
                     if due > bound {
                         bus.close(due - (cycle - 1));
-                        return (due - 1, Stop::Look);
+                        return (due - 1, LoopExit::Look);
                     }
                     see::<N, P, B>(cpu, bus, due - 1, lines);
                     due = go_asking::<N, P, B, D>(cpu, bus, notes, due, bound, lines, port);
@@ -358,14 +358,14 @@ pub(crate) fn go_quick<N, P: Processor, B: TubeBus<N>, D: TubePort>(
             }
             None => {
                 catch_up::<N, B>(bus, cycle, caught_up, due);
-                return (due, Stop::Access);
+                return (due, LoopExit::Access);
             }
         }
     }
     catch_up::<N, B>(bus, cycle, caught_up, due);
     if due < until {
-        (due, Stop::Access)
+        (due, LoopExit::Access)
     } else {
-        (due, Stop::End)
+        (due, LoopExit::End)
     }
 }

@@ -4,20 +4,20 @@ ghost use Rattle.std.specs.Prelude.{◌≡◌, ◌≤◌, ◌<◌, ◌+◌, ◌-
 ghost use Rattle.op_table.specs.declared.Part.TheVariants.{Cmos};
 ghost use Rattle.cpu_core.specs.Sequences.{next_cycle, after_byte, halted};
 ghost use Rattle.tube_chip.specs.declared.Answer.TheVariants.{Byte, Seen};
-ghost use Rattle.tube_party.specs.Transitions.{Sees, Hears, IsAsk, IsAskedFor, close_leaves, shown_lines};
+ghost use Rattle.tube_party.specs.Transitions.{LookRunToAsk, PortRunToAsk, IsAsk, IsAskedFor, close_leaves, shown_lines};
 ghost use Rattle.tube_machine.specs.Step.{at_of, transitions_of, asks, closed_to, next_state, is_last_tick, is_break, after_break, after_cycle};
 ghost use Rattle.tube_machine.specs.Exchange.{ready, IsDone, LeavesBus, IsRun, IsBudgetExhausted, IsAskedByte};
 
-use crate::bus::{TubeBus, Unable};
+use crate::bus::{TubeBus, AccessError};
 use crate::processor::Processor;
-use crate::run::{Stop, go_quick};
+use crate::run::{LoopExit, go_quick};
 use beeb_bits::Tick;
 use tube_chip::{Answer, Lines, Op};
 use tube_party::{Ask, NoPort, TubePort};
 
 /// Where a run stops.
 #[derive(Clone, Copy, Debug, PartialEq, Eq)]
-pub enum Left {
+pub enum RunExit {
     /// At an ask.
     Asked(Ask),
     /// At a look, below `safe_until` or not, or at a break in place of it.
@@ -159,7 +159,7 @@ fn pass_byte<N, P: Processor, B: TubeBus<N>>(cpu: &mut P, bus: &mut B, due: &mut
     requires room { due.old < 2 ^ 32 }
     requires before { (B.bus_model).closed (B.state bus.old) ≤ due.old + 1 }
     requires access { is_break P.part B.bus_model (at_of (P.core cpu.old) (B.state bus.old) due.old) ≡ false }
-    requires passing { LeavesBus P.part B.bus_model (at_of (P.core cpu.old) (B.state bus.old) due.old) }
+    requires skip { LeavesBus P.part B.bus_model (at_of (P.core cpu.old) (B.state bus.old) due.old) }
     ensures before { (B.bus_model).closed (B.state bus.new) ≤ due.new + 1 }
     ensures taken { let old = at_of (P.core cpu.old) (B.state bus.old) due.old in
         at_of (P.core cpu.new) (B.state bus.new) due.new
@@ -180,7 +180,7 @@ fn access<N, P: Processor, B: TubeBus<N>, D: TubePort>(
     due: &mut u64,
     notes: &mut N,
     port: &mut D,
-) -> Result<(), Unable>
+) -> Result<(), AccessError>
     requires room { due.old < 2 ^ 32 }
     requires goes_on { IsSome (next_cycle P.part (P.core cpu.old)) }
     requires before { (B.bus_model).closed (B.state bus.old) ≤ due.old + 1 }
@@ -190,11 +190,11 @@ fn access<N, P: Processor, B: TubeBus<N>, D: TubePort>(
         IsDone P.part B.bus_model D.answers old (D.state port.old) result new (D.state port.new) }
     ensures noted { B.before notes.new bus.new ≡ B.before notes.old bus.old }
     ensures room { B.room notes.old ≤ B.room notes.new + 1 }
-    ensures full { result ≡ Err Unable.Full → (B.endless ≡ false) × (B.room notes.old ≡ 0) }
+    ensures full { result ≡ Err AccessError.Full → (B.endless ≡ false) × (B.room notes.old ≡ 0) }
 {
     if is_break::<N, P, B>(cpu, bus, *due) {
         if bus.has_tube() {
-            return Err(Unable::Tube(Op::Reset));
+            return Err(AccessError::Tube(Op::Reset));
         }
         take_break::<N, P, B>(cpu, bus, due);
         return Ok(());
@@ -202,7 +202,7 @@ fn access<N, P: Processor, B: TubeBus<N>, D: TubePort>(
     if port.answers_single_accesses() {
         if let Some(op) = bus.asked(cpu.want()) {
             let Some(byte) = port.ask(Tick(*due), op) else {
-                return Err(Unable::Tube(op));
+                return Err(AccessError::Tube(op));
             };
             pass_byte::<N, P, B>(cpu, bus, due, byte);
             return Ok(());
@@ -224,7 +224,7 @@ pub fn carry_on<N, P: Processor, B: TubeBus<N>, D: TubePort>(
     lines: &Lines,
     safe_until: Tick,
     port: &mut D,
-) -> Left
+) -> RunExit
     requires room { until.0 ≤ 2 ^ 30 }
     requires before { (B.bus_model).closed (B.state bus.old) ≤ due.old + 1 }
     ensures before { (B.bus_model).closed (B.state bus.new) ≤ due.new + 1 }
@@ -234,7 +234,7 @@ pub fn carry_on<N, P: Processor, B: TubeBus<N>, D: TubePort>(
     ensures noted { B.before notes.new bus.new ≡ B.before notes.old bus.old }
     ensures full { let from = ready P.part (P.core cpu.old) due.old in
         let cramped = IsBudgetExhausted ((B.bus_model).cycle (B.state bus.old)) safe_until.0 from (B.room notes.old) in
-        result ≡ Left.Full → (B.endless ≡ false) × (P.part ≡ Cmos → cramped) }
+        result ≡ RunExit.Full → (B.endless ≡ false) × (P.part ≡ Cmos → cramped) }
 {
     loop {
         let (at, stop) = go_quick::<N, P, B, D>(
@@ -242,15 +242,15 @@ pub fn carry_on<N, P: Processor, B: TubeBus<N>, D: TubePort>(
         );
         *due = at;
         match stop {
-            Stop::Look => return Left::Look,
-            Stop::Access => match access::<N, P, B, D>(cpu, bus, due, notes, port) {
+            LoopExit::Look => return RunExit::Look,
+            LoopExit::Access => match access::<N, P, B, D>(cpu, bus, due, notes, port) {
                 Ok(()) => (),
-                Err(Unable::Tube(op)) => return Left::Asked(Ask::Access(Tick(*due), op)),
-                Err(Unable::Full) => return Left::Full,
+                Err(AccessError::Tube(op)) => return RunExit::Asked(Ask::Access(Tick(*due), op)),
+                Err(AccessError::Full) => return RunExit::Full,
             },
-            Stop::End => {
+            LoopExit::End => {
                 shut::<N, P, B>(cpu, bus, *due, until);
-                return Left::Asked(Ask::Nothing);
+                return RunExit::Asked(Ask::Nothing);
             }
         }
     }
@@ -327,7 +327,7 @@ pub fn advance_seeing<N, P: Processor, B: TubeBus<N>>(
     ensures before { (B.bus_model).closed (B.state bus.new) ≤ due.new + 1 }
     ensures sees { let old = at_of (P.core cpu.old) (B.state bus.old) due.old in
         let new = at_of (P.core cpu.new) (B.state bus.new) due.new in
-        Sees (transitions_of P.part B.bus_model) until.0 (shown_lines lines.now safe_until.0) old result new }
+        LookRunToAsk (transitions_of P.part B.bus_model) until.0 (shown_lines lines.now safe_until.0) old result new }
 {
     advance_at::<N, P, B, NoPort>(cpu, bus, due, notes, until, lines, safe_until, &mut NoPort)
 }
@@ -348,14 +348,14 @@ pub fn advance_at<N, P: Processor, B: TubeBus<N>, D: TubePort>(
     requires before { (B.bus_model).closed (B.state bus.old) ≤ due.old + 1 }
     requires endless { B.endless ≡ true }
     ensures before { (B.bus_model).closed (B.state bus.new) ≤ due.new + 1 }
-    ensures hears { let old = at_of (P.core cpu.old) (B.state bus.old) due.old in
+    ensures port_run_to_ask { let old = at_of (P.core cpu.old) (B.state bus.old) due.old in
         let new = at_of (P.core cpu.new) (B.state bus.new) due.new in
-        Hears (transitions_of P.part B.bus_model) D.answers until.0 (shown_lines lines.now safe_until.0) old (D.state port.old) result new (D.state port.new) }
+        PortRunToAsk (transitions_of P.part B.bus_model) D.answers until.0 (shown_lines lines.now safe_until.0) old (D.state port.old) result new (D.state port.new) }
 {
     loop {
         match carry_on::<N, P, B, D>(cpu, bus, due, notes, until, lines, safe_until, port) {
-            Left::Asked(ask) => return ask,
-            Left::Look => {
+            RunExit::Asked(ask) => return ask,
+            RunExit::Look => {
                 if breaks_alone::<N, P, B>(cpu, bus, *due, until) {
                     take_break::<N, P, B>(cpu, bus, due);
                 } else if *due >= until.0.min(safe_until.0) || is_break::<N, P, B>(cpu, bus, *due) {
@@ -364,7 +364,7 @@ pub fn advance_at<N, P: Processor, B: TubeBus<N>, D: TubePort>(
                     take_lines::<N, P, B>(cpu, bus, due, lines);
                 }
             }
-            Left::Full => unreachable!(),
+            RunExit::Full => unreachable!(),
         }
     }
 }

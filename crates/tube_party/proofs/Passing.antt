@@ -13,11 +13,11 @@ use Rattle.tube_party.specs.declared.log.Log.{Log}
 use Rattle.tube_party.specs.declared.log.LogMark.{LogMark}
 use Rattle.tube_party.specs.declared.party.Ask.{Ask}
 use Rattle.tube_party.specs.declared.party.Ask.TheVariants.{Access}
-use Rattle.tube_party.specs.Transitions.{Transitions, SeesHirqAlone, IsAsk, Hears, IsAnswered, shown_lines}
+use Rattle.tube_party.specs.Transitions.{Transitions, SeesHirqAlone, IsAsk, PortRunToAsk, IsAnswered, shown_lines}
 use Rattle.tube_party.specs.Turn.{IsPending, first_of, tick_of, ticks_left, IsSafe, note_leaves, note_all_leaves}
 use Rattle.tube_party.specs.CodeAtWork.{Acts, at_work, own_of}
 use Rattle.tube_party.specs.Logs.{HasNoted}
-use Rattle.tube_party.specs.Steps.{talks_rise}
+use Rattle.tube_party.specs.Steps.{port_run_rise}
 use Rattle.tube_party.specs.CodePassing.{ChipPortState, StaysSeen, IsPassed, chip_behind, passed_entry}
 use Rattle.tube_party.specs.CodeStanding.{Standing, IsGone, IsRolledBack, para_turn}
 use Rattle.tube_party.proofs.Runs.{Talking, Last, Next, talking_of}
@@ -99,10 +99,10 @@ para_reads same turn ahead until kept (Last looks) =
       host_count = refl;
       host_keep = refl;
     }
-para_reads {p = p} {n} {safe_until} {keep} {last = last} {d = d} same turn ahead until kept (Next {at = at} {on} {f = f} looks answered talks) =
+para_reads {p = p} {n} {safe_until} {keep} {last = last} {d = d} same turn ahead until kept (Next {at = at} {on} {f = f} looks answered port_run) =
     let passed = answered.answered in
     let chip_is : f.chip ≡ d.chip = (rw turn at passed.chip_is) ∙ glance_leaves d.chip (access answered.op) (passed.reads ahead turn) in
-    let more = para_reads (same ∙ ap lines_of (sym chip_is)) (passed.turn_is ∙ turn) (passed.is_read_is ∙ ahead) (passed.safe_until_is ∙ until) (passed.para_noted.keep_is ∙ kept) talks in
+    let more = para_reads (same ∙ ap lines_of (sym chip_is)) (passed.turn_is ∙ turn) (passed.is_read_is ∙ ahead) (passed.safe_until_is ∙ until) (passed.para_noted.keep_is ∙ kept) port_run in
     let noted = rw turn at passed.para_noted in
     let count_is : f.para.count ≡ d.para.count + 1 = noted.count_is in
     let host = other_stays Para turn passed in
@@ -226,7 +226,7 @@ module _ {S T : Type 0} {r : Run S T} where
         };
         smaller = omega arith;
       }
-  host_passes {until} {safe_until} {ask_p = ask_p} {log = log} {d = d} w first acts none stays told seen x asked (Next {at = at} {f = f} looks answered talks) =
+  host_passes {until} {safe_until} {ask_p = ask_p} {log = log} {d = d} w first acts none stays told seen x asked (Next {at = at} {f = f} looks answered port_run) =
       let passed = answered.answered in
       let tick : Tick = record { 0 = h.due at } in
       let ask : Ask = Access tick answered.op in
@@ -239,7 +239,7 @@ module _ {S T : Type 0} {r : Run S T} where
       (passed_act Host x.turn x.host_keep answered)
       (λ is. none (sym passed.is_read_is ∙ is))
       (λ _. rw (passed.is_read_is, passed.chip_is) passed.stays)
-      told (still_seen h safe_until ask_p passed seen) (still_sides x passed) asked talks)
+      told (still_seen h safe_until ask_p passed seen) (still_sides x passed) asked port_run)
 
   -- ---- The parasite's turn, as long as the port answers its accesses
 
@@ -248,7 +248,7 @@ module _ {S T : Type 0} {r : Run S T} where
       → Talking p IsPassed n (shown_lines lines until) last e t d
       → IsAlong r until s last lines ask_h host e
   para_along told at x (Last looks) = (goes_along at told (rw x.lines_is at looks), x)
-  para_along {until} {s} {ask_h = ask_h} {d = d} told at x (Next {at = mid} looks answered talks) =
+  para_along {until} {s} {ask_h = ask_h} {d = d} told at x (Next {at = mid} looks answered port_run) =
       let passed = answered.answered in
       let there = goes_along at told (rw x.lines_is at looks) in
       let first : IsFirst p h n 1 mid mid there.host_last (Access (record { 0 = p.due mid }) answered.op) = record {
@@ -260,7 +260,7 @@ module _ {S T : Type 0} {r : Run S T} where
           in_time h n 0 until s there.host_last ask_h there.host_asked told (p.due mid) answered.below (omega (arith, passed.early, x.until_is)),
         );
       } in
-      para_along told (para_step {b = part_of mid d.para} there first (passed_act Para x.turn x.para_keep answered)) (still_sides x passed) talks
+      para_along told (para_step {b = part_of mid d.para} there first (passed_act Para x.turn x.para_keep answered)) (still_sides x passed) port_run
 
   -- ---- The parasite is rolled back
 
@@ -273,7 +273,7 @@ module _ {S T : Type 0} {r : Run S T} where
   rolls_back {at} {ahead = ahead} {from} {s} {t} {t2} {lines} {ask_h} {ask_p} {ask2} {d} {e} back w lines_is host_keep para_keep first is tick marks from2 =
       let log = back.log in
       let read : HasRead p n at keep from.state back.goes.last (para_turn d log at) e =
-      para_reads lines_is refl refl refl (back.keep_is ∙ para_keep) (talking_of back.goes.accesses back.goes.talks) in
+      para_reads lines_is refl refl refl (back.keep_is ∙ para_keep) (talking_of back.goes.accesses back.goes.port_run) in
       let there : IsAt r ask_h (part_of s d.host) (part_of from.state log) d.chip =
       rolled_back w is (back.list_is ∙ ap (λ x. take x d.para.list.items) (sym marks.0)) (back.count_is ∙ sym marks.1) in
       let f = host_first h p n s there.host_last t w.last ask_h ask_p there.host_asked w.asked first in
@@ -299,14 +299,14 @@ module _ {S T : Type 0} {r : Run S T} {ahead : Bool} {from : Mark T} {s : S} {t 
   left = ticks_left n ask_h + rest_of p n ahead from.state ask_p
 
   pub host_turn : {until seen : Tick} {s2 s3 : S} {lines2 : Lines} {ask2 : Ask} {d e : ChipPortState} → first_of ask_h ask_p ≡ Some Host
-      → Hears h IsPassed n (shown_lines lines2 seen.0) s2 d ask2 s3 e
+      → PortRunToAsk h IsPassed n (shown_lines lines2 seen.0) s2 d ask2 s3 e
       → Acts h Host d0.host.keep (at_work s d0.chip d0.host) (at_work s2 d.chip d.host)
       → d.turn ≡ Host → d.safe_until ≡ until.0 → lines2 ≡ lines_of d.chip → d.host.keep ≡ keep → d.para ≡ d0.para
       → (d.is_read ≡ false → ahead ≡ true → d0.para.count ≡ from.count)
       → (ahead ≡ true → StaysSeen d.is_read d0.chip (chip_behind d0.chip ask_h))
       → IsSafe 1 ask_p until.0 → (seen ≡ until) ⊎ (SeesHirqAlone h × (d.chip.flags.q ≡ false))
       → IsOver r left ahead from s3 t ask2 ask_p lines2 e
-  host_turn {until} {seen} {d = d} first hears acts turn until_is lines_is host_keep para none stays told free =
+  host_turn {until} {seen} {d = d} first port_run_to_ask acts turn until_is lines_is host_keep para none stays told free =
       let w = k.way in
       let f = host_first h p n s w.at.host_last t w.last ask_h ask_p w.at.host_asked w.asked first in
       let is : chip_behind d0.chip ask_h ≡ d.chip = sym (acts.chip_is ∙ behind_is h n s d0.chip ask_h acts.query f.pending acts.asks) in
@@ -320,22 +320,22 @@ module _ {S T : Type 0} {r : Run S T} {ahead : Bool} {from : Mark T} {s : S} {t 
         para_keep = ap (λ x. x.keep) para ∙ k.para_keep;
         list_is = ap (λ x. x.list.items) para;
         count_is = ap (λ x. x.count) para;
-      }) hears.asked (talking_of hears.accesses hears.talks)
+      }) port_run_to_ask.asked (talking_of port_run_to_ask.accesses port_run_to_ask.port_run)
 
   pub para_turn_over : {until : ℕ} {from2 : Mark T} {t2 t3 : T} {lines2 : Lines} {asked : Ask} {d b e : ChipPortState} {new : Standing T} → first_of ask_h ask_p ≡ Some Para
-      → Hears p IsPassed n (shown_lines lines2 until) t2 d asked t3 b
+      → PortRunToAsk p IsPassed n (shown_lines lines2 until) t2 d asked t3 b
       → IsGone p n lines2 t3 b asked new e
       → Acts p Para d0.para.keep (at_work t d0.chip d0.para) (at_work t2 d.chip d.para)
       → d.host ≡ d0.host → d.turn ≡ Para → d.safe_until ≡ until → d.para.keep ≡ keep → lines2 ≡ lines_of d.chip
       → IsSafe 0 ask_h until
       → (from2.state ≡ new.mark) × (from2.len ≡ length b.para.list.items) × (from2.count ≡ b.para.count)
       → IsOver r left new.ahead from2 s new.state ask_h new.ask lines2 e
-  para_turn_over {until} {from2} {t2} {t3} {lines2} {asked} {d} {b} {e} {new} first hears gone acts0 host turn until_is para_keep lines_is told is = by new.ahead refl
+  para_turn_over {until} {from2} {t2} {t3} {lines2} {asked} {d} {b} {e} {new} first port_run_to_ask gone acts0 host turn until_is para_keep lines_is told is = by new.ahead refl
     where
       acts : Acts p Para keep (at_work t d0.chip d0.para) (at_work t2 d.chip d.para)
       acts = rw k.para_keep at acts0
 
-      along : IsAlong r until s hears.last lines2 ask_h d0.host b
+      along : IsAlong r until s port_run_to_ask.last lines2 ask_h d0.host b
       along = para_along told (para_turns k.way first acts)
           (record {
             turn = turn;
@@ -345,18 +345,18 @@ module _ {S T : Type 0} {r : Run S T} {ahead : Bool} {from : Mark T} {s : S} {t 
             host_keep = ap (λ x. x.keep) host ∙ k.host_keep;
             list_is = ap (λ x. x.list.items) host;
             count_is = ap (λ x. x.count) host;
-          }) (talking_of hears.accesses hears.talks)
+          }) (talking_of port_run_to_ask.accesses port_run_to_ask.port_run)
 
-      rise : p.due t2 ≤ p.due hears.last
-      rise = talks_rise p IsPassed n lines2 until hears.accesses t2 hears.last d b lp hears.talks
+      rise : p.due t2 ≤ p.due port_run_to_ask.last
+      rise = port_run_rise p IsPassed n lines2 until port_run_to_ask.accesses t2 port_run_to_ask.last d b lp port_run_to_ask.port_run
 
       by : (x : Bool) → new.ahead ≡ x
           → IsOver r left new.ahead from2 s new.state ask_h new.ask lines2 e
       by true ea =
           let g = gone.goes ea in
-          let here : t3 ≡ hears.last = stood p n hears.last t3 asked hears.asked g.0 in
+          let here : t3 ≡ port_run_to_ask.last = stood p n port_run_to_ask.last t3 asked port_run_to_ask.asked g.0 in
           let read : HasRead p n gone.far keep t3 g.2.last (para_turn b b.para gone.far) e =
-          para_reads along.1.lines_is refl refl refl along.1.para_keep (talking_of g.2.accesses g.2.talks) in
+          para_reads along.1.lines_is refl refl refl along.1.para_keep (talking_of g.2.accesses g.2.port_run) in
           let there : IsAt r ask_h (part_of s d0.host) (part_of t3 b.para) b.chip = rw here along.0 in
           let going : IsGoing r new.ahead from2 ask_h new.ask (part_of s d0.host) (part_of new.state e.para) b.chip =
           goes_on new.ahead there read.way g.2.asked read.list_is read.count_is (λ _. (sym (is.0 ∙ g.1), sym is.1, sym is.2)) (λ no. cc) in
@@ -372,8 +372,8 @@ module _ {S T : Type 0} {r : Run S T} {ahead : Bool} {from : Mark T} {s : S} {t 
           }
       by false ea =
           let g = gone.stays ea in
-          let there : IsGoing r false from2 ask_h asked (part_of s d0.host) (part_of t3 b.para) b.chip = stands {b = part_of hears.last b.para} along.0 hears.asked in
-          let smaller = para_smaller k.way first acts false from2.state asked (λ no. cc) (λ _. (hears.last, t3, rise, hears.asked)) in
+          let there : IsGoing r false from2 ask_h asked (part_of s d0.host) (part_of t3 b.para) b.chip = stands {b = part_of port_run_to_ask.last b.para} along.0 port_run_to_ask.asked in
+          let smaller = para_smaller k.way first acts false from2.state asked (λ no. cc) (λ _. (port_run_to_ask.last, t3, rise, port_run_to_ask.asked)) in
           rw (ea, g.0, g.1, g.2) (record {
             kept = record {
               way = rw (along.1.list_is, along.1.count_is) there;

@@ -12,7 +12,7 @@ use Rattle.tube_chip.specs.Act.{Query, access, look}
 use Rattle.tube_trace.specs.declared.Entry.{Entry}
 use Rattle.tube_party.specs.declared.party.Ask.{Ask}
 use Rattle.tube_party.specs.declared.party.Ask.TheVariants.{Nothing, Access, Look}
-use Rattle.tube_party.specs.Transitions.{Transitions, IsLawful, Hears, IsAskedFor, FitsAnswer, shown_lines}
+use Rattle.tube_party.specs.Transitions.{Transitions, IsLawful, PortRunToAsk, IsAskedFor, FitsAnswer, shown_lines}
 use Rattle.tube_party.specs.Replay.{Numbered, Ended, own_from, finish_leaves, next_line, doing_of, differs, one_step, replay_from, replay_of, chip_before}
 use Rattle.tube_party.specs.CodeCursor.{Takes, Misses, Owned, IsTaken}
 use Rattle.tube_party.proofs.Runs.{Glances, Here, Past, Seeing, glances_rise, Talking, Last, Next, talking_of}
@@ -101,20 +101,20 @@ module _ {S : Type 0} {m : Transitions S} {side : Side} {trace : List Entry} {n 
       goes_seeing (rw (same (m.due s) (omega arith) before) at (goes_look goes lawful low is))
       (λ t a b. same t (omega (arith, lawful.rises s (Some (Seen lines)), a)) b) on
 
-  goes_talking : {last : S} {e : Owned} {s : S} {d : Owned} → Goes m side trace n whole s d.left → IsShown side trace lines safe_until (m.due s)
+  goes_port_run : {last : S} {e : Owned} {s : S} {d : Owned} → Goes m side trace n whole s d.left → IsShown side trace lines safe_until (m.due s)
       → Talking m IsTaken n (shown_lines lines safe_until) last e s d → Talked m side trace n whole s last d e
-  goes_talking goes same (Last looks) = record { goes = goes_seeing goes same looks; lines_same = refl; later = glances_rise lawful looks }
-  goes_talking goes same (Next {at = at} {on = on} {f = f} looks took talks) =
+  goes_port_run goes same (Last looks) = record { goes = goes_seeing goes same looks; lines_same = refl; later = glances_rise lawful looks }
+  goes_port_run goes same (Next {at = at} {on = on} {f = f} looks took port_run) =
       let up = glances_rise lawful looks in
       let answered = goes_access (goes_seeing goes same looks) lawful f.left took.op took.byte took.below took.asks took.answered.0 in
       let beyond : m.due at < m.due on = rw took.goes (lawful.rises at (Some (Byte took.byte))) in
-      let rest = goes_talking (rw (← took.goes) at answered) (λ t a b. same t (omega (arith, up, beyond, a)) b) talks in
+      let rest = goes_port_run (rw (← took.goes) at answered) (λ t a b. same t (omega (arith, up, beyond, a)) b) port_run in
       record { goes = rest.goes; lines_same = rest.lines_same ∙ took.answered.1; later = omega (arith, up, beyond, rest.later) }
 
   module _ {old new : S} {d e : Owned} {ask : Ask} (so_far : Goes m side trace n whole old d.left) (same : IsShown side trace lines safe_until (m.due old))
-      (heard : Hears m IsTaken n (shown_lines lines safe_until) old d ask new e) where
+      (heard : PortRunToAsk m IsTaken n (shown_lines lines safe_until) old d ask new e) where
     talked : Talked m side trace n whole old heard.last d e
-    talked = goes_talking so_far same (talking_of heard.accesses heard.talks)
+    talked = goes_port_run so_far same (talking_of heard.accesses heard.port_run)
 
     -- it asks for nothing below n
     pub ran_out : ask ≡ Nothing → (new ≡ whole.machine) × (next_line e.left ≡ whole.place)
@@ -141,7 +141,7 @@ module _ {S : Type 0} {m : Transitions S} {side : Side} {trace : List Entry} {n 
 
     pub stands_look : (t : Tick) → ask ≡ Look t → Stands m side trace n whole old new d e t.0 look × (safe_until ≤ t.0)
     stands_look t is =
-        (stands t.0 look (rw is at heard.asked), rw is at heard.unsure)
+        (stands t.0 look (rw is at heard.asked), rw is at heard.not_safe)
 
 -- an answer to what is asked
 asked_for : {S : Type 0} (m : Transitions S) (most : ℕ) (s : S) (q : Query) (a : Answer) → m.due s < most → m.asks s ≡ Some q → FitsAnswer q a → IsAskedFor m most s a

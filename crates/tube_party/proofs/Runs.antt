@@ -6,7 +6,7 @@ use Rattle.tube_chip.specs.declared.Answer.{Answer}
 use Rattle.tube_chip.specs.declared.Answer.TheVariants.{Seen}
 use Rattle.tube_chip.specs.declared.Op.{Op}
 use Rattle.beeb_bits.specs.declared.Side.{Side}
-use Rattle.tube_party.specs.Transitions.{Transitions, IsLawful, IsClosing, Runs, Looks, Shown, IsAnswered, Talks, Heads, close_leaves, execution}
+use Rattle.tube_party.specs.Transitions.{Transitions, IsLawful, IsClosing, Runs, Looks, Shown, IsAnswered, PortRun, Heads, close_leaves, execution}
 use Rattle.tube_party.specs.CodeClosing.{IsShut, FollowsOn}
 
 abbrev pub event : ℕ → Side → Query → Answer → Event
@@ -88,13 +88,13 @@ glances_rise {m = m} {last = last} lawful Here = let d = m.due last in omega ari
 glances_rise lawful (Past {s = s} low none on) = omega (arith, lawful.rises s None, glances_rise lawful on)
 glances_rise {v = v} lawful (Seeing {s = s} low is before on) = omega (arith, lawful.rises s (Some (Seen v.lines)), glances_rise lawful on)
 
--- accesses that the port answers, with such steps before and between them: as `Talks`
+-- accesses that the port answers, with such steps before and between them: as `PortRun`
 pub data Talking {S D : Type 0} (m : Transitions S) (answers : D → ℕ → Op → ℕ → D → Type 0) (n : ℕ) (v : Shown) (last : S) (e : D) : S → D → Type 0 where
   Last : {s : S} → Glances m n v last s → Talking m answers n v last e s e
   Next : {s at on : S} {d f : D} → Glances m n v at s → IsAnswered m answers n at d on f → Talking m answers n v last e on f → Talking m answers n v last e s d
 
 pub talking_of : {S D : Type 0} {m : Transitions S} {answers : D → ℕ → Op → ℕ → D → Type 0} {n : ℕ} {v : Shown} (j : ℕ) {last : S} {e : D} {s : S} {d : D}
-    → Talks m answers n v j s d last e → Talking m answers n v last e s d
+    → PortRun m answers n v j s d last e → Talking m answers n v last e s d
 talking_of {m = m} {n = n} {v = v} zero h = rw h.0 (Last (glances_of m n v h.1.0 h.1.1))
 talking_of {m = m} {n = n} {v = v} (suc j) h = Next (glances_of m n v h.3.0 h.3.1) h.4 (talking_of j h.5)
 

@@ -6,7 +6,7 @@ use Rattle.tube_party.specs.declared.log.Log.{Log}
 use Rattle.tube_party.specs.declared.log.LogMark.{LogMark}
 use Rattle.tube_party.specs.declared.party.Ask.{Ask}
 use Rattle.tube_party.specs.declared.party.Ask.TheVariants.{Nothing}
-use Rattle.tube_party.specs.Transitions.{Transitions, GoesHearing, shown_lines}
+use Rattle.tube_party.specs.Transitions.{Transitions, PortRunToAnyAsk, shown_lines}
 use Rattle.tube_party.specs.CodePassing.{ChipPortState, IsPassed}
 
 -- A party: `true` if it is ahead of what is safe, its next ask, its state at the start of its
@@ -28,7 +28,7 @@ para_turn d log safe_until = record { chip = d.chip; host = d.host; para = log; 
 -- back to that ask; or it stayed.
 pub record IsGone {S : Type 0} (m : Transitions S) (n : ℕ) (lines : Lines) (s : S) (d : ChipPortState) (ask : Ask) (new : Standing S) (e : ChipPortState) : Type 0 where
   pub far : ℕ
-  pub goes : new.ahead ≡ true → (ask ≢ Nothing) × (new.mark ≡ s) × GoesHearing m IsPassed n (shown_lines lines far) s (para_turn d d.para far) new.ask new.state e
+  pub goes : new.ahead ≡ true → (ask ≢ Nothing) × (new.mark ≡ s) × PortRunToAnyAsk m IsPassed n (shown_lines lines far) s (para_turn d d.para far) new.ask new.state e
   pub stays : new.ahead ≡ false → (new.ask ≡ ask) × (new.state ≡ s) × (e ≡ para_turn d d.para far)
 
 -- The party was rolled back to the start of its notes, its log was cut to a mark, and it ran again
@@ -38,4 +38,4 @@ pub record IsRolledBack {S : Type 0} (m : Transitions S) (n : ℕ) (lines : Line
   pub list_is : log.list.items ≡ take mark.len d.para.list.items
   pub count_is : log.count ≡ mark.count
   pub keep_is : log.keep ≡ d.para.keep
-  pub goes : GoesHearing m IsPassed n (shown_lines lines at) s (para_turn d log at) ask new e
+  pub goes : PortRunToAnyAsk m IsPassed n (shown_lines lines at) s (para_turn d log at) ask new e

@@ -9,7 +9,7 @@ use Rattle.tube_chip.specs.declared.Lines.{Lines}
 use Rattle.tube_chip.specs.declared.Op.{Op}
 use Rattle.tube_party.specs.declared.party.Ask.{Ask}
 use Rattle.tube_party.specs.declared.party.Ask.TheVariants.{Nothing, Access}
-use Rattle.tube_party.specs.Transitions.{Transitions, IsLawful, IsAsk, IsAnswered, Runs, Looks, Talks, Advances, Sees, Hears, GoesHearing, Shown, shown_lines, execution}
+use Rattle.tube_party.specs.Transitions.{Transitions, IsLawful, IsAsk, IsAnswered, Runs, Looks, PortRun, Advances, LookRunToAsk, PortRunToAsk, PortRunToAnyAsk, Shown, shown_lines, execution}
 use Rattle.tube_party.specs.Turn.{IsPending}
 
 -- ---- Steps among which looks see their lines
@@ -103,7 +103,7 @@ module _ {S : Type 0} (m : Transitions S) (n : ℕ) (lines : Lines) where
   none_seen (suc k) s last h = (h.0, runs_by_looks k s last (m.asks s) (λ u on. none_seen k u last on) h.1)
 
   -- to advance is to see no look
-  pub advances_of : (s new : S) (ask : Ask) → Sees m n (shown_lines lines 0) s ask new → Advances m n s ask new
+  pub advances_of : (s new : S) (ask : Ask) → LookRunToAsk m n (shown_lines lines 0) s ask new → Advances m n s ask new
   advances_of s new ask sees = record { steps = sees.steps; last = sees.last; runs = none_seen sees.steps s sees.last sees.looks; asked = sees.asked }
 
 -- ---- A speculative run, in strides
@@ -120,41 +120,41 @@ module _ {S : Type 0} (m : Transitions S) (n : ℕ) (lines : Lines) where
 
 -- the next step asks what was asked when the run stopped
 pub left_pending : {S D : Type 0} (m : Transitions S) (answers : D → ℕ → Op → ℕ → D → Type 0) (n : ℕ) (v : Shown) (s : S) (d : D) (ask : Ask) (new : S) (e : D)
-    → GoesHearing m answers n v s d ask new e → ask ≢ Nothing → IsPending m n new ask
+    → PortRunToAnyAsk m answers n v s d ask new e → ask ≢ Nothing → IsPending m n new ask
 left_pending m answers n v s d ask new e went h = grind arith
 
 -- ---- Steps with accesses that a port answers
 
 module _ {S D : Type 0} (m : Transitions S) (answers : D → ℕ → Op → ℕ → D → Type 0) (n : ℕ) (lines : Lines) (safe_until : ℕ) where
   -- other steps before them
-  talks_first : (j : ℕ) (s mid last : S) (d e : D) → (k : ℕ) × Looks m n (shown_lines lines safe_until) k s mid → Talks m answers n (shown_lines lines safe_until) j mid d last e
-      → Talks m answers n (shown_lines lines safe_until) j s d last e
-  talks_first zero s mid last d e so_far h = (h.0, looks_on m n lines safe_until so_far.0 h.1.0 s mid last so_far.1 h.1.1)
-  talks_first (suc j) s mid last d e so_far h = (h.0, h.1, h.2, looks_on m n lines safe_until so_far.0 h.3.0 s mid h.0 so_far.1 h.3.1, h.4, h.5)
+  port_run_first : (j : ℕ) (s mid last : S) (d e : D) → (k : ℕ) × Looks m n (shown_lines lines safe_until) k s mid → PortRun m answers n (shown_lines lines safe_until) j mid d last e
+      → PortRun m answers n (shown_lines lines safe_until) j s d last e
+  port_run_first zero s mid last d e so_far h = (h.0, looks_on m n lines safe_until so_far.0 h.1.0 s mid last so_far.1 h.1.1)
+  port_run_first (suc j) s mid last d e so_far h = (h.0, h.1, h.2, looks_on m n lines safe_until so_far.0 h.3.0 s mid h.0 so_far.1 h.3.1, h.4, h.5)
 
   -- some of them after others
-  pub talks_on : (i j : ℕ) (s mid last : S) (d f e : D) → Talks m answers n (shown_lines lines safe_until) i s d mid f → Talks m answers n (shown_lines lines safe_until) j mid f last e
-      → (k : ℕ) × Talks m answers n (shown_lines lines safe_until) k s d last e
-  talks_on zero j s mid last d f e h more = (j, talks_first j s mid last d e h.1 (subst (λ (x : D). Talks m answers n (shown_lines lines safe_until) j mid x last e) (sym h.0) more))
-  talks_on (suc i) j s mid last d f e h more =
-      let rest = talks_on i j h.1 mid last h.2 f e h.5 more in
+  pub port_run_on : (i j : ℕ) (s mid last : S) (d f e : D) → PortRun m answers n (shown_lines lines safe_until) i s d mid f → PortRun m answers n (shown_lines lines safe_until) j mid f last e
+      → (k : ℕ) × PortRun m answers n (shown_lines lines safe_until) k s d last e
+  port_run_on zero j s mid last d f e h more = (j, port_run_first j s mid last d e h.1 (subst (λ (x : D). PortRun m answers n (shown_lines lines safe_until) j mid x last e) (sym h.0) more))
+  port_run_on (suc i) j s mid last d f e h more =
+      let rest = port_run_on i j h.1 mid last h.2 f e h.5 more in
       (suc rest.0, (h.0, h.1, h.2, h.3, h.4, rest.1))
 
   -- the tick rises
-  pub talks_rise : (j : ℕ) (s last : S) (d e : D) → IsLawful m → Talks m answers n (shown_lines lines safe_until) j s d last e → m.due s ≤ m.due last
-  talks_rise zero s last d e lawful h = due_rises m n lines safe_until h.1.0 s last lawful h.1.1
-  talks_rise (suc j) s last d e lawful h =
+  pub port_run_rise : (j : ℕ) (s last : S) (d e : D) → IsLawful m → PortRun m answers n (shown_lines lines safe_until) j s d last e → m.due s ≤ m.due last
+  port_run_rise zero s last d e lawful h = due_rises m n lines safe_until h.1.0 s last lawful h.1.1
+  port_run_rise (suc j) s last d e lawful h =
       let up : m.due s ≤ m.due h.0 = due_rises m n lines safe_until h.3.0 s h.0 lawful h.3.1 in
       let past : m.due h.0 < m.due h.1 = subst (λ (x : S). m.due h.0 < m.due x) (sym h.4.goes) (lawful.rises h.0 (Some (Byte h.4.byte))) in
-      let rest : m.due h.1 ≤ m.due last = talks_rise j h.1 last h.2 e lawful h.5 in
+      let rest : m.due h.1 ≤ m.due last = port_run_rise j h.1 last h.2 e lawful h.5 in
       omega (arith, up, past, rest)
 
   -- and after them the looks up to an access that is answered, and that access
-  pub talks_past_access : (k : ℕ) (old s last at new : S) (d f e : D) (t : Tick) (op : Op) (byte : ℕ)
-      → (j : ℕ) × Talks m answers n (shown_lines lines safe_until) j old d s f → Looks m n (shown_lines lines safe_until) k s last
+  pub port_run_past_access : (k : ℕ) (old s last at new : S) (d f e : D) (t : Tick) (op : Op) (byte : ℕ)
+      → (j : ℕ) × PortRun m answers n (shown_lines lines safe_until) j old d s f → Looks m n (shown_lines lines safe_until) k s last
       → IsAsk m n last (Access t op) at → answers f t.0 op byte e → new ≡ m.next at (Some (Byte byte))
-      → (j : ℕ) × Talks m answers n (shown_lines lines safe_until) j old d new e
-  talks_past_access k old s last at new d f e t op byte so_far looks asked answer goes =
+      → (j : ℕ) × PortRun m answers n (shown_lines lines safe_until) j old d new e
+  port_run_past_access k old s last at new d f e t op byte so_far looks asked answer goes =
       let passed : IsAnswered m answers n last f new e = record {
         op = op;
         byte = byte;
@@ -163,18 +163,18 @@ module _ {S D : Type 0} (m : Transitions S) (answers : D → ℕ → Op → ℕ 
         answered = subst (λ (u : ℕ). answers f u op byte e) asked.0 answer;
         goes = subst (λ (x : S). new ≡ m.next x (Some (Byte byte))) asked.3 goes;
       } in
-      talks_on so_far.0 1 old s new d f e so_far.1 (last, new, e, (k, looks), passed, (refl, (0, refl)))
+      port_run_on so_far.0 1 old s new d f e so_far.1 (last, new, e, (k, looks), passed, (refl, (0, refl)))
 
   -- what such steps and a further run yield
-  pub hears_after : (s mid new : S) (d f e : D) (ask : Ask) → (j : ℕ) × Talks m answers n (shown_lines lines safe_until) j s d mid f → Hears m answers n (shown_lines lines safe_until) mid f ask new e
-      → Hears m answers n (shown_lines lines safe_until) s d ask new e
-  hears_after s mid new d f e ask so_far hears =
-      let all = talks_on so_far.0 hears.accesses s mid hears.last d f e so_far.1 hears.talks in
-      record { accesses = all.0; last = hears.last; talks = all.1; asked = hears.asked; unsure = hears.unsure }
+  pub port_run_to_ask_after : (s mid new : S) (d f e : D) (ask : Ask) → (j : ℕ) × PortRun m answers n (shown_lines lines safe_until) j s d mid f → PortRunToAsk m answers n (shown_lines lines safe_until) mid f ask new e
+      → PortRunToAsk m answers n (shown_lines lines safe_until) s d ask new e
+  port_run_to_ask_after s mid new d f e ask so_far port_run_to_ask =
+      let all = port_run_on so_far.0 port_run_to_ask.accesses s mid port_run_to_ask.last d f e so_far.1 port_run_to_ask.port_run in
+      record { accesses = all.0; last = port_run_to_ask.last; port_run = all.1; asked = port_run_to_ask.asked; not_safe = port_run_to_ask.not_safe }
 
-  pub hears_sees : (s new : S) (d : D) (ask : Ask) → Sees m n (shown_lines lines safe_until) s ask new → Hears m answers n (shown_lines lines safe_until) s d ask new d
-  hears_sees s new d ask sees = record { accesses = 0; last = sees.last; talks = (refl, (sees.steps, sees.looks)); asked = sees.asked; unsure = sees.unsure }
+  pub port_run_to_ask_sees : (s new : S) (d : D) (ask : Ask) → LookRunToAsk m n (shown_lines lines safe_until) s ask new → PortRunToAsk m answers n (shown_lines lines safe_until) s d ask new d
+  port_run_to_ask_sees s new d ask sees = record { accesses = 0; last = sees.last; port_run = (refl, (sees.steps, sees.looks)); asked = sees.asked; not_safe = sees.not_safe }
 
-  pub hears_shut : ((d : D) (t : ℕ) (op : Op) (byte : ℕ) (e : D) → answers d t op byte e → ⊥) → (s new : S) (d e : D) (ask : Ask) → Hears m answers n (shown_lines lines safe_until) s d ask new e
-      → Sees m n (shown_lines lines safe_until) s ask new
-  hears_shut h s new d e ask hears = grind arith
+  pub port_run_to_ask_shut : ((d : D) (t : ℕ) (op : Op) (byte : ℕ) (e : D) → answers d t op byte e → ⊥) → (s new : S) (d e : D) (ask : Ask) → PortRunToAsk m answers n (shown_lines lines safe_until) s d ask new e
+      → LookRunToAsk m n (shown_lines lines safe_until) s ask new
+  port_run_to_ask_shut h s new d e ask port_run_to_ask = grind arith

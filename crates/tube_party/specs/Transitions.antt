@@ -125,19 +125,19 @@ Looks m n v (suc k) s last =
     (λ q. (q ≡ look) × (m.due s < v.safe_until) × Looks m n v k (m.next s (Some (Seen v.lines))) last)
 
 -- the ask is no look below `safe_until`
-abbrev pub IsUnsure : ℕ → Ask → Type 0
-IsUnsure safe_until Nothing = Unit {0}
-IsUnsure safe_until (Access t op) = Unit {0}
-IsUnsure safe_until (Look t) = safe_until ≤ t.0
+abbrev pub IsNotSafe : ℕ → Ask → Type 0
+IsNotSafe safe_until Nothing = Unit {0}
+IsNotSafe safe_until (Access t op) = Unit {0}
+IsNotSafe safe_until (Look t) = safe_until ≤ t.0
 
 -- The steps below n that ask nothing were done, and the looks below `safe_until`, each of which saw
 -- the lines; and `ask` comes next.
-pub record Sees {S : Type 0} (m : Transitions S) (n : ℕ) (v : Shown) (old : S) (ask : Ask) (new : S) : Type 0 where
+pub record LookRunToAsk {S : Type 0} (m : Transitions S) (n : ℕ) (v : Shown) (old : S) (ask : Ask) (new : S) : Type 0 where
   pub steps : ℕ
   pub last : S
   pub looks : Looks m n v steps old last
   pub asked : IsAsk m n last ask new
-  pub unsure : IsUnsure v.safe_until ask
+  pub not_safe : IsNotSafe v.safe_until ask
 
 -- The step from s asks for an access below n, which the port answers; `new` is the state after it.
 -- The port goes from d to e.
@@ -157,24 +157,24 @@ IsAnsweredAgain {D} answers op byte period (suc k) d t e = (f : D) × (answers d
 
 -- From s to last, below n, the port answers j accesses; each other step asks nothing, or is a look
 -- below `safe_until` and sees the lines.
-abbrev pub Talks : {S D : Type 0} → Transitions S → (D → ℕ → Op → ℕ → D → Type 0) → ℕ → Shown → ℕ → S → D → S → D → Type 0
-Talks m answers n v zero s d last e = (d ≡ e) × ((k : ℕ) × Looks m n v k s last)
-Talks {S} {D} m answers n v (suc j) s d last e =
-    (at : S) × (on : S) × (f : D) × ((k : ℕ) × Looks m n v k s at) × IsAnswered m answers n at d on f × Talks m answers n v j on f last e
+abbrev pub PortRun : {S D : Type 0} → Transitions S → (D → ℕ → Op → ℕ → D → Type 0) → ℕ → Shown → ℕ → S → D → S → D → Type 0
+PortRun m answers n v zero s d last e = (d ≡ e) × ((k : ℕ) × Looks m n v k s last)
+PortRun {S} {D} m answers n v (suc j) s d last e =
+    (at : S) × (on : S) × (f : D) × ((k : ℕ) × Looks m n v k s at) × IsAnswered m answers n at d on f × PortRun m answers n v j on f last e
 
--- Steps of `Talks` were done, and `ask` comes next: no look below `safe_until`.
-pub record Hears {S D : Type 0} (m : Transitions S) (answers : D → ℕ → Op → ℕ → D → Type 0) (n : ℕ) (v : Shown) (old : S) (before : D) (ask : Ask) (new : S) (after : D) : Type 0 where
+-- Steps of `PortRun` were done, and `ask` comes next: no look below `safe_until`.
+pub record PortRunToAsk {S D : Type 0} (m : Transitions S) (answers : D → ℕ → Op → ℕ → D → Type 0) (n : ℕ) (v : Shown) (old : S) (before : D) (ask : Ask) (new : S) (after : D) : Type 0 where
   pub accesses : ℕ
   pub last : S
-  pub talks : Talks m answers n v accesses old before last after
+  pub port_run : PortRun m answers n v accesses old before last after
   pub asked : IsAsk m n last ask new
-  pub unsure : IsUnsure v.safe_until ask
+  pub not_safe : IsNotSafe v.safe_until ask
 
--- Steps of `Talks` were done, and `ask` comes next: any look is allowed.
-pub record GoesHearing {S D : Type 0} (m : Transitions S) (answers : D → ℕ → Op → ℕ → D → Type 0) (n : ℕ) (v : Shown) (old : S) (before : D) (ask : Ask) (new : S) (after : D) : Type 0 where
+-- Steps of `PortRun` were done, and `ask` comes next: any look is allowed.
+pub record PortRunToAnyAsk {S D : Type 0} (m : Transitions S) (answers : D → ℕ → Op → ℕ → D → Type 0) (n : ℕ) (v : Shown) (old : S) (before : D) (ask : Ask) (new : S) (after : D) : Type 0 where
   pub accesses : ℕ
   pub last : S
-  pub talks : Talks m answers n v accesses old before last after
+  pub port_run : PortRun m answers n v accesses old before last after
   pub asked : IsAsk m n last ask new
 
 -- a byte for an access, lines for a look

@@ -1,7 +1,7 @@
 //! A machine at the Tube, as a trait.
 ghost use Rattle.std.specs.Prelude.{◌≡◌, ◌≤◌, ℕ, Bool, true, Some};
 ghost use Rattle.beeb_bits.specs.declared.Side.{Side};
-ghost use Rattle.tube_party.specs.Transitions.{Transitions, IsLawful, IsPermitted, SeesHirqAlone, Advances, Sees, Hears, IsAskedFor, shown_lines};
+ghost use Rattle.tube_party.specs.Transitions.{Transitions, IsLawful, IsPermitted, SeesHirqAlone, Advances, LookRunToAsk, PortRunToAsk, IsAskedFor, shown_lines};
 ghost use Rattle.tube_party.specs.Quiet.{IsQuiet};
 
 use crate::port::TubePort;
@@ -77,7 +77,7 @@ pub trait Party: Drop {
     /// machine may do it without stopping at each look.
     fn advance_seeing(&mut self, until: Tick, lines: &Lines, safe_until: Tick) -> Ask
         requires { until.0 ≤ MOST }
-        ensures { Sees transitions until.0 (shown_lines lines.now safe_until.0) (state self.old) result (state self.new) }
+        ensures { LookRunToAsk transitions until.0 (shown_lines lines.now safe_until.0) (state self.old) result (state self.new) }
     {
         loop {
             match self.advance(until) {
@@ -98,7 +98,7 @@ pub trait Party: Drop {
     /// the port would answer.
     fn advance_at<D: TubePort>(&mut self, until: Tick, lines: &Lines, safe_until: Tick, port: &mut D) -> Ask
         requires { until.0 ≤ MOST }
-        ensures { Hears transitions D.answers until.0 (shown_lines lines.now safe_until.0) (state self.old) (D.state port.old) result (state self.new) (D.state port.new) }
+        ensures { PortRunToAsk transitions D.answers until.0 (shown_lines lines.now safe_until.0) (state self.old) (D.state port.old) result (state self.new) (D.state port.new) }
     {
         loop {
             let ask = self.advance_seeing(until, lines, safe_until);

@@ -1,6 +1,6 @@
 //! A party that can be rolled back.
 ghost use Rattle.std.specs.Prelude.{◌≡◌, ◌≤◌, MatchOption};
-ghost use Rattle.tube_party.specs.Transitions.{GoesHearing, shown_lines};
+ghost use Rattle.tube_party.specs.Transitions.{PortRunToAnyAsk, shown_lines};
 ghost use Rattle.tube_party.specs.Turn.{IsPending};
 
 use crate::port::TubePort;
@@ -42,7 +42,7 @@ pub trait Rewinds: Party {
             let new = Self.state self.new in
             let mark = Self.state (before past.new self.new) in
             MatchOption result ((new ≡ old) × (D.state port.new ≡ D.state port.old))
-            (λ ask. GoesHearing Self.transitions D.answers until.0 (shown_lines lines.now safe_until.0) old (D.state port.old) ask new (D.state port.new)
+            (λ ask. PortRunToAnyAsk Self.transitions D.answers until.0 (shown_lines lines.now safe_until.0) old (D.state port.old) ask new (D.state port.new)
             × (mark ≡ old)) };
 
     /// Continues a noted run from `ask`, at which it stopped, and notes the further steps too. A
@@ -58,7 +58,7 @@ pub trait Rewinds: Party {
     ) -> Ask
         requires ticks { until.0 ≤ MOST }
         requires pending { IsPending Self.transitions until.0 (Self.state self.old) ask }
-        ensures goes { GoesHearing Self.transitions D.answers until.0 (shown_lines lines.now safe_until.0)
+        ensures goes { PortRunToAnyAsk Self.transitions D.answers until.0 (shown_lines lines.now safe_until.0)
             (Self.state self.old) (D.state port.old) result (Self.state self.new) (D.state port.new) }
         ensures mark { Self.state (before past.new self.new) ≡ Self.state (before past.old self.old) }
     {

@@ -88,11 +88,11 @@ module _ {w : Speculation} (law : IsSpeculation w) (base : List Event) where
   pub speculating_more : {p q : PassState} (t : ℕ) → IsSpeculating w base p → p.known.spec_horizon ≤ t → q ≡ after_speculate p (from_on p.known.spec_horizon (made t)) t → IsSpeculating w base q
   speculating_more {p} t is le q_is =
       subst (λ x. IsSpeculating w base x) (sym q_is) (record {
-        firm = is.firm;
+        confirmed = is.confirmed;
         events = is.events;
         speculative =
-            ap (λ l. l ++ from_on p.known.spec_horizon (made t)) (is.speculative ∙ ap (from_on is.firm) (sym (part p.known.spec_horizon t le)))
-            ∙ join_rest is.firm p.known.spec_horizon (made t) is.order;
+            ap (λ l. l ++ from_on p.known.spec_horizon (made t)) (is.speculative ∙ ap (from_on is.confirmed) (sym (part p.known.spec_horizon t le)))
+            ∙ join_rest is.confirmed p.known.spec_horizon (made t) is.order;
         passed = is.passed;
         order = omega arith;
       })
@@ -112,7 +112,7 @@ module _ {w : Speculation} (law : IsSpeculation w) (base : List Event) where
       settled t t_is le none events =
           let same : q.events ≡ base ++ made q.known.spec_horizon = events ∙ ap (λ x. base ++ made x) t_is in (
             record {
-              firm = q.known.spec_horizon;
+              confirmed = q.known.spec_horizon;
               events = same;
               speculative = none ∙ sym (ap (from_on q.known.spec_horizon) (sym (part q.known.spec_horizon q.known.spec_horizon (omega arith))) ∙ none_left q.known.spec_horizon (made q.known.spec_horizon));
               passed = omega arith;
@@ -127,9 +127,9 @@ module _ {w : Speculation} (law : IsSpeculation w) (base : List Event) where
           let h = is.passed in
           let up = host_up in (
             record {
-              firm = is.firm;
+              confirmed = is.confirmed;
               events = k.0 ∙ is.events;
-              speculative = k.1 ∙ is.speculative ∙ ap (λ t. from_on is.firm (made t)) (sym same);
+              speculative = k.1 ∙ is.speculative ∙ ap (λ t. from_on is.confirmed (made t)) (sym same);
               passed = omega arith;
               order = omega arith;
             },
@@ -137,18 +137,18 @@ module _ {w : Speculation} (law : IsSpeculation w) (base : List Event) where
           )
       go (inl same) (inr le) =
           let k = learns.settled same le in
-          let all : made is.firm ++ from_on is.firm (made p.known.spec_horizon) ≡ made p.known.spec_horizon =
-          ap (λ l. l ++ from_on is.firm (made p.known.spec_horizon)) (sym (part is.firm p.known.spec_horizon is.order)) ∙ below_and_rest is.firm (made p.known.spec_horizon) in
+          let all : made is.confirmed ++ from_on is.confirmed (made p.known.spec_horizon) ≡ made p.known.spec_horizon =
+          ap (λ l. l ++ from_on is.confirmed (made p.known.spec_horizon)) (sym (part is.confirmed p.known.spec_horizon is.order)) ∙ below_and_rest is.confirmed (made p.known.spec_horizon) in
           settled p.known.spec_horizon (sym same) (omega arith) k.1
-          (k.0 ∙ (λ i. is.events i ++ is.speculative i) ∙ append_assoc base (made is.firm) (from_on is.firm (made p.known.spec_horizon)) ∙ ap (λ l. base ++ l) all)
+          (k.0 ∙ (λ i. is.events i ++ is.speculative i) ∙ append_assoc base (made is.confirmed) (from_on is.confirmed (made p.known.spec_horizon)) ∙ ap (λ l. base ++ l) all)
       go (inr taken) side_of =
           let k = learns.taken taken.1 in
           let t = q.known.spec_horizon in
-          let all : made is.firm ++ below t (from_on is.firm (made p.known.spec_horizon)) ≡ made t =
-          ap (λ l. l ++ below t (from_on is.firm (made p.known.spec_horizon))) (sym (part is.firm p.known.spec_horizon is.order)) ∙ join_parts is.firm t (made p.known.spec_horizon) (omega arith)
+          let all : made is.confirmed ++ below t (from_on is.confirmed (made p.known.spec_horizon)) ≡ made t =
+          ap (λ l. l ++ below t (from_on is.confirmed (made p.known.spec_horizon))) (sym (part is.confirmed p.known.spec_horizon is.order)) ∙ join_parts is.confirmed t (made p.known.spec_horizon) (omega arith)
           ∙ part t p.known.spec_horizon (omega arith) in
           settled t refl (omega arith) k.1
-          (k.0 ∙ (λ i. is.events i ++ below t (is.speculative i)) ∙ append_assoc base (made is.firm) (below t (from_on is.firm (made p.known.spec_horizon))) ∙ ap (λ l. base ++ l) all)
+          (k.0 ∙ (λ i. is.events i ++ below t (is.speculative i)) ∙ append_assoc base (made is.confirmed) (below t (from_on is.confirmed (made p.known.spec_horizon))) ∙ ap (λ l. base ++ l) all)
 
 -- ---- the state of the parasite
 
@@ -172,7 +172,7 @@ module _ {w : Speculation} (law : IsSpeculation w) (t : ℕ) (p : PassState) whe
         para = omega arith;
         base = omega arith;
         speculating = record {
-          firm = 0;
+          confirmed = 0;
           events = ap (λ x. x.events) is ∙ sym (append-nil (all_events p)) ∙ ap (λ l. all_events p ++ l) (sym law.none);
           speculative = ap (λ x. x.speculative) is ∙ ap (λ l. l ++ w.until t) none ∙ sym (all_left (w.until t)) ∙ ap (λ x. from_on 0 (w.until x)) (sym spec_horizon);
           passed = omega arith;
@@ -188,9 +188,9 @@ module _ {w : Speculation} (law : IsSpeculation w) (t : ℕ) (p : PassState) whe
   told_low {q} side told =
       let is = told.speculating in
       let own_is = own_of q side in
-      let events : q.events ++ q.ahead ≡ all_events p ++ w.until is.firm = (λ i. is.events i ++ told.ahead i) ∙ append-nil (all_events p ++ w.until is.firm) in
-      let same : past_last (q.events ++ q.ahead) ≡ past_last (all_events p ++ w.until is.firm) = ap past_last events in
-      let most = past_append is.firm (all_events p) (w.until is.firm) (law.low is.firm) in
+      let events : q.events ++ q.ahead ≡ all_events p ++ w.until is.confirmed = (λ i. is.events i ++ told.ahead i) ∙ append-nil (all_events p ++ w.until is.confirmed) in
+      let same : past_last (q.events ++ q.ahead) ≡ past_last (all_events p ++ w.until is.confirmed) = ap past_last events in
+      let most = past_append is.confirmed (all_events p) (w.until is.confirmed) (law.low is.confirmed) in
       omega arith
 
   -- the strides since then were published too

@@ -10,14 +10,14 @@ use Rattle.tube_side.specs.CodeSpeculation.{Speculation}
 abbrev pub from_on : ℕ → List Event → List Event
 from_on t events = drop (length (below t events)) events
 
--- The pass's list was `base` at the start. What the speculation observes below `firm` is confirmed,
+-- The pass's list was `base` at the start. What the speculation observes below `confirmed` is confirmed,
 -- and what it observes from there to the speculative horizon is speculative.
 pub record IsSpeculating (w : Speculation) (base : List Event) (p : PassState) : Type 0 where
-  pub firm : ℕ
-  pub events : p.events ≡ base ++ w.until firm
-  pub speculative : p.speculative ≡ from_on firm (w.until p.known.spec_horizon)
-  pub passed : firm ≤ p.known.host
-  pub order : firm ≤ p.known.spec_horizon
+  pub confirmed : ℕ
+  pub events : p.events ≡ base ++ w.until confirmed
+  pub speculative : p.speculative ≡ from_on confirmed (w.until p.known.spec_horizon)
+  pub passed : confirmed ≤ p.known.host
+  pub order : confirmed ≤ p.known.spec_horizon
 
 -- The pass was p at the start of the speculation, and the party has reached tick t. The pass has
 -- nothing unpublished, and its list has all observations below the speculative horizon.

@@ -12,7 +12,7 @@ use tube_cell::{Pass, TubeCell};
 /// Waits until the other side admits a step at tick `t`. If it does not yet, first publishes all
 /// events with `t` as horizon, unless they are published and the speculative horizon is at `t` or
 /// later.
-pub fn come<R: Wait>(
+pub fn wait_until_admitted<R: Wait>(
     rt: &R,
     cell: &TubeCell,
     pass: &mut Pass,

@@ -63,7 +63,7 @@ fn publish_on<W: GhostSpeculation, R: Wait>(
 /// Publishes the first stride past the mark, up to tick `t`, while the chip shows what was observed
 /// in the stride. Returns `false`, with nothing published, if the chip no longer shows it, or if
 /// the machine got no further than the mark and so must wait for the host.
-pub fn tell_first<W: GhostSpeculation, R: Wait>(
+pub fn speculate_first<W: GhostSpeculation, R: Wait>(
     rt: &R,
     cell: &TubeCell,
     pass: &mut Pass,
@@ -137,7 +137,7 @@ fn speculate_on<W: GhostSpeculation, R: Wait>(rt: &R, cell: &TubeCell, pass: &mu
 
 /// Publishes the strides that are not published yet, up to tick `t`, while the chip shows what was
 /// observed in the strides. Returns `false` if the chip no longer shows it.
-pub fn tell_more<W: GhostSpeculation, R: Wait>(
+pub fn speculate_more<W: GhostSpeculation, R: Wait>(
     rt: &R,
     cell: &TubeCell,
     pass: &mut Pass,
@@ -168,7 +168,7 @@ pub fn tell_more<W: GhostSpeculation, R: Wait>(
 
 /// Waits until the host has reached the speculative horizon. What lies below that horizon is then
 /// confirmed.
-pub fn wait_passed<W: GhostSpeculation, R: Wait>(
+pub fn wait_for_host<W: GhostSpeculation, R: Wait>(
     rt: &R,
     cell: &TubeCell,
     pass: &mut Pass,

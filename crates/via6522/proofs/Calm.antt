@@ -3,7 +3,7 @@ use Rattle.std.proofs.Common.{◌≡◌, ◌∙◌, ap, sym, refl, ℕ, zero, su
 use Rattle.std.proofs.lemmas.Bool.{cases_lt}
 use Rattle.beeb_bits.specs.Bits.{bit}
 use Rattle.via6522.specs.declared.Pins.{Pins}
-use Rattle.via6522.specs.State.{State, Timer1, Timer2, Levels}
+use Rattle.via6522.specs.State.{State, Timer1, Timer2, ControlLines}
 use Rattle.via6522.specs.Timers.{word}
 use Rattle.via6522.specs.Lines.{levels_of}
 use Rattle.via6522.specs.Registers.{asks}
@@ -54,7 +54,7 @@ pub timers_are_calm : (p : Pins) (n : ℕ) (c : State) → levels_of p ≡ c.lev
 timers_are_calm p n c same one two m within =
     elim (cases_lt 0 m) [
       | inl some ↦
-          ap asks (all_at_once p m c some ∙ edges_by_levels p (timers_later m c) ∙ ap (λ (l : Levels). edges_to l (timers_later m c)) same ∙ no_edges (timers_later m c))
+          ap asks (all_at_once p m c some ∙ edges_by_levels p (timers_later m c) ∙ ap (λ (l : ControlLines). edges_to l (timers_later m c)) same ∙ no_edges (timers_later m c))
           ∙ timers_alike m c (one m within) (two m within)
       | inr none ↦ let is : m ≡ 0 = omega arith in ap (λ (k : ℕ). asks (steps p k c)) is ∙ ap asks (no_steps p c)
     ]

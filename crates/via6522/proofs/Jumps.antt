@@ -4,7 +4,7 @@ use Rattle.std.proofs.Common.{◌≡◌, ◌∙◌, ap, sym, refl, ℕ, zero, su
 use Rattle.std.proofs.Math.Bool.{or_assoc, or-false}
 use Rattle.beeb_bits.specs.Bits.{bit}
 use Rattle.via6522.specs.declared.Pins.{Pins}
-use Rattle.via6522.specs.State.{State, Levels}
+use Rattle.via6522.specs.State.{State, ControlLines}
 use Rattle.via6522.specs.Lines.{levels_of}
 use Rattle.via6522.specs.Step.{step, steps, timers_stepped, edges_seen}
 use Rattle.via6522.specs.Timers.{timer1_flags, timer2_flags}
@@ -45,7 +45,7 @@ all_at_once p n c some = let one : n ≡ suc (n - 1) = omega arith in rw one (on
 pub steps_by_levels : (p q : Pins) (n : ℕ) (c : State) → levels_of p ≡ levels_of q → steps p n c ≡ steps q n c
 steps_by_levels p q zero c same = no_steps p c ∙ sym (no_steps q c)
 steps_by_levels p q (suc n) c same =
-    one_by_one p n c ∙ edges_by_levels p (timers_later (suc n) c) ∙ ap (λ (l : Levels). edges_to l (timers_later (suc n) c)) same
+    one_by_one p n c ∙ edges_by_levels p (timers_later (suc n) c) ∙ ap (λ (l : ControlLines). edges_to l (timers_later (suc n) c)) same
     ∙ sym (edges_by_levels q (timers_later (suc n) c)) ∙ sym (one_by_one q n c)
 
 -- with the levels of these pins

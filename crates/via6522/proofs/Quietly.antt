@@ -3,7 +3,7 @@ use Rattle.std.proofs.Common.{◌≡◌, ◌∙◌, ap, refl, ℕ, ◌+◌, ◌-
 use Rattle.std.proofs.lemmas.Bool.Decides.{nat_tests}
 use Rattle.beeb_bits.specs.Bits.{bit}
 use Rattle.via6522.specs.declared.Pins.{Pins}
-use Rattle.via6522.specs.State.{State, Timer1, Timer2, Levels}
+use Rattle.via6522.specs.State.{State, Timer1, Timer2, ControlLines}
 use Rattle.via6522.specs.Timers.{timer1_after, timer1_flags, timer2_after, timer2_flags}
 use Rattle.via6522.specs.Lines.{is_edge, levels_of}
 use Rattle.via6522.specs.Step.{step, timers_stepped, edges_seen}
@@ -20,7 +20,7 @@ stays_off : (flag sets : Bool) → sets ≡ false → (flag || sets) ≡ flag
 stays_off flag sets h = grind arith
 
 -- the edges of lines that change to these levels
-pub edges_to : Levels → State → State
+pub edges_to : ControlLines → State → State
 edges_to l c = record c {
   flags = record c.flags {
     ca1 = c.flags.ca1 || is_edge (bit c.pcr 0) c.levels.ca1 l.ca1;

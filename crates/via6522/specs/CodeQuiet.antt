@@ -3,10 +3,10 @@
 use Rattle.std.specs.Prelude.{ℕ, ◌+◌, ◌≡◌, ◌<◌, ◌≤◌, Bool, false, if◌then◌else◌}
 use Rattle.beeb_bits.specs.Bits.{bit}
 use Rattle.via6522.specs.declared.Pins.{Pins}
-use Rattle.via6522.specs.State.{State, Timer1, Timer2, Levels}
+use Rattle.via6522.specs.State.{State, Timer1, Timer2, ControlLines}
 
 -- the levels of the four lines in one number, CA1's in bit 0
-abbrev pub levels_in : ℕ → Levels
+abbrev pub levels_in : ℕ → ControlLines
 levels_in lines = record { ca1 = bit lines 0; ca2 = bit lines 1; cb1 = bit lines 2; cb2 = bit lines 3 }
 
 -- pins with the levels in `lines`

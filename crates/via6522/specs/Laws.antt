@@ -3,12 +3,12 @@
 use Rattle.std.specs.Prelude.{ℕ, ◌+◌, ◌%◌, ◌==◌, ◌≡◌, ◌<◌, Bool, true, false, List, length}
 use Rattle.beeb_bits.specs.Bits.{bit}
 use Rattle.via6522.specs.declared.Pins.{Pins}
-use Rattle.via6522.specs.State.{State, Causes}
+use Rattle.via6522.specs.State.{State, InterruptFlags}
 use Rattle.via6522.specs.Timers.{word}
 use Rattle.via6522.specs.Registers.{write_leaves}
 use Rattle.via6522.specs.Step.{step, after_steps}
 
-abbrev pub with_flags : Causes → State → State
+abbrev pub with_flags : InterruptFlags → State → State
 with_flags flags c = record c { flags = flags }
 
 -- A step with the pins p sets timer 1's flag: the flag is set after the step if it is clear before.

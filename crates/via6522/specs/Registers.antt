@@ -3,7 +3,7 @@
 use Rattle.std.specs.Prelude.{ℕ, ◌+◌, ◌-◌, ◌/◌, ◌%◌, ◌==◌, ◌&&◌, ◌||◌, Bool, false, not, bit_and, bit_or, if◌then◌else◌}
 use Rattle.beeb_bits.specs.Bits.{bit, weight}
 use Rattle.via6522.specs.declared.Pins.{Pins}
-use Rattle.via6522.specs.State.{State, Causes, Timer1, Timer2}
+use Rattle.via6522.specs.State.{State, InterruptFlags, Timer1, Timer2}
 use Rattle.via6522.specs.Timers.{timer1_started, timer2_started}
 use Rattle.via6522.specs.Lines.{is_ca2_independent, is_cb2_independent}
 
@@ -20,7 +20,7 @@ abbrev pub out_b : State → ℕ
 out_b c = port c.ddrb c.orb 255
 
 -- the causes as bits 6 to 0
-abbrev pub causes_byte : Causes → ℕ
+abbrev pub causes_byte : InterruptFlags → ℕ
 causes_byte s =
     weight 64 s.timer1 + weight 32 s.timer2 + weight 16 s.cb1 + weight 8 s.cb2 + weight 4 s.shift + weight 2 s.ca1 + weight 1 s.ca2
 
@@ -80,7 +80,7 @@ read_leaves reg c =
     else c
 
 -- the causes s, with each one set or cleared that v marks
-abbrev pub set_marked : ℕ → Causes → Causes
+abbrev pub set_marked : ℕ → InterruptFlags → InterruptFlags
 set_marked v s = record {
   timer1 = s.timer1 || bit v 6;
   timer2 = s.timer2 || bit v 5;
@@ -91,7 +91,7 @@ set_marked v s = record {
   ca2 = s.ca2 || bit v 0;
 }
 
-abbrev pub clear_marked : ℕ → Causes → Causes
+abbrev pub clear_marked : ℕ → InterruptFlags → InterruptFlags
 clear_marked v s = record {
   timer1 = s.timer1 && not (bit v 6);
   timer2 = s.timer2 && not (bit v 5);

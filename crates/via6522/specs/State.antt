@@ -3,7 +3,7 @@
 use Rattle.std.specs.Prelude.{ℕ, Bool, false, true}
 
 -- A bit for each cause of an interrupt, as IFR and IER have them in bits 6 to 0.
-pub record Causes : Type 0 where
+pub record InterruptFlags : Type 0 where
   pub timer1 : Bool
   pub timer2 : Bool
   pub cb1 : Bool
@@ -32,7 +32,7 @@ pub record Timer2 : Type 0 where
   pub armed : Bool
 
 -- The levels of the four control lines.
-pub record Levels : Type 0 where
+pub record ControlLines : Type 0 where
   pub ca1 : Bool
   pub ca2 : Bool
   pub cb1 : Bool
@@ -51,12 +51,12 @@ pub record State : Type 0 where
   pub acr : ℕ
   pub pcr : ℕ
   -- IFR and IER
-  pub flags : Causes
-  pub enabled : Causes
+  pub flags : InterruptFlags
+  pub enabled : InterruptFlags
   -- the levels of the last step
-  pub levels : Levels
+  pub levels : ControlLines
 
-abbrev pub no_cause : Causes
+abbrev pub no_cause : InterruptFlags
 no_cause = record { timer1 = false; timer2 = false; cb1 = false; cb2 = false; shift = false; ca1 = false; ca2 = false }
 
 -- At power-on all is 0, except the earlier levels of CB1 and CB2. (Those levels are this project's

@@ -9,8 +9,8 @@ ghost use Rattle.via6522.specs.Step.{edges_seen, step};
 ghost use Rattle.via6522.specs.Jumps.{timers_later, Timer1IsCalm, Timer2IsCalm};
 
 use crate::Pins;
-use crate::causes::Causes;
-use crate::levels::{Levels, is_edge};
+use crate::interrupt_flags::InterruptFlags;
+use crate::levels::{ControlLines, is_edge};
 use crate::timer1::Timer1;
 use crate::timer2::Timer2;
 use beeb_bits::{bit, weight};
@@ -30,9 +30,9 @@ pub(crate) struct Chip {
     pub(crate) acr: u8,
     pcr: u8,
     // IFR, the interrupt flag register, and IER, the interrupt enable register.
-    flags: Causes,
-    enabled: Causes,
-    levels: Levels,
+    flags: InterruptFlags,
+    enabled: InterruptFlags,
+    levels: ControlLines,
 }
 
 impl Model for Chip {
@@ -90,9 +90,9 @@ impl Chip {
             sr: 0,
             acr: 0,
             pcr: 0,
-            flags: Causes::none(),
-            enabled: Causes::none(),
-            levels: Levels { lines: 0b1100 },
+            flags: InterruptFlags::none(),
+            enabled: InterruptFlags::none(),
+            levels: ControlLines { lines: 0b1100 },
         }
     }
 

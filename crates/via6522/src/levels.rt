@@ -9,16 +9,16 @@ use std::marker::Model;
 
 /// The levels that the four lines had in a step.
 #[derive(Drop)]
-pub(crate) struct Levels {
+pub(crate) struct ControlLines {
     // CA1, CA2, CB1 and CB2 from bit 0 up, so that all are compared at once.
     pub(crate) lines: u8,
 }
 
-impl Model for Levels {
-    ghost use Rattle.via6522.specs.State.{Levels};
+impl Model for ControlLines {
+    ghost use Rattle.via6522.specs.State.{ControlLines};
     ghost use Rattle.via6522.specs.CodeQuiet.{levels_in};
 
-    ghost Value = { Levels };
+    ghost Value = { ControlLines };
 
     ghost view = { λ s. levels_in s.lines };
 }

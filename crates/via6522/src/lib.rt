@@ -1,7 +1,7 @@
 //! The 6522, or Versatile Interface Adapter, one microsecond at a time (6522 data sheet).
 #![tactic(auto)]
 
-mod causes;
+mod interrupt_flags;
 mod chip;
 mod law;
 mod levels;

@@ -3,7 +3,7 @@ ghost use Rattle.raster.specs.Beam.{IsScreenSize};
 
 use raster::{Frame, Raster, reads_go_on, stores_below_are_unseen};
 use rom_set::RomSet;
-use saa5050::Letters;
+use saa5050::GlyphTable;
 use std::alloc::Global;
 use std::process::Abort;
 use std::test::Fail;
@@ -58,13 +58,13 @@ fn screen_size(kilobytes: u8) -> u16
 struct Scene {
     raster: Raster,
     ram: Vec<u8>,
-    letters: Letters,
+    glyphs: GlyphTable,
 }
 
-fn letters(alloc: Global) -> Result<Letters, Fail> {
+fn glyphs(alloc: Global) -> Result<GlyphTable, Fail> {
     let os = vec![in alloc; 0; 16_384]?;
     let roms = RomSet::read(os, Vec::new(alloc), None)?;
-    Ok(Letters::make(alloc, roms)?)
+    Ok(GlyphTable::make(alloc, roms)?)
 }
 
 fn program(raster: &mut Raster, registers: &[u8; 16], control: u8) {
@@ -78,14 +78,14 @@ fn program(raster: &mut Raster, registers: &[u8; 16], control: u8) {
 impl Scene {
     /// Makes a raster with these registers of the 6845 and this control byte, over a RAM of zeros.
     fn make(alloc: Global, registers: &[u8; 16], control: u8) -> Result<Scene, Fail> {
-        let letters = letters(alloc)?;
+        let glyphs = glyphs(alloc)?;
         let ram = vec![in alloc; 0; 32_768]?;
         let mut raster = Raster::make(alloc)?;
         program(&mut raster, registers, control);
         Ok(Scene {
             raster,
             ram,
-            letters,
+            glyphs,
         })
     }
 
@@ -114,14 +114,14 @@ impl Scene {
     fn advance(&mut self, kilobytes: u8, n: u64) {
         if self.ram.len() == 32_768 {
             self.raster
-                .advance(&self.ram, screen_size(kilobytes), &self.letters, n);
+                .advance(&self.ram, screen_size(kilobytes), &self.glyphs, n);
         }
     }
 
     fn char_clock(&mut self, kilobytes: u8) {
         if self.ram.len() == 32_768 {
             self.raster
-                .char_clock(&self.ram, screen_size(kilobytes), &self.letters);
+                .char_clock(&self.ram, screen_size(kilobytes), &self.glyphs);
         }
     }
 
@@ -533,7 +533,7 @@ fn a_raster_at_rest_does_many_microseconds_at_once(rt: HostRuntime) -> Result<()
     let mut scene = Scene {
         raster: Raster::make(rt.alloc())?,
         ram: vec![in rt.alloc(); 0; 32_768]?,
-        letters: letters(rt.alloc())?,
+        glyphs: glyphs(rt.alloc())?,
     };
     scene.poke(0x5800, &[0xa5]);
     scene.advance(16, 2_000);

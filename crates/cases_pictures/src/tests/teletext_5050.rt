@@ -1,6 +1,6 @@
 //! Rows of codes, and the colours of their cells.
 use rom_set::RomSet;
-use saa5050::{Letters, RowState, row_is_fold};
+use saa5050::{GlyphTable, RowState, row_is_fold};
 use std::alloc::Global;
 use std::test::Fail;
 use std::vec::Vec;
@@ -32,18 +32,18 @@ fn put_shape(bytes: &mut Vec<u8>, line: &str) {
     }
 }
 
-fn font(alloc: Global) -> Result<Letters, Fail> {
+fn font(alloc: Global) -> Result<GlyphTable, Fail> {
     let mut bytes = vec![in alloc; 0; 960]?;
     for line in SHAPES.lines() {
         put_shape(&mut bytes, line);
     }
-    letters(alloc, Some(bytes))
+    glyphs(alloc, Some(bytes))
 }
 
-fn letters(alloc: Global, font: Option<Vec<u8>>) -> Result<Letters, Fail> {
+fn glyphs(alloc: Global, font: Option<Vec<u8>>) -> Result<GlyphTable, Fail> {
     let os = vec![in alloc; 0; 16_384]?;
     let roms = RomSet::read(os, Vec::new(alloc), font)?;
-    Ok(Letters::make(alloc, roms)?)
+    Ok(GlyphTable::make(alloc, roms)?)
 }
 
 // A line of a row: the scan line, true for a bottom row, and the number of fields.
@@ -55,7 +55,7 @@ struct Line {
 }
 
 // Returns the colours of eight cells, or 9 for a cell of more than one colour.
-fn colours(font: &Letters, codes: [u8; 8], line: Line) -> [u8; 8] {
+fn colours(font: &GlyphTable, codes: [u8; 8], line: Line) -> [u8; 8] {
     let mut row = RowState::start();
     let mut colours = [9; 8];
     for (colour, code) in colours.iter_mut().zip(codes) {
@@ -78,7 +78,7 @@ fn colours(font: &Letters, codes: [u8; 8], line: Line) -> [u8; 8] {
 
 // Returns the pixels of the last of three cells that are not black, the leftmost as the highest
 // bit.
-fn lit(font: &Letters, codes: [u8; 3], ra: u8, bottom: bool) -> u16 {
+fn lit(font: &GlyphTable, codes: [u8; 3], ra: u8, bottom: bool) -> u16 {
     let mut row = RowState::start();
     let mut cell = [0; 16];
     for code in codes {
@@ -92,7 +92,7 @@ fn lit(font: &Letters, codes: [u8; 3], ra: u8, bottom: bool) -> u16 {
 }
 
 // Returns true if the cells of these codes have these colours, as digits, in one line of a row.
-fn are_cells(font: &Letters, codes: &[u8], ra: u8, cells: &str) -> bool {
+fn are_cells(font: &GlyphTable, codes: &[u8], ra: u8, cells: &str) -> bool {
     let mut row = RowState::start();
     for (code, digits) in codes.iter().zip(cells.split(' ')) {
         let mut cell = [9; 16];
@@ -118,7 +118,7 @@ const GAP: &str =
 
 #[test]
 fn held_and_separated_graphics_of_double_height(rt: HostRuntime) -> Result<(), Fail> {
-    let font = letters(rt.alloc(), None)?;
+    let font = glyphs(rt.alloc(), None)?;
     let codes = [0x0d, 0x11, 0x1a, 0x7f, 0x1e, 0x12, 0x1d];
     assert!(rt; are_cells(&font, &codes, 0, DOTS));
     assert!(rt; are_cells(&font, &codes, 8, GAP));
@@ -128,13 +128,13 @@ fn held_and_separated_graphics_of_double_height(rt: HostRuntime) -> Result<(), F
 // A line is the scan line, the kind of the row, the number of fields, the codes, and the colours of
 // their cells.
 const CELLS: &str = "\
-# Letters in a colour, after the code.
+# GlyphTable in a colour, after the code.
 0 top 16 41 01 41 02 41 03 41 04 70102030
 0 top 16 04 41 05 41 06 41 07 41 04050607
-# Graphics in a colour, after the code. The codes from 40 to 5F are letters still.
+# Graphics in a colour, after the code. The codes from 40 to 5F are glyphs still.
 0 top 16 7F 11 7F 12 7F 13 41 14 00102030
 0 top 16 14 23 15 3F 16 63 17 7F 04050607
-# Hold at once and release after; the code of a colour shows what is held, and letters make it blank.
+# Hold at once and release after; the code of a colour shows what is held, and glyphs make it blank.
 0 top 16 11 1E 7F 12 1F 1F 7F 1E 00112022
 0 top 16 11 7F 1E 02 00 11 1E 7F 01110001
 # A letter is not held: what was held before it is.
@@ -164,7 +164,7 @@ const CELLS: &str = "\
 ";
 
 // Returns true if cells have the colours of their line.
-fn are_coloured(font: &Letters, line: &str) -> Option<bool> {
+fn are_coloured(font: &GlyphTable, line: &str) -> Option<bool> {
     let mut words = line.split(' ');
     let line = Line {
         ra: words.next()?.parse().ok()?,
@@ -255,7 +255,7 @@ const DRAWN: &str = "\
 ";
 
 // Returns true if a shape is drawn as its line says.
-fn is_drawn(font: &Letters, line: &str) -> Option<bool> {
+fn is_drawn(font: &GlyphTable, line: &str) -> Option<bool> {
     let mut words = line.split(' ');
     let codes = [
         number(words.next()?),
@@ -276,7 +276,7 @@ fn shapes_are_drawn_by_half_dots(rt: HostRuntime) -> Result<(), Fail> {
             assert!(rt; is_drawn(&font, line) == Some(true), "{line}");
         }
     }
-    let blank = letters(rt.alloc(), None)?;
+    let blank = glyphs(rt.alloc(), None)?;
     assert_eq!(rt; lit(&blank, [0x20, 0x20, 0x41], 0, false), 0);
     Ok(())
 }
@@ -284,7 +284,7 @@ fn shapes_are_drawn_by_half_dots(rt: HostRuntime) -> Result<(), Fail> {
 #[test]
 fn a_row_tells_whether_it_had_double_height(rt: HostRuntime) -> Result<(), Fail> {
     row_is_fold();
-    let font = letters(rt.alloc(), None)?;
+    let font = glyphs(rt.alloc(), None)?;
     let mut row = RowState::start();
     assert!(rt; !row.had_double());
     for (code, want) in [(0x0c, false), (0x4d, false), (0x0d, true), (0x0c, true)] {

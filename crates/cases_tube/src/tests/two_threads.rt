@@ -1,6 +1,6 @@
 //! Two parties in two threads, compared with the same parties on one thread.
 ghost use Rattle.std.specs.Prelude.{◌≡◌, ◌≤◌};
-ghost use Rattle.tube_party.specs.Transitions.{GoesHearing, shown_lines};
+ghost use Rattle.tube_party.specs.Transitions.{PortRunToAnyAsk, shown_lines};
 ghost use Rattle.cases_tube.specs.Talking.{heard_lines};
 
 use super::steady::{Flag, flag};
@@ -154,7 +154,7 @@ fn go_below<M: Party, D: TubePort>(
     port: &mut D,
 ) -> Ask
     requires { until.0 ≤ MOST }
-    ensures { GoesHearing M.transitions D.answers until.0 (shown_lines lines.now safe_until.0)
+    ensures { PortRunToAnyAsk M.transitions D.answers until.0 (shown_lines lines.now safe_until.0)
         (M.state machine.old) (D.state port.old) result (M.state machine.new) (D.state port.new) }
 {
     let near = Tick(safe_until.0.min(full.0));

@@ -2,8 +2,8 @@ use Rattle.std.proofs.Common.{sym, map, string_bytes}
 use Rattle.cmd_words.specs.Words.{command}
 use Rattle.cmd_words.specs.View.{seen_command}
 use Rattle.cmd_stages.specs.Promise.{nobody}
-use Rattle.cmd_top.proofs.GoneLemmas.{gone_of}
-use Rattle.cmd_top.proofs.HeardLemmas.{heard_of, same_unpaired}
+use Rattle.cmd_top.proofs.ResumeAndFollowLemmas.{gone_of}
+use Rattle.cmd_top.proofs.SoundFileLemmas.{heard_of, same_unpaired}
 use Rattle.cmd_top.proofs.calls.plain.Goals as goal
 
 pub returns-clause-sound : goal.returns-clause-sound

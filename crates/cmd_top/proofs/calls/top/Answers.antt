@@ -1,7 +1,7 @@
 use Rattle.cmd_words.specs.View.{seen_command}
 use Rattle.cmd_top.proofs.HeadlineLemmas.{headline_of}
-use Rattle.cmd_top.proofs.GoneLemmas.{gone_of}
-use Rattle.cmd_top.proofs.HeardLemmas.{heard_of}
+use Rattle.cmd_top.proofs.ResumeAndFollowLemmas.{gone_of}
+use Rattle.cmd_top.proofs.SoundFileLemmas.{heard_of}
 use Rattle.cmd_top.proofs.calls.top.Goals as goal
 
 pub returns-then-is_paired-clause-headline : goal.returns-then-is_paired-clause-headline

@@ -1,4 +1,4 @@
-use Rattle.cmd_top.proofs.SlotLemmas.{slots_below, keys_short}
+use Rattle.cmd_top.proofs.InputKindLemmas.{slots_below, keys_short}
 use Rattle.cmd_top.proofs.work.paired_outcome.Goals as goal
 
 pub run_outcome-requires-clause-slots : goal.run_outcome-requires-clause-slots

@@ -1,4 +1,4 @@
-use Rattle.cmd_top.proofs.SlotLemmas.{slots_below, keys_short}
+use Rattle.cmd_top.proofs.InputKindLemmas.{slots_below, keys_short}
 use Rattle.cmd_top.proofs.work.single_outcome.Goals as goal
 
 pub replay_outcome-requires-clause-slots : goal.replay_outcome-requires-clause-slots

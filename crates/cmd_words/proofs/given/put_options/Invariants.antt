@@ -8,5 +8,5 @@ abbrev pub invariant-loop-i : goal.invariant-loop-i
 invariant-loop-i l =
     (l.given.words.now ≡ l.words)
     × (is_closed false (map string_bytes l.words) ≡ is_closed (is_some l.key) (map string_bytes (drop l.i l.words)))
-    × (put_options l.taker (options None (map string_bytes l.words)) no_values
-    ≡ put_options l.taker (options (option_copied l.key) (map string_bytes (drop l.i l.words))) (seen_given l.given))
+    × (put_options l.command_kind (options None (map string_bytes l.words)) no_values
+    ≡ put_options l.command_kind (options (option_copied l.key) (map string_bytes (drop l.i l.words))) (seen_given l.given))

@@ -22,15 +22,15 @@ returns-in_err-first-clause-none g c =
       noted = rw none.1 (none_noted log);
     })
 
-pub returns-then-not-tell_first-clause-none : goal.returns-then-not-tell_first-clause-none
-returns-then-not-tell_first-clause-none g c =
+pub returns-then-not-speculate_first-clause-none : goal.returns-then-not-speculate_first-clause-none
+returns-then-not-speculate_first-clause-none g c =
     let pass = c.set_out.ensures.pass in
-    let not = c.if-not-tell_first.true in
+    let not = c.if-not-speculate_first.true in
     let some = c.in_ok-first.ensures.some in
     let kept = c.requires.kept in
     record {
-      waited = rw pass at (c.tell_first.ensures.waited not);
-      ahead = c.tell_first.ensures.unpublished not ∙ ap (λ x. x.ahead) pass;
+      waited = rw pass at (c.speculate_first.ensures.waited not);
+      ahead = c.speculate_first.ensures.unpublished not ∙ ap (λ x. x.ahead) pass;
       state_is = c.rewind.ensures ∙ some.1;
       noted = cut_back c.cut.new.self kept.0 kept.1 some.2 c.cut.ensures.list c.cut.ensures.count c.cut.ensures.keep;
     }
@@ -38,8 +38,8 @@ returns-then-not-tell_first-clause-none g c =
 pub returns-clause-paid : goal.returns-clause-paid
 returns-clause-paid g c =
     let p = c.args.half.now.pass in
-    let first = rw c.set_out.ensures.pass at (c.tell_first.ensures.paid c.if-not-tell_first.false) in
-    rw c.roll_back.ensures.pass (c.wait_passed.ensures.paid p (c.strides_on-ask.ensures.paid p first))
+    let first = rw c.set_out.ensures.pass at (c.speculate_first.ensures.paid c.if-not-speculate_first.false) in
+    rw c.roll_back.ensures.pass (c.wait_for_host.ensures.paid p (c.strides_on-ask.ensures.paid p first))
 
 pub returns-clause-some : goal.returns-clause-some
 returns-clause-some g c =
@@ -49,9 +49,9 @@ returns-clause-some g c =
     let t = c.reached-t-2.result.0 in
     let some = c.in_ok-first.ensures.some in
     let gone = c.strides_on-ask.ensures.further in
-    let first = rw c.set_out.ensures.pass at (c.tell_first.ensures.speculative c.if-not-tell_first.false) in
+    let first = rw c.set_out.ensures.pass at (c.speculate_first.ensures.speculative c.if-not-speculate_first.false) in
     let told = c.strides_on-ask.ensures.told p c.reached-t.result.0 t c.reached-t.ensures c.reached-t-2.ensures first in
-    let passed = rw c.requires.speculation at (c.wait_passed.ensures.passed p told) in
+    let passed = rw c.requires.speculation at (c.wait_for_host.ensures.passed p told) in
     let len = c.requires.kept.0 in
     let was = take_all at.log.len c.args.half.now.log.list.items (omega arith) in
     let list = c.roll_back.ensures.log.kept ∙ gone.log.kept ∙ some.2.kept ∙ was in

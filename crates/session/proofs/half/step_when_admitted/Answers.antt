@@ -9,5 +9,5 @@ act-answer-requires-clause-operation g c =
     let s = g.M.Party.state c.args.half.now.machine in
     let pending : IsPending g.M.Party.transitions c.args.n.0 s (Access c.in-Access.tick c.in-Access.op) =
     subst (IsPending g.M.Party.transitions c.args.n.0 s) c.in-Access.is c.requires.pending in
-    subst (λ x. MayDo x c.in-Access.op) (sym c.come.ensures.waited.same.side)
+    subst (λ x. MayDo x c.in-Access.op) (sym c.wait_until_admitted.ensures.waited.same.side)
     (rw pending.2 at (g.met.M.Party.permitted s c.args.half.now.pass.side c.requires.plays))

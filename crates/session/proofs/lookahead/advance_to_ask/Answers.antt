@@ -1,6 +1,6 @@
 use Rattle.std.proofs.Common.{arith}
 use Rattle.session.specs.CodeSideAndLog.{side_and_log}
-use Rattle.session.proofs.Gone.{gone_on}
+use Rattle.session.proofs.EventLemmas.{gone_on}
 use Rattle.session.proofs.lookahead.advance_to_ask.Goals as goal
 
 pub returns : goal.returns

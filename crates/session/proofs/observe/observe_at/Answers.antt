@@ -1,6 +1,6 @@
 use Rattle.std.proofs.Common.{arith, refl, ◌<◌, ◌^◌}
-use Rattle.session.proofs.Gone.{observes_few}
-use Rattle.session.proofs.Heard.{observes_on, still_observed, reads_on, read_leaves, over_unasked, over_unanswered}
+use Rattle.session.proofs.EventLemmas.{observes_few}
+use Rattle.session.proofs.ObservationLemmas.{observes_on, still_observed, reads_on, read_leaves, over_unasked, over_unanswered}
 use Rattle.session.proofs.observe.observe_at.Goals as goal
 
 pub returns-in_default : goal.returns-in_default

@@ -1,6 +1,6 @@
 use Rattle.tube_cell.specs.declared.local.Readings.{Readings}
 use Rattle.session.specs.CodePort.{shown}
-use Rattle.session.proofs.Heard.{IsAt, HasGone}
+use Rattle.session.proofs.ObservationLemmas.{IsAt, HasGone}
 use Rattle.session.proofs.observe.observe_at.Given as goal
 
 abbrev pub invariant-loop : goal.invariant-loop

@@ -2,7 +2,7 @@ use Rattle.std.proofs.Common.{ap, sym, subst, arith}
 use Rattle.beeb_bits.specs.declared.Side.TheVariants.{Para}
 use Rattle.session.specs.CodeObserved.{HasObserved}
 use Rattle.session.specs.CodeSpecRun.{spec_run}
-use Rattle.session.proofs.Heard.{heard}
+use Rattle.session.proofs.ObservationLemmas.{heard}
 use Rattle.session.proofs.InSpeculation.{if_some, sets_out, still_there}
 use Rattle.session.proofs.speculation.set_out.Goals as goal
 

@@ -1,7 +1,7 @@
 use Rattle.std.proofs.Common.{rules, ap, ◌≢◌}
 use Rattle.tube_party.specs.declared.party.Ask.TheVariants.{Nothing}
 use Rattle.session.specs.CodeSpecRun.{spec_run}
-use Rattle.session.proofs.Heard.{heard}
+use Rattle.session.proofs.ObservationLemmas.{heard}
 use Rattle.session.proofs.InSpeculation.{goes_on, stays_here}
 use Rattle.session.proofs.InProgress.{asks_there}
 use Rattle.session.proofs.speculation.stride_to.Goals as goal

@@ -62,7 +62,7 @@ returns-clause-served g c =
     let end : ℕ = c.args.end in
     let rest = c.requires.rests.1 in
     let outside = λ (t : ℕ). rw c.kind-part.ensures at (c.last_access-last.ensures.outside t (omega (arith, c.if-last-eq0.false))) in
-    let passing = rw c.access.ensures at c.in-Some.ensures in
+    let skip = rw c.access.ensures at c.in-Some.ensures in
     let some : 1 < n = omega (arith, c.cycle-cycle.ensures.some) in
     let few : n * o.cycles ≤ n * 5 = mul-le-mul_left n c.last_access-last.ensures.few in
     let fits : from + n * o.cycles + n ≤ end = omega (arith, few, c.requires.fits, c.cycle-cycle.ensures.value) in
@@ -80,14 +80,14 @@ returns-clause-served g c =
           let due : c.if-back-gt0.due ≡ from + q + q * j = omega (arith, sum, v.due-is, ap (λ (x : ℕ). x * (1 + j)) period) in
           let limit : from + q + q * j ≤ end = omega (arith, due, fits-more _ _ v.due-is v.again-more.ensures.few v.times_more.ensures) in
           let once = round part bus.wired bus.memory bus.stays_at_rest bus.stays_plain g.D.TubePort.answers end byte
-          c.cycle-cycle.ensures.value c.requires.plain c.requires.free outside passing some rest.1 refl
+          c.cycle-cycle.ensures.value c.requires.plain c.requires.free outside skip some rest.1 refl
           k v.if-back-gt0.true back rest.0 from 0 _ _ (omega arith) c.requires.before (omega (arith, limit)) c.in-Some-ask.ensures in
           let others = rounds part bus.wired bus.memory bus.stays_at_rest bus.stays_plain g.D.TubePort.answers end byte
-          c.cycle-cycle.ensures.value c.requires.plain c.requires.free outside passing some rest.1 refl
+          c.cycle-cycle.ensures.value c.requires.plain c.requires.free outside skip some rest.1 refl
           k v.if-back-gt0.true back rest.0 j (from + q) (from + n * o.cycles) _ _ (omega arith) (omega (arith, c.requires.before)) limit again in
           rw (v.port-is, v.at-is, due) (rw zero at (served-then once others))
       | else-back-gt0 v ↦
           rw (v.port-is, v.at-is, regs, v.due-is)
           (rw zero at (asked-whole part bus.wired bus.memory bus.stays_at_rest bus.stays_plain g.D.TubePort.answers end byte c.cycle-cycle.ensures.value c.requires.plain
-          c.requires.free outside passing some rest.1 refl from 0 _ _ (omega arith) c.requires.before fits (omega (arith, fits, rest.0)) c.in-Some-ask.ensures))
+          c.requires.free outside skip some rest.1 refl from 0 _ _ (omega arith) c.requires.before fits (omega (arith, fits, rest.0)) c.in-Some-ask.ensures))
     ])

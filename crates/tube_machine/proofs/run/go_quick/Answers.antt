@@ -57,15 +57,15 @@ go_asking-due-requires-clause-free g c =
     (c.bound_of-bound.ensures.plain (omega (arith, c.if-due-bound.false))) c.see.ensures.seen in
     λ t low. looked.free c.break_tick-next_break.result c.break_tick-next_break.ensures.none t (omega (arith, low, c.bound_of-bound.ensures.free))
 
-pub returns-then-due-bound-2-clause-talks : goal.returns-then-due-bound-2-clause-talks
-returns-then-due-bound-2-clause-talks g c =
+pub returns-then-due-bound-2-clause-port_run : goal.returns-then-due-bound-2-clause-port_run
+returns-then-due-bound-2-clause-port_run g c =
     let n : ℕ = c.cycle-cycle.result in
     let b = g.B.TubeBus.state c.quick.new.self in
     let over : next_cycle g.P.Processor.part (g.P.Processor.core c.give.new.self) ≡ None = search rules in
     let tick : c.loop-due.due + n - 1 ≡ c.loop-due.due + (n - 1) = omega (arith, c.cycle-cycle.ensures.some) in
     let closed : c.loop-due.due + n - (n - 1) ≡ c.loop-due.due + 1 = omega (arith, c.cycle-cycle.ensures.some) in
     rw (c.close.ensures.closed ∙ ap (g.B.TubeBus.bus_model.close b) closed)
-    (then-came (transitions_of g.P.Processor.part g.B.TubeBus.bus_model) (shown_lines c.args.lines.now c.args.safe_until) c.loop-due.invariant.at.talks
+    (then-came (transitions_of g.P.Processor.part g.B.TubeBus.bus_model) (shown_lines c.args.lines.now c.args.safe_until) c.loop-due.invariant.at.port_run
     (quick-last g.P.Processor.part g.B.TubeBus.wired g.B.TubeBus.stays_plain c.loop-due.invariant.at.way b c.want.ensures c.in-Some.ensures.done
     (omega (arith, c.loop-due-test.true, c.min-end.ensures))
     (omega (arith, c.loop-due-test.true, c.min-end.ensures, c.saturating_sub.ensures, c.requires.room, c.cycle-cycle.ensures.bound)) c.give.ensures over tick))
@@ -115,7 +115,7 @@ loop-due-preserved-then-last-2 g c =
     c.see-then-last-2.ensures.seen) in
     record {
       at = served-on wired stays
-          (record { mid = so_far.at.mid; talks = so_far.at.talks; first = so_far.at.first; way = way }) c.go_asking-due-then-last-2.ensures.served bound.free bound.until bound.safe_until;
+          (record { mid = so_far.at.mid; port_run = so_far.at.port_run; first = so_far.at.first; way = way }) c.go_asking-due-then-last-2.ensures.served bound.free bound.until bound.safe_until;
       noted = c.go_asking-due-then-last-2.ensures.noted ∙ c.see-then-last-2.ensures.kept c.quick.new.notes ∙ c.quick.ensures.noted ∙ so_far.noted;
       spent = spent-on (spent-whole 1 so_far.spent c.quick.ensures.room (omega arith) (omega (arith, c.if-due-bound-2.false, bound.safe_until)))
           (rw (← way.cycle) at (c.go_asking-due-then-last-2.ensures.spends c.args.safe_until bound.safe_until));
@@ -129,7 +129,7 @@ loop-due-preserved g c =
     record {
       at = record {
         mid = so_far.at.mid;
-        talks = so_far.at.talks;
+        port_run = so_far.at.port_run;
         first = so_far.at.first;
         way = quick-more part g.B.TubeBus.wired g.B.TubeBus.stays_plain so_far.at.way (g.B.TubeBus.state c.quick.new.self) c.want.ensures c.in-Some.ensures.done
             (omega (arith, c.loop-due-test.true, c.min-end.ensures))
@@ -145,14 +145,14 @@ returns-in-None-clause-spends g c = rw (← c.cycle-cycle.ensures.value, c.quick
 pub returns-then-due-until-clause-spends : goal.returns-then-due-until-clause-spends
 returns-then-due-until-clause-spends g c = rw (← c.cycle-cycle.ensures.value) c.loop-due.invariant.spent
 
-pub returns-in-None-clause-talks : goal.returns-in-None-clause-talks
-returns-in-None-clause-talks g c =
+pub returns-in-None-clause-port_run : goal.returns-in-None-clause-port_run
+returns-in-None-clause-port_run g c =
     let w = g.B.TubeBus.bus_model in
     left-off g.B.TubeBus.wired g.B.TubeBus.stays_plain c.loop-due.invariant.at
     (c.catch_up.ensures.closed ∙ ap (λ x. w.close x (owed_at c.cycle-cycle.result c.loop-due.caught_up c.loop-due.due (w.closed x))) c.in-None.ensures.done)
 
-pub returns-then-due-until-clause-talks : goal.returns-then-due-until-clause-talks
-returns-then-due-until-clause-talks g c = left-off g.B.TubeBus.wired g.B.TubeBus.stays_plain c.loop-due.invariant.at c.catch_up-2.ensures.closed
+pub returns-then-due-until-clause-port_run : goal.returns-then-due-until-clause-port_run
+returns-then-due-until-clause-port_run g c = left-off g.B.TubeBus.wired g.B.TubeBus.stays_plain c.loop-due.invariant.at c.catch_up-2.ensures.closed
 
-pub returns-else-due-until-clause-talks : goal.returns-else-due-until-clause-talks
-returns-else-due-until-clause-talks g c = left-off g.B.TubeBus.wired g.B.TubeBus.stays_plain c.loop-due.invariant.at c.catch_up-2.ensures.closed
+pub returns-else-due-until-clause-port_run : goal.returns-else-due-until-clause-port_run
+returns-else-due-until-clause-port_run g c = left-off g.B.TubeBus.wired g.B.TubeBus.stays_plain c.loop-due.invariant.at c.catch_up-2.ensures.closed

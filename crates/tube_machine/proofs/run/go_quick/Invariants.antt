@@ -2,14 +2,14 @@ use Rattle.std.proofs.Common.{◌-◌, ◌≡◌, length}
 use Rattle.op_table.specs.declared.names.Part.TheVariants.{Cmos}
 use Rattle.tube_machine.specs.Step.{at_of}
 use Rattle.tube_machine.specs.Exchange.{spent}
-use Rattle.tube_machine.proofs.Ways.{IsTalking}
+use Rattle.tube_machine.proofs.Ways.{IsPortRun}
 use Rattle.tube_machine.specs.Exchange.{HasSpent, ready}
 use Rattle.tube_machine.proofs.run.go_quick.Given as goal
 
 -- the steps until here asked nothing or saw the lines, and the next one is an access
 abbrev pub invariant-loop-due : goal.invariant-loop-due
 invariant-loop-due g l = record {
-  at : IsTalking g.P.Processor.part g.B.TubeBus.bus_model g.B.TubeBus.plain g.D.TubePort.answers l.next_break l.cycle l.until l.lines l.safe_until
+  at : IsPortRun g.P.Processor.part g.B.TubeBus.bus_model g.B.TubeBus.plain g.D.TubePort.answers l.next_break l.cycle l.until l.lines l.safe_until
       (at_of (g.P.Processor.core l.fn.cpu) (g.B.TubeBus.state l.fn.bus) l.from) (g.D.TubePort.state l.fn.port)
       (at_of (g.P.Processor.core l.cpu) (g.B.TubeBus.state l.bus) l.due) (g.D.TubePort.state l.port)
       l.caught_up;

@@ -4,19 +4,19 @@ use Rattle.tube_chip.specs.declared.Answer.TheVariants.{Seen}
 use Rattle.tube_party.specs.Transitions.{shown_lines}
 use Rattle.tube_machine.specs.Step.{At, at_of, is_break, transitions_of}
 use Rattle.tube_machine.proofs.Stops.{breaks-alone, more, more-look, stops-at-look, next-rises}
-use Rattle.tube_machine.proofs.Ways.{then-came, way-hears, way-on, way-rises}
+use Rattle.tube_machine.proofs.Ways.{then-came, way-port_run_to_ask, way-on, way-rises}
 use Rattle.tube_machine.proofs.steps.advance_at.Goals as goal
 use Rattle.tube_machine.proofs.steps.advance_at.Goals.{then-due-min, else-due-min}
 
-pub returns-in-Asked-clause-hears : goal.returns-in-Asked-clause-hears
-returns-in-Asked-clause-hears g c = way-hears c.loop-ask.invariant.went (rw c.in-Asked.is at c.carry_on.ensures.ran)
+pub returns-in-Asked-clause-port_run_to_ask : goal.returns-in-Asked-clause-port_run_to_ask
+returns-in-Asked-clause-port_run_to_ask g c = way-port_run_to_ask c.loop-ask.invariant.went (rw c.in-Asked.is at c.carry_on.ensures.ran)
 
-pub returns-then-is_break-clause-hears : goal.returns-then-is_break-clause-hears
-returns-then-is_break-clause-hears g c =
+pub returns-then-is_break-clause-port_run_to_ask : goal.returns-then-is_break-clause-port_run_to_ask
+returns-then-is_break-clause-port_run_to_ask g c =
     let m = transitions_of g.P.Processor.part g.B.TubeBus.bus_model in
     let v = shown_lines c.args.lines.now c.args.safe_until.0 in
     let ran = rw c.in-Look.is at c.carry_on.ensures.ran in
-    way-hears (way-on m v c.loop-ask.invariant.went ran.0)
+    way-port_run_to_ask (way-on m v c.loop-ask.invariant.went ran.0)
     (stops-at-look g.P.Processor.part g.B.TubeBus.bus_model g.B.TubeBus.wired c.args.until.0 c.args.lines.now c.args.safe_until.0 c.look.ensures.asks (elim c.if-due-min.branch [
       | then-due-min v ↦ inr (omega (arith, v.if-due-min.true, c.min.ensures))
       | else-due-min v ↦ inl (sym v.is_break.ensures ∙ sym v.value-is ∙ c.if-is_break.true)

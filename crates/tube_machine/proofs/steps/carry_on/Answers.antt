@@ -21,14 +21,14 @@ pub returns-in-Look-clause-ran : goal.returns-in-Look-clause-ran
 returns-in-Look-clause-ran g c =
     let m = transitions_of g.P.Processor.part g.B.TubeBus.bus_model in
     let v = shown_lines c.args.lines.now c.args.safe_until.0 in
-    (way-on m v c.loop-cpu.invariant.went c.go_quick-at.ensures.talks, rw c.in-Look.is at c.go_quick-at.ensures.stops)
+    (way-on m v c.loop-cpu.invariant.went c.go_quick-at.ensures.port_run, rw c.in-Look.is at c.go_quick-at.ensures.stops)
 
 pub loop-cpu-smaller : goal.loop-cpu-smaller
 loop-cpu-smaller g c =
     let part = g.P.Processor.part in
     let left = rw c.in-Access.is at c.go_quick-at.ensures.stops in
     let done = rw c.in-Ok.is at c.access.ensures.done in
-    omega (arith, done-rises part g.B.TubeBus.wired done, left.1, way-rises part g.B.TubeBus.wired (shown_lines c.args.lines.now c.args.safe_until.0) c.go_quick-at.ensures.talks)
+    omega (arith, done-rises part g.B.TubeBus.wired done, left.1, way-rises part g.B.TubeBus.wired (shown_lines c.args.lines.now c.args.safe_until.0) c.go_quick-at.ensures.port_run)
 
 pub loop-cpu-preserved : goal.loop-cpu-preserved
 loop-cpu-preserved g c =
@@ -41,10 +41,10 @@ loop-cpu-preserved g c =
     let done = rw c.in-Ok.is at c.access.ensures.done in
     let H = (part ≡ Cmos) × (g.B.TubeBus.endless ≡ false) in
     let spends = rw so_far.cycle at (rw c.in-Access.is at c.go_quick-at.ensures.spends) in
-    let at_cycle = way-cycle part wired v c.go_quick-at.ensures.talks ∙ so_far.cycle in
+    let at_cycle = way-cycle part wired v c.go_quick-at.ensures.port_run ∙ so_far.cycle in
     let costs = λ (h : H). done-cost part wired done left.0 h.0 (g.B.TubeBus.joined h.1 (g.B.TubeBus.state c.go_quick-at.new.bus)) (g.B.TubeBus.even h.1) in
     record {
-      went = way-on m v (way-on m v so_far.went c.go_quick-at.ensures.talks) (done-way part wired done v left.1);
+      went = way-on m v (way-on m v so_far.went c.go_quick-at.ensures.port_run) (done-way part wired done v left.1);
       before = c.access.ensures.before;
       cycle = done-cycle part wired done ∙ at_cycle;
       noted = c.access.ensures.noted ∙ c.go_quick-at.ensures.noted ∙ so_far.noted;
@@ -57,7 +57,7 @@ returns-in-Err-Tube-clause-ran g c =
     let v = shown_lines c.args.lines.now c.args.safe_until.0 in
     let left = rw c.in-Access.is at c.go_quick-at.ensures.stops in
     let asked = rw (c.in-Err-Tube.is, c.in-Err-Tube.field-0-is) at c.access.ensures.done in
-    rw c.in-Err-Tube.op-is (way-asks g.P.Processor.part g.B.TubeBus.wired v (way-on m v c.loop-cpu.invariant.went c.go_quick-at.ensures.talks) left.1 asked)
+    rw c.in-Err-Tube.op-is (way-asks g.P.Processor.part g.B.TubeBus.wired v (way-on m v c.loop-cpu.invariant.went c.go_quick-at.ensures.port_run) left.1 asked)
 
 pub returns-in-Err-Full-clause-full : goal.returns-in-Err-Full-clause-full
 returns-in-Err-Full-clause-full g c =
@@ -72,5 +72,5 @@ returns-in-End-clause-ran g c =
     let m = transitions_of g.P.Processor.part g.B.TubeBus.bus_model in
     let v = shown_lines c.args.lines.now c.args.safe_until.0 in
     let left = rw c.in-End.is at c.go_quick-at.ensures.stops in
-    let all = way-on m v c.loop-cpu.invariant.went c.go_quick-at.ensures.talks in
-    record { accesses = all.0; last = _; talks = all.1; asked = (left, c.shut.ensures.shut); unsure = tt }
+    let all = way-on m v c.loop-cpu.invariant.went c.go_quick-at.ensures.port_run in
+    record { accesses = all.0; last = _; port_run = all.1; asked = (left, c.shut.ensures.shut); not_safe = tt }

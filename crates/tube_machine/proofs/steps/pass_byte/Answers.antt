@@ -9,4 +9,4 @@ returns-clause-taken g c =
     let w = g.B.TubeBus.bus_model in
     let s : At g.B.TubeBus.State = at_of (g.P.Processor.core c.args.cpu.now) (g.B.TubeBus.state c.args.bus.now) c.args.due.now in
     c.end_cycle.ensures.cycled
-    ∙ passed part w g.B.TubeBus.wired s (g.B.TubeBus.state c.close.new.self) c.args.byte c.cycle-cycle.result c.requires.access c.requires.passing c.close.ensures.closed c.cycle-cycle.ensures.value
+    ∙ passed part w g.B.TubeBus.wired s (g.B.TubeBus.state c.close.new.self) c.args.byte c.cycle-cycle.result c.requires.access c.requires.skip c.close.ensures.closed c.cycle-cycle.ensures.value

@@ -6,4 +6,4 @@ pub returns-clause-calm : goal.returns-clause-calm
 returns-clause-calm c =
     let b = c.self.inside in
     let most : c.min.result ≤ b.next + c.calm.result * c.micro.result = omega (arith, c.min.ensures, c.saturating_add.ensures, c.saturating_mul-ticks.ensures) in
-    rw (← c.self.view_is) (calm-until c.min.result c.self.invariant (c.calm.ensures b.ram.items b.letters.font) (omega (arith, c.min.ensures)) (rw c.micro.ensures.value at most))
+    rw (← c.self.view_is) (calm-until c.min.result c.self.invariant (c.calm.ensures b.ram.items b.glyphs.font) (omega (arith, c.min.ensures)) (rw c.micro.ensures.value at most))

@@ -25,16 +25,16 @@ loop-next-preserved c =
     let next = c.loop-next.next in
     let b = record c.loop-next.self-inside { closed = min next c.args.t; next = next } in
     let valid = c.loop-next.invariant.valid in
-    let done = rw c.deref.ensures.value at c.beats_or_events-next.ensures in
-    let p = c.beats_or_events-next.new.playback in
-    let u = min c.args.t c.beats_or_events-next.result in
-    let same : min c.beats_or_events-next.result c.args.t ≡ u = omega arith in
+    let done = rw c.deref.ensures.value at c.microseconds_or_events-next.ensures in
+    let p = c.microseconds_or_events-next.new.playback in
+    let u = min c.args.t c.microseconds_or_events-next.result in
+    let same : min c.microseconds_or_events-next.result c.args.t ≡ u = omega arith in
     let here : next ≡ min next c.args.t = omega (arith, c.loop-next-test.true) in
     let past : next ≤ u = omega (arith, c.loop-next-test.true, done.on) in
-    let after = drawn b.ram.items b.letters.font c.beats_or_events-next.new.devices in
+    let after = drawn b.ram.items b.glyphs.font c.microseconds_or_events-next.new.devices in
     let with_script : List Event → BoardState =
     λ script. record (board_seen b) { script = script; breaks = breaks_before b.breaks.place script; devices = after; shots = p.shots.frames; closed = u } in
-    let went : board_seen (record b { playback = p; devices = c.beats_or_events-next.new.devices; closed = u }) ≡ board_closed (board_seen b) u =
+    let went : board_seen (record b { playback = p; devices = c.microseconds_or_events-next.new.devices; closed = u }) ≡ board_closed (board_seen b) u =
     ap with_script done.script ∙ gone (board_seen b) u (moving after p.shots.frames) (omega (arith, past, here)) (rw here at done.ticks) in
     rw same (record {
       valid = record {

@@ -5,4 +5,4 @@ pub returns : goal.returns
 returns c =
     let b = c.self.inside in
     let d = b.devices.devices in
-    rw (← c.self.view_is) (c.reads_go_on.ensures c.lowest.result (screen_size d.latch) b.devices.owed b.ram.items b.letters.font d.video c.lowest.ensures)
+    rw (← c.self.view_is) (c.reads_go_on.ensures c.lowest.result (screen_size d.latch) b.devices.owed b.ram.items b.glyphs.font d.video c.lowest.ensures)

@@ -14,5 +14,5 @@ returns-clause-answer c = λ t at.
     let closed : b.closed ≡ t + 1 = ap (λ (s : BoardState). s.closed) c.self.view_is ∙ at in
     let (typed, set) = stay t played (omega (arith, closed)) (omega (arith, closed, played.early)) in
     rw (← c.self.view_is, c.device_at.ensures) (c.read.ensures.answer
-    ∙ ap (λ (ram : List ℕ). register_answer c.device_at.result c.args.at (keys_of b.playback.keys) (drawn ram b.letters.font b.devices)) c.deref.ensures.value
+    ∙ ap (λ (ram : List ℕ). register_answer c.device_at.result c.args.at (keys_of b.playback.keys) (drawn ram b.glyphs.font b.devices)) c.deref.ensures.value
     ∙ ap (λ (f : Keys). register_answer c.device_at.result c.args.at f (board_seen b).devices) typed)

@@ -27,7 +27,7 @@ pub returns-clause-rest : goal.returns-clause-rest
 returns-clause-rest c =
     let b = c.self.inside in
     let ram = c.args.ram.now in
-    let font = c.args.letters.now.font in
+    let font = c.args.glyphs.now.font in
     let d = drawn ram font (behind b) in
     let size = screen_size b.latch.bits in
     let m = c.min-steps.result in
@@ -42,6 +42,6 @@ returns-clause-rest c =
 pub returns-then-self-eq0-clause-rest : goal.returns-then-self-eq0-clause-rest
 returns-then-self-eq0-clause-rest c =
     let ram = c.args.ram.now in
-    let font = c.args.letters.now.font in
+    let font = c.args.glyphs.now.font in
     let all : suc (c.args.n - 1) ≡ c.args.n = omega (arith, c.requires.some) in
     rw c.step.ensures (ap (λ (k : ℕ). microseconds ram font (keys_of c.args.keys.now) c.args.levels k (drawn ram font c.args.self.now)) all)

@@ -1,8 +1,0 @@
-use Rattle.para_mach.proofs.Held.{passes_held}
-use Rattle.para_mach.proofs.machine.ParaMachine.pass.Goals as goal
-
-pub invariant_of-self : goal.invariant_of-self
-invariant_of-self c = ((passes_held _ _ _ _ _ _ c.self.invariant.0 c.pass_over.ensures.passes.1).1, c.pass_over.ensures.before)
-
-pub returns : goal.returns
-returns c = (c.pass_over.ensures.passes.0, rw (← c.self.view_is) (passes_held _ _ _ _ _ _ c.self.invariant.0 c.pass_over.ensures.passes.1).0)
