@@ -92,7 +92,11 @@ fn part_of(alloc: Global, inputs: &Inputs, slot: InputKind) -> Result<Option<Blo
         InputKind::Disc(0) => if_read(alloc, &inputs.disc0),
         InputKind::Disc(_) => if_read(alloc, &inputs.disc1),
         InputKind::Keys => if_read(alloc, &inputs.keys),
-        InputKind::Points | InputKind::Trace | InputKind::Source | InputKind::Image | InputKind::State => Ok(None),
+        InputKind::Points
+        | InputKind::Trace
+        | InputKind::Source
+        | InputKind::Image
+        | InputKind::State => Ok(None),
     }
 }
 

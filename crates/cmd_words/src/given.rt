@@ -8,7 +8,7 @@ ghost use Rattle.cmd_words.specs.Keys.{address_of};
 ghost use Rattle.cmd_words.specs.View.{seen_given, word_at};
 
 use crate::alone::{is_flag, takes_value};
-use crate::keys::{COUNT, MOST_KEEP, MOST_TICKS, CommandKind, address_of, fits, place_of};
+use crate::keys::{COUNT, CommandKind, MOST_KEEP, MOST_TICKS, address_of, fits, place_of};
 use beeb_bits::Clock;
 use digits::decimal_number;
 

@@ -12,6 +12,6 @@ mod words;
 
 pub use command::Command;
 pub use given::Given;
-pub use keys::{MOST_KEEP, InputKind};
+pub use keys::{InputKind, MOST_KEEP};
 pub use law::{options_are_order_free, options_stand_anywhere};
 pub use words::command_of;

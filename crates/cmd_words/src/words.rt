@@ -9,7 +9,7 @@ ghost use Rattle.cmd_words.specs.View.{seen_command, seen_sided, seen_both};
 use crate::alone::{four_alone, is_name, three_alone, two_alone};
 use crate::command::Command;
 use crate::given::{Given, options_among};
-use crate::keys::{MOST_KEEP, MOST_TICKS, CommandKind, address_of};
+use crate::keys::{CommandKind, MOST_KEEP, MOST_TICKS, address_of};
 use beeb_bits::Side;
 use digits::decimal_number;
 use op_table::Part;

@@ -229,7 +229,14 @@ impl Devices {
     }
 
     /// Does `n` microseconds, with unchanged RAM, keys and levels of the converter's channels.
-    pub fn advance(&mut self, ram: &[u8], glyphs: &GlyphTable, keys: &Keys, levels: [u16; 4], n: u64)
+    pub fn advance(
+        &mut self,
+        ram: &[u8],
+        glyphs: &GlyphTable,
+        keys: &Keys,
+        levels: [u16; 4],
+        n: u64,
+    )
         requires { length ram.now ≡ 32768 }
         ensures { let see = drawn ram.now glyphs.now.font in
             see self.new ≡ microseconds ram.now glyphs.now.font (keys_of keys.now) levels n (see self.old) }

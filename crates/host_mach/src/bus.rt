@@ -12,7 +12,7 @@ use host_bus::Bus;
 use host_devices::stretch;
 use op_table::Part;
 use tube_chip::{Lines, Op};
-use tube_machine::{Done, Interrupts, TubeBus, AccessError};
+use tube_machine::{AccessError, Done, Interrupts, TubeBus};
 
 /// The bus, with the count of NMIs that its processor has taken.
 #[derive(Drop)]

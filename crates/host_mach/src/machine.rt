@@ -24,7 +24,7 @@ use sn76489::SoundWrite;
 use std::alloc::Global;
 use tube_chip::{Answer, Lines};
 use tube_machine::{SkipWhile, advance_at, advance_seeing, answer, skip_over};
-use tube_party::{Ask, TubePort, MOST, NO_LINES, Party};
+use tube_party::{Ask, MOST, NO_LINES, Party, TubePort};
 
 /// The BBC Micro: a 6502 at 2 MHz and its bus, with the Tube at FEE0 to FEFF, unless it is made
 /// without one. The key BREAK, which the script presses, resets the processor, the user VIA, the
@@ -267,7 +267,13 @@ impl<D: BusDevice> Party for HostMachine<D> {
     }
 
     #[inline(always)]
-    fn advance_at<K: TubePort>(&mut self, until: Tick, lines: &Lines, safe_until: Tick, port: &mut K) -> Ask {
+    fn advance_at<K: TubePort>(
+        &mut self,
+        until: Tick,
+        lines: &Lines,
+        safe_until: Tick,
+        port: &mut K,
+    ) -> Ask {
         advance_at::<(), Cpu, HostBus<D>, K>(
             &mut self.cpu,
             &mut self.bus,

@@ -10,7 +10,7 @@ use cpu_whole::{LastAccess, Plain, branch_to, last_access, whole};
 use op_table::Part;
 use std::marker::Model;
 use tube_chip::{Lines, Op};
-use tube_machine::{Done, Interrupts, TubeBus, AccessError};
+use tube_machine::{AccessError, Done, Interrupts, TubeBus};
 
 /// The memory and the Tube, with the counts of the Tube's lines that were taken.
 #[derive(Drop)]

@@ -22,7 +22,7 @@ use tube_chip::{Answer, Lines};
 use tube_machine::{
     RunExit, SkipWhile, advance_at, advance_seeing, answer, carry_on, look, skip_over, take_lines,
 };
-use tube_party::{Ask, TubePort, NO_LINES, Party, Rewinds};
+use tube_party::{Ask, NO_LINES, Party, Rewinds, TubePort};
 
 /// The reason why no second processor can be made.
 #[derive(Clone, Copy, Debug, PartialEq, Eq, Error)]
@@ -299,7 +299,13 @@ impl Party for ParaMachine {
     }
 
     #[inline(always)]
-    fn advance_at<K: TubePort>(&mut self, until: Tick, lines: &Lines, safe_until: Tick, port: &mut K) -> Ask {
+    fn advance_at<K: TubePort>(
+        &mut self,
+        until: Tick,
+        lines: &Lines,
+        safe_until: Tick,
+        port: &mut K,
+    ) -> Ask {
         advance_at::<NoNotes, Cpu, ParaBus, K>(
             &mut self.cpu,
             &mut self.bus,

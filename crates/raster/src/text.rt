@@ -47,7 +47,14 @@ impl Text {
     /// Takes the code of a shown character, and stores its sixteen colours in `to`.
     #[inline(always)]
     #[tactic(auto, unfolding(crate::specs::Text::codes_after, crate::specs::CodeSteps::cell_on))]
-    pub(crate) fn put(&mut self, font: &GlyphTable, code: u8, ra: u8, fields: u32, to: &mut [u8; 16])
+    pub(crate) fn put(
+        &mut self,
+        font: &GlyphTable,
+        code: u8,
+        ra: u8,
+        fields: u32,
+        to: &mut [u8; 16],
+    )
         requires { code < 128 }
         ensures state { self.new ≡ text_after code self.old }
         ensures colours { to.new ≡ cell_on font.now.font code ra fields self.old }

@@ -145,7 +145,14 @@ pub(crate) fn half_dots(
 
 // Returns the half dots of any cell.
 #[inline(always)]
-fn special_dots(style: &Style, font: &GlyphTable, code: u8, ra: u8, bottom: bool, fields: u32) -> u16
+fn special_dots(
+    style: &Style,
+    font: &GlyphTable,
+    code: u8,
+    ra: u8,
+    bottom: bool,
+    fields: u32,
+) -> u16
     requires { code < 0x80 }
     ensures { IsLine result (cell_dot font.now.font code ra bottom fields style.now) }
 {

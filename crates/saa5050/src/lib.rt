@@ -3,11 +3,11 @@
 #![tactic(auto)]
 
 mod dots;
-mod law;
 mod glyphs;
+mod law;
 mod row;
 mod style;
 
-pub use law::row_is_fold;
 pub use glyphs::GlyphTable;
+pub use law::row_is_fold;
 pub use row::RowState;

@@ -12,8 +12,8 @@ ghost use Rattle.session.specs.Work.{MayWork, HasWorked};
 
 use crate::half::{Half, next_tick, step_when_admitted};
 use crate::lookahead::advance_to_ask;
-use crate::stride::{Stride, Strides};
 use crate::speculation::{Checkpoint, reached, roll_back, set_out, strides_on};
+use crate::stride::{Stride, Strides};
 use beeb_bits::Tick;
 use std::marker::Brand;
 use std::sync::Wait;

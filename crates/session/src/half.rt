@@ -13,7 +13,7 @@ use std::sync::Wait;
 use tube_cell::{Pass, TubeCell};
 use tube_chip::Answer;
 use tube_party::{Ask, Log, MOST, Party};
-use tube_side::{SpinThenPark, wait_until_admitted, finish};
+use tube_side::{SpinThenPark, finish, wait_until_admitted};
 use tube_trace::Entry;
 
 /// One side at work: the machine, its pass to the cell, and the log of its accesses.

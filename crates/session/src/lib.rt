@@ -3,15 +3,15 @@
 #![tactic(auto)]
 
 mod ahead;
-mod port;
 mod half;
 mod lookahead;
 mod observe;
 mod pair;
+mod port;
 mod side_job;
 mod sight;
-mod stride;
 mod speculation;
+mod stride;
 
 pub use ahead::drive_ahead;
 pub use half::{Half, drive};

@@ -2,8 +2,8 @@
 ghost use Rattle.std.specs.Prelude.{◌≡◌, ◌≤◌};
 ghost use Rattle.session.specs.CodeObserved.{HasObserved, IsOver};
 
-use crate::port::StatusPort;
 use crate::half::Half;
+use crate::port::StatusPort;
 use beeb_bits::{Side, Tick};
 use std::sync::Wait;
 use tube_cell::Readings;

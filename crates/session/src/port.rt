@@ -6,7 +6,7 @@ use crate::sight::byte_of;
 use beeb_bits::{Side, Tick};
 use tube_cell::Readings;
 use tube_chip::Op;
-use tube_party::{TubePort, Log};
+use tube_party::{Log, TubePort};
 use tube_trace::Entry;
 
 /// A side's status registers, which keep their bytes below a tick, and the log of its accesses.

@@ -9,9 +9,9 @@ ghost use Rattle.tube_side.specs.CodeSpeculation.{IsSpeculation};
 ghost use Rattle.session.specs.CodeSideAndLog.{side_and_log};
 ghost use Rattle.session.specs.CodeSpecRun.{IsReached, IsSettled, spec_run, IsInSpecRun, IsStillThere, HasGoneFurther};
 
-use crate::port::StatusPort;
 use crate::half::Half;
 use crate::observe::observe;
+use crate::port::StatusPort;
 use crate::stride::Stride;
 use beeb_bits::{Side, Tick};
 use std::sync::Wait;

@@ -399,7 +399,12 @@ struct Execution<'a> {
 
 impl Tried<Execution<'_>> for Bus {
     fn make(alloc: Global, execution: &Execution<'_>) -> Result<Self, NoMemory> {
-        bus(alloc, execution.clock, execution.lists.script, execution.lists.size)
+        bus(
+            alloc,
+            execution.clock,
+            execution.lists.script,
+            execution.lists.size,
+        )
     }
 
     fn agrees(

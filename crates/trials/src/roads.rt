@@ -10,7 +10,7 @@ use cpu_alu::{DECIMAL, INTERRUPT, Regs};
 use op_table::Part;
 use std::alloc::Global;
 use tube_chip::{Answer, Lines, Op};
-use tube_party::{Ask, NoPort, MOST, NO_LINES, Party, Rewinds};
+use tube_party::{Ask, MOST, NO_LINES, NoPort, Party, Rewinds};
 
 // A Tube with random answers: bytes to accesses, of which it keeps a sum, and lines that stay the
 // same for a while.
@@ -135,9 +135,16 @@ fn step<M: Party>(machine: &mut M, until: u64, tube: &mut Tube)
 // Advances speculatively with notes, as if the lines stayed as they are, as long as there is room,
 // or for some ticks.
 #[tactic(auto, using(tube_party::specs::Steps::left_pending))]
-fn note<M: Rewinds>(machine: &mut M, past: &mut M::Past, lines: &Lines, safe_until: Tick, more: Tick) {
+fn note<M: Rewinds>(
+    machine: &mut M,
+    past: &mut M::Past,
+    lines: &Lines,
+    safe_until: Tick,
+    more: Tick,
+) {
     let end = Tick(MOST);
-    let Some(Ask::Look(t)) = machine.advance_noting(end, lines, safe_until, past, &mut NoPort) else {
+    let Some(Ask::Look(t)) = machine.advance_noting(end, lines, safe_until, past, &mut NoPort)
+    else {
         return;
     };
     let first = Ask::Look(t);
@@ -165,7 +172,13 @@ fn go_ahead<M: Rewinds>(
     let t = machine.due().0;
     let lines = tube.lines(t);
     if chance.once_in(2) {
-        let _ = machine.advance_noting(Tick(until), &lines, Tick(tube.safe_until(t)), past, &mut NoPort);
+        let _ = machine.advance_noting(
+            Tick(until),
+            &lines,
+            Tick(tube.safe_until(t)),
+            past,
+            &mut NoPort,
+        );
         return;
     }
     let safe_until = t.saturating_add(u64::from(chance.below(64)));

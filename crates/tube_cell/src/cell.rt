@@ -13,15 +13,15 @@ ghost use Rattle.tube_cell.specs.Rules.{CellInvariant, Found, published_view, sp
 ghost use Rattle.tube_cell.specs.Passes.{starts, own_horizon, Learns, access_at, lines_at, after_commit, after_raise, after_look, after_speculate, here, bound_here, after_add, after_publish};
 ghost use Rattle.tube_cell.specs.Steps.{MayPublish, MayLook, MaySpeculate, MayPublishAndSpeculate, Watches, LookedAt};
 
-use crate::waker::Waker;
 use crate::local::{Readings, operate, readings_of};
 use crate::rule::{
-    Adding, CellRule, GhostEvents, Ending, Speculating, Halves, Learning, Looking, GhostTick, Parting,
-    PassView, Publishing, PublishingAndSpeculating, GhostUpdate,
+    Adding, CellRule, Ending, GhostEvents, GhostTick, GhostUpdate, Halves, Learning, Looking,
+    Parting, PassView, Publishing, PublishingAndSpeculating, Speculating,
 };
+use crate::waker::Waker;
 use crate::words::{
-    bound_of, chip_of, is_admitted, next_words, power_on, renew, settle, spec_horizon_of, with_spec_horizon,
-    word_of,
+    bound_of, chip_of, is_admitted, next_words, power_on, renew, settle, spec_horizon_of,
+    with_spec_horizon, word_of,
 };
 use atomic_table::{Join, Split};
 use beeb_bits::{NoMemory, Side, Tick};
@@ -170,7 +170,9 @@ impl TubeCell {
             return;
         };
         let spec_horizon = spec_horizon_of(next);
-        if spec_horizon != spec_horizon_of(words) || is_admitted(other, bound_of(other, next, spec_horizon), t) {
+        if spec_horizon != spec_horizon_of(words)
+            || is_admitted(other, bound_of(other, next, spec_horizon), t)
+        {
             self.waker(other).signal(t);
         }
     }
@@ -288,7 +290,13 @@ impl TubeCell {
         ensures learns { IfNone result (Learns pass.old pass.new) }
         ensures missed { IfNone result (pass.new.known ≢ pass.old.known) }
     {
-        let (answer, spec_horizon) = operate(&mut pass.local, pass.side, op, t.0, spec_horizon_of(&pass.words));
+        let (answer, spec_horizon) = operate(
+            &mut pass.local,
+            pass.side,
+            op,
+            t.0,
+            spec_horizon_of(&pass.words),
+        );
         match exchange::<Brand, R>(
             &self.cell,
             rt,
@@ -636,7 +644,13 @@ fn publish_and_speculate_at<W: GhostUpdate, D: GhostEvents, R: Wait>(
     ensures missed { IfErr result (λ found. found ≢ words.now) }
 {
     packing_is_one_to_one();
-    let next = next_words(Side::Para, chip, word, word_of(Side::Para, words), spec_horizon);
+    let next = next_words(
+        Side::Para,
+        chip,
+        word,
+        word_of(Side::Para, words),
+        spec_horizon,
+    );
     match swap::<PublishingAndSpeculating<W, D>, R>(cell, rt, seat, words, next) {
         Ok(_) => Ok(next),
         Err(found) => Err(found),

@@ -2,17 +2,17 @@
 //! a whole.
 #![tactic(auto)]
 
-mod waker;
 mod cell;
 mod local;
 mod rule;
+mod waker;
 mod words;
 
 use beeb_bits::Crosses;
-pub use waker::Waker;
 pub use cell::{Pass, TubeCell, Whole};
 pub use local::Readings;
 pub use rule::GhostEvents;
+pub use waker::Waker;
 
 impl Crosses for TubeCell {}
 

@@ -87,7 +87,13 @@ fn host_operates(chip: &mut Chip, op: Op, tick: u64, spec_horizon: u64) -> (u8, 
 }
 
 /// Does an operation of `side` at `tick`. Returns its answer and the speculative horizon after it.
-pub(crate) fn operate(chip: &mut Chip, side: Side, op: Op, tick: u64, spec_horizon: u64) -> (u8, u64)
+pub(crate) fn operate(
+    chip: &mut Chip,
+    side: Side,
+    op: Op,
+    tick: u64,
+    spec_horizon: u64,
+) -> (u8, u64)
     requires { MayDo side op }
     ensures chip { chip.new ≡ chip_after chip.old side op }
     ensures answer { result.0 ≡ answer_of chip.old side op }

@@ -112,7 +112,8 @@ pub struct PublishingAndSpeculating<W, D> {
     events: PhantomData<D>,
 }
 
-impl<W: GhostUpdate, D: GhostEvents> Outcome<[u64; 9], PassView> for PublishingAndSpeculating<W, D> {
+impl<W: GhostUpdate, D: GhostEvents> Outcome<[u64; 9], PassView>
+    for PublishingAndSpeculating<W, D> {
     ghost use Rattle.tube_cell.specs.Rules.{PublishesAndSpeculates};
 
     ghost then = { PublishesAndSpeculates W.events D.events W.next };

@@ -11,7 +11,13 @@ use tube_chip::{Chip, packing_is_one_to_one};
 
 /// Returns the words for this chip, a side's own horizon, the other side's, and the speculative
 /// horizon.
-pub(crate) fn next_words(side: Side, chip: &Chip, mine: u64, theirs: u64, spec_horizon: u64) -> [u64; 9]
+pub(crate) fn next_words(
+    side: Side,
+    chip: &Chip,
+    mine: u64,
+    theirs: u64,
+    spec_horizon: u64,
+) -> [u64; 9]
     ensures words { result ≡ words_of (known_with side chip.now mine theirs spec_horizon) }
     ensures bounds { IsChip chip.now }
 {
@@ -21,7 +27,15 @@ pub(crate) fn next_words(side: Side, chip: &Chip, mine: u64, theirs: u64, spec_h
         Side::Para => (theirs, mine),
     };
     [
-        chip[0], chip[1], chip[2], chip[3], chip[4], chip[5], host, para, spec_horizon,
+        chip[0],
+        chip[1],
+        chip[2],
+        chip[3],
+        chip[4],
+        chip[5],
+        host,
+        para,
+        spec_horizon,
     ]
 }
 
@@ -55,7 +69,15 @@ pub(crate) fn with_spec_horizon(words: &[u64; 9], spec_horizon: u64) -> [u64; 9]
     ensures { (k : CellSnapshot) → words.now ≡ words_of k → result ≡ words_of (record k { spec_horizon = spec_horizon }) }
 {
     [
-        words[0], words[1], words[2], words[3], words[4], words[5], words[6], words[7], spec_horizon,
+        words[0],
+        words[1],
+        words[2],
+        words[3],
+        words[4],
+        words[5],
+        words[6],
+        words[7],
+        spec_horizon,
     ]
 }
 

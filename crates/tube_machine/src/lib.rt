@@ -3,12 +3,12 @@
 #![tactic(auto)]
 
 mod bus;
-mod skip_while;
 mod processor;
 mod run;
+mod skip_while;
 mod steps;
 
-pub use bus::{Done, Interrupts, TubeBus, AccessError};
-pub use skip_while::{SkipWhile, skip_over};
+pub use bus::{AccessError, Done, Interrupts, TubeBus};
 pub use processor::Processor;
+pub use skip_while::{SkipWhile, skip_over};
 pub use steps::{RunExit, advance_at, advance_seeing, answer, carry_on, look, take_lines};

@@ -8,7 +8,7 @@ ghost use Rattle.tube_party.specs.Transitions.{LookRunToAsk, PortRunToAsk, IsAsk
 ghost use Rattle.tube_machine.specs.Step.{at_of, transitions_of, asks, closed_to, next_state, is_last_tick, is_break, after_break, after_cycle};
 ghost use Rattle.tube_machine.specs.Exchange.{ready, IsDone, LeavesBus, IsRun, IsBudgetExhausted, IsAskedByte};
 
-use crate::bus::{TubeBus, AccessError};
+use crate::bus::{AccessError, TubeBus};
 use crate::processor::Processor;
 use crate::run::{LoopExit, go_quick};
 use beeb_bits::Tick;
@@ -238,7 +238,14 @@ pub fn carry_on<N, P: Processor, B: TubeBus<N>, D: TubePort>(
 {
     loop {
         let (at, stop) = go_quick::<N, P, B, D>(
-            cpu, bus, notes, *due, until.0, safe_until.0, lines, port,
+            cpu,
+            bus,
+            notes,
+            *due,
+            until.0,
+            safe_until.0,
+            lines,
+            port,
         );
         *due = at;
         match stop {

@@ -3,9 +3,9 @@ ghost use Rattle.std.specs.Prelude.{◌≡◌, true};
 ghost use Rattle.tube_party.specs.CodePassing.{MayPass};
 
 use crate::cursor::is_status;
-use crate::port::TubePort;
 use crate::log::Log;
 use crate::noting::note_own;
+use crate::port::TubePort;
 use beeb_bits::{Side, Tick};
 use tube_chip::{Chip, Op};
 use tube_trace::Entry;

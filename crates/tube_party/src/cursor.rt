@@ -10,8 +10,8 @@ ghost use Rattle.tube_party.specs.Replay.{chip_before, next_line, same_op, is_th
 ghost use Rattle.tube_party.specs.CodePassing.{IsStatusRead};
 ghost use Rattle.tube_party.specs.CodeCursor.{own_left, IsOwnAt, IsTaken, Takes, Misses};
 
-use crate::port::TubePort;
 use crate::party::MOST;
+use crate::port::TubePort;
 use crate::replaying::Doing;
 use beeb_bits::{Side, Tick, before};
 use std::marker::Model;

@@ -1,6 +1,6 @@
 //! A party that is never rolled back.
-use crate::port::TubePort;
 use crate::party::{Ask, Party};
+use crate::port::TubePort;
 use crate::rewinds::Rewinds;
 use beeb_bits::Tick;
 use std::alloc::{AllocError, Global};
@@ -52,7 +52,13 @@ impl<P: Party> Party for Forward<P> {
     }
 
     #[inline(always)]
-    fn advance_at<D: TubePort>(&mut self, until: Tick, lines: &Lines, safe_until: Tick, port: &mut D) -> Ask {
+    fn advance_at<D: TubePort>(
+        &mut self,
+        until: Tick,
+        lines: &Lines,
+        safe_until: Tick,
+        port: &mut D,
+    ) -> Ask {
         self.party.advance_at(until, lines, safe_until, port)
     }
 

@@ -1,20 +1,19 @@
 //! Parties at the Tube: a machine with a clock, two of them at one chip, and one against a trace.
 #![tactic(auto)]
 
+mod chip_port;
 mod cursor;
-mod port;
 mod forward;
 mod law;
 mod log;
 mod noting;
 mod one_thread;
 mod party;
+mod port;
 mod replaying;
 mod rewinds;
 mod stride;
-mod chip_port;
 
-pub use port::{NoPort, TubePort};
 pub use forward::Forward;
 pub use law::{
     brought_back_is_reference, legal_merge_is_reference, party_goes_on, reference_is_followed,
@@ -24,6 +23,7 @@ pub use log::{Log, LogMark};
 pub use noting::Room;
 pub use one_thread::{Done, go_on_from, solo};
 pub use party::{Ask, MOST, NO_LINES, Party};
+pub use port::{NoPort, TubePort};
 pub use replaying::{Doing, replay};
 pub use rewinds::Rewinds;
 pub use tube_chip::Answer;

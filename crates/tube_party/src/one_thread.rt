@@ -11,14 +11,14 @@ ghost use Rattle.tube_trace.specs.Entries.{IsEntry};
 ghost use Rattle.tube_party.specs.Reference.{reference};
 ghost use Rattle.tube_party.specs.GoingOn.{reference_from, after_entries};
 
+use crate::chip_port::{ChipPort, passes};
 use crate::cursor::is_status;
-use crate::port::TubePort;
 use crate::log::{Log, LogMark};
 use crate::noting::{Room, note_all};
 use crate::party::{Ask, MOST, Party};
+use crate::port::TubePort;
 use crate::rewinds::Rewinds;
 use crate::stride::Stride;
-use crate::chip_port::{ChipPort, passes};
 use beeb_bits::{Side, Tick};
 use std::alloc::Global;
 use tube_chip::{Answer, Chip, Lines};
@@ -321,7 +321,14 @@ pub fn go_on_from<H: Party, P: Rewinds>(
                 mark = chip_port.para_log.mark();
                 let ahead = stride.set_out(tick_of(asked));
                 (is_ahead, para_ask) = go_ahead(
-                    &mut para, &mut past, &mut chip_port, n, &lines, asked, ahead, &stride,
+                    &mut para,
+                    &mut past,
+                    &mut chip_port,
+                    n,
+                    &lines,
+                    asked,
+                    ahead,
+                    &stride,
                 );
                 stride.grow();
             }

@@ -96,7 +96,13 @@ pub trait Party: Drop {
     /// Does what `advance_seeing` does, and the accesses that the port answers. It does
     /// `advance_seeing`, `TubePort::ask` and `answer` in turn; a machine may stop at an access that
     /// the port would answer.
-    fn advance_at<D: TubePort>(&mut self, until: Tick, lines: &Lines, safe_until: Tick, port: &mut D) -> Ask
+    fn advance_at<D: TubePort>(
+        &mut self,
+        until: Tick,
+        lines: &Lines,
+        safe_until: Tick,
+        port: &mut D,
+    ) -> Ask
         requires { until.0 ≤ MOST }
         ensures { PortRunToAsk transitions D.answers until.0 (shown_lines lines.now safe_until.0) (state self.old) (D.state port.old) result (state self.new) (D.state port.new) }
     {

@@ -3,8 +3,8 @@ ghost use Rattle.std.specs.Prelude.{◌≡◌, ◌≤◌, MatchOption};
 ghost use Rattle.tube_party.specs.Transitions.{PortRunToAnyAsk, shown_lines};
 ghost use Rattle.tube_party.specs.Turn.{IsPending};
 
-use crate::port::TubePort;
 use crate::party::{Ask, MOST, Party};
+use crate::port::TubePort;
 use beeb_bits::Tick;
 use std::alloc::{AllocError, Global};
 use tube_chip::Lines;

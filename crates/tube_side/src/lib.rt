@@ -6,7 +6,7 @@ mod mark;
 mod pause;
 mod spec_horizon;
 
-pub use at_cell::{wait_until_admitted, finish};
+pub use at_cell::{finish, wait_until_admitted};
 pub use mark::{GhostSpeculation, Mark};
 pub use pause::SpinThenPark;
 pub use spec_horizon::{speculate_first, speculate_more, wait_for_host};

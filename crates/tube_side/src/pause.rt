@@ -2,7 +2,7 @@
 use beeb_bits::{Side, Tick};
 use std::hint;
 use std::sync::Wait;
-use tube_cell::{Waker, TubeCell};
+use tube_cell::{TubeCell, Waker};
 
 // The number of polls of the waker before a side parks: some tenths of a millisecond. It is larger
 // if the other side was signalled and has not disarmed its waker yet, since that side may be about

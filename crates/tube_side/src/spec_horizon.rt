@@ -121,7 +121,12 @@ fn speculate_observed<D: GhostEvents, W: GhostSpeculation, R: Wait>(
 
 // Publishes the strides that are not published yet, up to tick `t`, by one exchange. Returns
 // `false` only if the words differed from those that the pass knew.
-fn speculate_on<W: GhostSpeculation, R: Wait>(rt: &R, cell: &TubeCell, pass: &mut Pass, t: Tick) -> bool
+fn speculate_on<W: GhostSpeculation, R: Wait>(
+    rt: &R,
+    cell: &TubeCell,
+    pass: &mut Pass,
+    t: Tick,
+) -> bool
     requires cell { pass.old.cell ≡ cell.now }
     requires side { pass.old.side ≡ Para }
     requires is_speculation { IsSpeculation W.speculation }
@@ -190,7 +195,12 @@ pub fn wait_for_host<W: GhostSpeculation, R: Wait>(
         }
         // A step at the tick before the speculative horizon is admitted exactly if the host has
         // reached that horizon.
-        pause.rest(rt, cell, pass.side(), Tick(spec_horizon.0.saturating_sub(1)));
+        pause.rest(
+            rt,
+            cell,
+            pass.side(),
+            Tick(spec_horizon.0.saturating_sub(1)),
+        );
     }
     unreachable!()
 }

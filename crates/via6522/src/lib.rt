@@ -1,8 +1,8 @@
 //! The 6522, or Versatile Interface Adapter, one microsecond at a time (6522 data sheet).
 #![tactic(auto)]
 
-mod interrupt_flags;
 mod chip;
+mod interrupt_flags;
 mod law;
 mod levels;
 mod quiet;

@@ -6,7 +6,7 @@ use std::alloc::Global;
 use std::test::Fail;
 use std::vec::Vec;
 use tube_chip::{Chip, Lines, Op};
-use tube_party::{Ask, NoPort, TubePort, Doing, Party, Rewinds, replay};
+use tube_party::{Ask, Doing, NoPort, Party, Rewinds, TubePort, replay};
 
 fn put(bytes: &mut Vec<u8>, start: usize, part: &[u8]) {
     for (i, byte) in part.iter().enumerate() {
@@ -395,7 +395,11 @@ fn is_ahead(
     ask: Option<Ask>,
     (clock, code, from, safe_until, goes): Row,
 ) -> Result<bool, Fail> {
-    let far = if goes == 1 { safe_until } else { machine.due().0 };
+    let far = if goes == 1 {
+        safe_until
+    } else {
+        machine.due().0
+    };
     with_new(begun(alloc, clock, code, from), |(other, _)| {
         let want = other.advance_seeing(END, &Chip::new().lines(), Tick(far));
         far <= safe_until && ask == Some(want) && same(machine, other)
@@ -469,7 +473,13 @@ const STRIDES: &str = "\
 #[tactic(auto, using(tube_party::specs::Steps::left_pending))]
 fn strode(machine: &mut ParaMachine, past: &mut Past, safe_until: u64, far: u64) -> Option<Ask> {
     let lines = Chip::new().lines();
-    if let Some(Ask::Look(t)) = machine.advance_noting(END, &lines, Tick(safe_until), past, &mut NoPort) {
+    if let Some(Ask::Look(t)) = machine.advance_noting(
+        END,
+        &lines,
+        Tick(safe_until),
+        past,
+        &mut NoPort,
+    ) {
         let look = Ask::Look(t);
         return Some(machine.advance_on(look, END, &lines, Tick(far), past, &mut NoPort));
     }
@@ -503,7 +513,9 @@ fn new_ones_stride(alloc: Global, (clock, code, safe_until, far, _): Row) -> Res
     );
     with_new(
         pair(others, || past(alloc)),
-        |(((machine, twin), other), past)| { are_strides(machine, twin, other, past, (safe_until, far)) },
+        |(((machine, twin), other), past)| {
+            are_strides(machine, twin, other, past, (safe_until, far))
+        },
     )
 }
 
@@ -621,7 +633,8 @@ fn is_answered(
     with_new(
         pair(others, || past(alloc)),
         |(((machine, twin), other), past)| {
-            other.1.is_none() && are_answered(&mut machine.0, &twin.0, &other.0, past, safe_until, want)
+            other.1.is_none()
+                && are_answered(&mut machine.0, &twin.0, &other.0, past, safe_until, want)
         },
     )
 }

@@ -31,7 +31,7 @@ enum Deed {
     PublishAndSpeculate(u16, u16),
 }
 
-use Deed::{Speculate, Learn, Publish, PublishAndSpeculate, Read, Reset, Write};
+use Deed::{Learn, Publish, PublishAndSpeculate, Read, Reset, Speculate, Write};
 
 const HOST: Side = Side::Host;
 

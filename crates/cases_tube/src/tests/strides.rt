@@ -15,7 +15,7 @@ use std::test::Fail;
 use std::thread::{Threads, join};
 use tube_cell::{Pass, TubeCell, Whole};
 use tube_chip::{Lines, Op};
-use tube_party::{Answer, Ask, TubePort, Log, Party, Rewinds};
+use tube_party::{Answer, Ask, Log, Party, Rewinds, TubePort};
 
 /// The end of the run.
 const END: u64 = 500;

@@ -13,7 +13,7 @@ use std::sync::Arc;
 use std::sync::atomic::Ordering;
 use std::test::Fail;
 use tube_chip::{Lines, Op};
-use tube_party::{Answer, Ask, TubePort, Done, MOST, Party, Rewinds, solo};
+use tube_party::{Answer, Ask, Done, MOST, Party, Rewinds, TubePort, solo};
 
 /// A talker's next step: a look, or an access. All answers before decide its register.
 #[derive(Clone, Copy, Debug, Drop, PartialEq, Eq)]
