@@ -1,5 +1,5 @@
 //! A file that is replaced whole or not at all.
-ghost use Rattle.std.specs.Prelude.{◌<◌, IsOk};
+ghost use Rattle.std.specs.Prelude.{◌≡◌, ◌<◌, IsOk, IsErr};
 
 use std::fs::{Metadata, OpenFile, OpenOptions};
 use std::io::{ErrorKind, Write};
@@ -91,7 +91,8 @@ fn rename_if_written<R: Files>(
     beside: &str,
     name: &str,
 ) -> io::Result<()>
-    ensures { IsOk result → IsOk written }
+    ensures done { IsOk result → IsOk written }
+    ensures cause { IsErr written → result ≡ written }
 {
     if written.is_ok() {
         rename_written(rt, &written, beside, name)

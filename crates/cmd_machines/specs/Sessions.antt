@@ -6,7 +6,7 @@ use Rattle.disc_image.specs.declared.Kind.TheVariants.{Ssd, Dsd}
 use Rattle.bus_plug.specs.Plug.{Plug}
 use Rattle.rom_set.specs.Roms.{Rom}
 use Rattle.cmd_words.specs.declared.keys.InputKind.{InputKind}
-use Rattle.cmd_words.specs.declared.keys.InputKind.TheVariants.{Os, Tube, Font, Disc, Keys}
+use Rattle.cmd_words.specs.declared.keys.InputKind.TheVariants.{Os, Tube, Font, Disc, Keys, Trace, Source, Image, State, Points}
 use Rattle.cmd_words.specs.declared.keys.InputKind.TheVariants as slots
 use Rattle.host_mach.specs.State.{HostState}
 use Rattle.para_mach.specs.State.{ParaState}
@@ -32,7 +32,11 @@ part_of i (slots.Rom n) = rom_of_slot i.roms n
 part_of i Font = i.font
 part_of i (Disc n) = if n == 0 then i.disc0 else i.disc1
 part_of i Keys = i.keys
-part_of i slot = None
+part_of i Trace = None
+part_of i Source = None
+part_of i Image = None
+part_of i State = None
+part_of i Points = None
 
 -- true if a disc is present and its kind has two sides
 abbrev pub has_two_sides : Kind → Option (List ℕ) → Bool

@@ -1,9 +1,9 @@
 -- The headline: the outputs of a `run` that ends with `Done`.
-use Rattle.std.specs.Prelude.{◌≡◌, ⊤, ℕ, List, Option, Some, IfSome, Ok}
+use Rattle.std.specs.Prelude.{◌≡◌, ⊤, ℕ, List, Option, None, Some, IfSome, Ok}
 use Rattle.beeb_files.specs.Counts.{Rose}
 use Rattle.beeb_files.specs.Files.{Files}
 use Rattle.cmd_words.specs.declared.keys.InputKind.{InputKind}
-use Rattle.cmd_words.specs.Command.{Command, run}
+use Rattle.cmd_words.specs.Command.{Command, check, asm, dis, replay, solo, run, resume, follow, gen}
 use Rattle.cmd_words.specs.Given.{Values, clock_of, save_of}
 use Rattle.cmd_words.specs.Keys.{keys}
 use Rattle.cmd_words.specs.Reads.{files_of}
@@ -49,4 +49,12 @@ pub record IsReferenceRun (plugs : List Plug) (ticks keep : ℕ) (out : List ℕ
 
 unfoldable pub Headline : List Plug → Option Command → World → World → Type 0
 Headline plugs (Some (run ticks out keep given)) old new = IfSome old.shelf.files (IsReferenceRun plugs ticks keep out given old new)
-Headline plugs c old new = ⊤
+Headline plugs (Some (check trace)) old new = ⊤
+Headline plugs (Some (asm part source out)) old new = ⊤
+Headline plugs (Some (dis part image origin out)) old new = ⊤
+Headline plugs (Some (replay side trace ticks out given)) old new = ⊤
+Headline plugs (Some (solo ticks out keep given)) old new = ⊤
+Headline plugs (Some (resume state ticks out keep given)) old new = ⊤
+Headline plugs (Some (follow side trace ticks out given)) old new = ⊤
+Headline plugs (Some (gen seed)) old new = ⊤
+Headline plugs None old new = ⊤

@@ -1,13 +1,13 @@
 -- The theorems of sessions and of listings: the outputs of `resume` and `follow` that end with
 -- `Done`.
-use Rattle.std.specs.Prelude.{◌≡◌, ⊤, ℕ, List, ◌∷◌, ◌++◌, Option, Some, Result, Ok, codes}
+use Rattle.std.specs.Prelude.{◌≡◌, ⊤, ℕ, List, ◌∷◌, ◌++◌, Option, None, Some, Result, Ok, codes}
 use Rattle.beeb_bits.specs.declared.Side.{Side}
 use Rattle.beeb_bits.specs.declared.Side.TheVariants.{Host, Para}
 use Rattle.op_table.specs.declared.names.Part.{Part}
 use Rattle.op_table.specs.declared.names.Part.TheVariants.{Nmos, Cmos}
 use Rattle.beeb_files.specs.Files.{say}
 use Rattle.cmd_words.specs.declared.keys.InputKind.{InputKind}
-use Rattle.cmd_words.specs.Command.{Command, resume, follow, ticks_of}
+use Rattle.cmd_words.specs.Command.{Command, check, asm, dis, replay, solo, run, resume, follow, gen, ticks_of}
 use Rattle.cmd_words.specs.Given.{Values, clock_of, save_of}
 use Rattle.cmd_words.specs.Reads.{reads}
 use Rattle.cmd_stages.specs.Plan as plans
@@ -82,4 +82,11 @@ ResumeAndFollow plugs (Some (follow Host trace ticks out given)) old new =
     IsListed (follow Host trace ticks out given) (host_of (setup_of given plugs)) host_transitions host_sight Nmos Host (choice_of given) out old new
 ResumeAndFollow plugs (Some (follow Para trace ticks out given)) old new =
     IsListed (follow Para trace ticks out given) (para_of (clock_of given)) para_transitions para_sight Cmos Para (choice_of given) out old new
-ResumeAndFollow plugs c old new = ⊤
+ResumeAndFollow plugs (Some (check trace)) old new = ⊤
+ResumeAndFollow plugs (Some (asm part source out)) old new = ⊤
+ResumeAndFollow plugs (Some (dis part image origin out)) old new = ⊤
+ResumeAndFollow plugs (Some (replay side trace ticks out given)) old new = ⊤
+ResumeAndFollow plugs (Some (solo ticks out keep given)) old new = ⊤
+ResumeAndFollow plugs (Some (run ticks out keep given)) old new = ⊤
+ResumeAndFollow plugs (Some (gen seed)) old new = ⊤
+ResumeAndFollow plugs None old new = ⊤

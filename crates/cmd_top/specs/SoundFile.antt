@@ -2,10 +2,10 @@
 -- `resume` or `replay host` ended with `Done`.
 use Rattle.std.specs.Prelude.{◌≡◌, ⊤, ℕ, List, Option, Some, None, IfSome, Result, Ok}
 use Rattle.beeb_bits.specs.declared.clock.Clock.{Clock}
-use Rattle.beeb_bits.specs.declared.Side.TheVariants.{Host}
+use Rattle.beeb_bits.specs.declared.Side.TheVariants.{Host, Para}
 use Rattle.beeb_files.specs.Files.{Files, bytes_of}
 use Rattle.cmd_words.specs.declared.keys.InputKind.{InputKind}
-use Rattle.cmd_words.specs.Command.{Command, replay, solo, run, resume, ticks_of}
+use Rattle.cmd_words.specs.Command.{Command, check, asm, dis, replay, solo, run, resume, follow, gen, ticks_of}
 use Rattle.cmd_words.specs.Given.{Values, clock_of, save_of, wav_of}
 use Rattle.cmd_words.specs.Reads.{reads}
 use Rattle.cmd_stages.specs.Plan as plans
@@ -69,4 +69,10 @@ SoundFile plugs (Some (run ticks out keep given)) old new =
     IfSome (wav_of given) (IsHeard (run ticks out keep given) given (reference_host plugs ticks given) old new)
 SoundFile plugs (Some (resume state ticks out keep given)) old new =
     IfSome (wav_of given) (IsHeard (resume state ticks out keep given) given (session_host plugs ticks) old new)
-SoundFile plugs c old new = ⊤
+SoundFile plugs (Some (replay Para trace ticks out given)) old new = ⊤
+SoundFile plugs (Some (check trace)) old new = ⊤
+SoundFile plugs (Some (asm part source out)) old new = ⊤
+SoundFile plugs (Some (dis part image origin out)) old new = ⊤
+SoundFile plugs (Some (follow side trace ticks out given)) old new = ⊤
+SoundFile plugs (Some (gen seed)) old new = ⊤
+SoundFile plugs None old new = ⊤

@@ -33,16 +33,30 @@ ticks_of (run ticks out keep given) = ticks
 ticks_of (resume state ticks out keep given) = ticks
 ticks_of (follow side trace ticks out given) = ticks
 ticks_of (gen seed) = 1000000
-ticks_of command = 0
+ticks_of (check trace) = 0
+ticks_of (asm part source out) = 0
+ticks_of (dis part image origin out) = 0
 
 -- the most accesses that a command keeps
 abbrev pub keep_of : Command → ℕ
 keep_of (solo ticks out keep given) = keep
 keep_of (run ticks out keep given) = keep
 keep_of (resume state ticks out keep given) = keep
-keep_of command = 0
+keep_of (replay side trace ticks out given) = 0
+keep_of (follow side trace ticks out given) = 0
+keep_of (gen seed) = 0
+keep_of (check trace) = 0
+keep_of (asm part source out) = 0
+keep_of (dis part image origin out) = 0
 
 -- true if a crew works a pair of jobs for the command
 abbrev pub is_paired : Command → Bool
 is_paired (run ticks out keep given) = true
-is_paired command = false
+is_paired (replay side trace ticks out given) = false
+is_paired (solo ticks out keep given) = false
+is_paired (resume state ticks out keep given) = false
+is_paired (follow side trace ticks out given) = false
+is_paired (gen seed) = false
+is_paired (check trace) = false
+is_paired (asm part source out) = false
+is_paired (dis part image origin out) = false

@@ -2,20 +2,33 @@
 use Rattle.std.specs.Prelude.{ℕ, ◌+◌, ◌≤◌, ◌&&◌, nat_le, nat_lt, Bool, true, IsTrue, List, [], ◌∷◌, ◌++◌, map, Option, Some, None}
 use Rattle.std.specs.List.{filter_map}
 use Rattle.cmd_words.specs.declared.keys.InputKind.{InputKind}
-use Rattle.cmd_words.specs.declared.keys.InputKind.TheVariants.{Trace, Source, Image, State, Rom, Points}
-use Rattle.cmd_words.specs.Keys.{Value, file, Key, keys}
+use Rattle.cmd_words.specs.declared.keys.InputKind.TheVariants.{Trace, Source, Image, State, Os, Tube, Rom, Font, Disc, Keys, Points}
+use Rattle.cmd_words.specs.Keys.{Value, file, output, numeric, one_of, four_digits, Key, keys}
 use Rattle.cmd_words.specs.Given.{Values}
 use Rattle.cmd_words.specs.Command.{Command, check, asm, dis, replay, solo, run, resume, follow, gen, ticks_of, keep_of}
 
 -- the most bytes of a file that an option names
 abbrev pub cap_of : InputKind → ℕ
 cap_of Points = 327680
-cap_of slot = 1048576
+cap_of Trace = 1048576
+cap_of Source = 1048576
+cap_of Image = 1048576
+cap_of State = 1048576
+cap_of Os = 1048576
+cap_of Tube = 1048576
+cap_of (Rom number) = 1048576
+cap_of Font = 1048576
+cap_of (Disc number) = 1048576
+cap_of Keys = 1048576
 
 -- the file that an option names
 abbrev pub file_of : Value → Option (List ℕ) → List (InputKind × List ℕ × ℕ)
 file_of (file slot) (Some name) = (slot, name, cap_of slot) ∷ []
-file_of value given = []
+file_of (file slot) None = []
+file_of output given = []
+file_of (numeric least most) given = []
+file_of (one_of words) given = []
+file_of four_digits given = []
 
 -- the files that the options name, in the order of their keys
 abbrev pub files_of : List Key → Values → List (InputKind × List ℕ × ℕ)
@@ -38,7 +51,16 @@ reads (gen seed) = []
 -- the number of a paged ROM's slot
 abbrev pub rom_slot : InputKind → Option ℕ
 rom_slot (Rom number) = Some number
-rom_slot slot = None
+rom_slot Trace = None
+rom_slot Source = None
+rom_slot Image = None
+rom_slot State = None
+rom_slot Os = None
+rom_slot Tube = None
+rom_slot Font = None
+rom_slot (Disc number) = None
+rom_slot Keys = None
+rom_slot Points = None
 
 -- the numbers of a command are within their limits
 abbrev pub IsLimited : Command → Type 0
