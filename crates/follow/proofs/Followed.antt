@@ -24,7 +24,7 @@ module _ {S : Type 0} (m : Transitions S) (lawful : IsLawful m) (side : Side) (t
   abbrev Told : Event → Type 0
   Told e = IsAnsweredBy trace e.tick e.side e.query e.answer
 
-  -- of so many steps
+  -- the induction hypothesis for `k` steps
   abbrev Holds : ℕ → Type 0
   Holds k =
       (more : ℕ) (s last : S) (events : List Event) (own : List Numbered) → n ≤ m.due s + more → n ≤ m.due last
@@ -34,7 +34,7 @@ module _ {S : Type 0} (m : Transitions S) (lawful : IsLawful m) (side : Side) (t
   over : (more : ℕ) (s : S) (own : List Numbered) → n ≤ m.due s → run_from m side trace n more s own ≡ []
   over more s own high = grind (arith, nat_tests)
 
-  -- behind a step
+  -- after a step
   module _ (k : ℕ) (on : Holds k) (more : ℕ) (s last : S) (enough : n ≤ m.due s + suc more) (high : n ≤ m.due last) where
     goes : (a : Option Answer) (events : List Event) (own : List Numbered) → Runs m side n k (m.next s a) (execution events last) → All Told events → accesses events ≡ entries own →
         s ∷ run_from m side trace n more (m.next s a) own ≡ s ∷ states_of m k (m.next s a) events

@@ -1,4 +1,4 @@
--- A replay of a party is the same, in whichever way its states are seen.
+-- A replay of a party is the same for both views of its states.
 use Rattle.std.proofs.Common.{ℕ, zero, suc, max, ◌≡◌, nat_lt, ap, List, [], ◌∷◌, length, Bool, true, false, Option, Some, None, if◌then◌else◌, refl}
 use Rattle.beeb_bits.specs.declared.Side.{Side}
 use Rattle.tube_chip.specs.declared.Op.{Op}
@@ -8,7 +8,7 @@ use Rattle.tube_party.specs.Transitions.{Transitions, close_leaves}
 use Rattle.tube_party.specs.Replay.{Numbered, Ended, own_from, is_that, access_step, one_step, replay_from, replay_of}
 use Rattle.follow.specs.Sight.{IsSame}
 
--- a state is closed in either way
+-- a state is closed the same in both views
 pub closed_to : {X S T : Type 0} {state : X → S} {m : Transitions S} {inside : X → T} {w : Transitions T} (same : IsSame state m inside w) (n : ℕ) (s : S)
     → close_leaves w (same.to s) n ≡ same.to (close_leaves m s n)
 closed_to {m = m} same n s = cc (same.closed s, same.close s (max n (m.closed s)))

@@ -1,4 +1,4 @@
--- A replay of a party that is watched is one of the party, and the starts of its run are kept.
+-- A replay of a watched party is one of the party, with the starts of its run.
 use Rattle.std.proofs.Common.{ℕ, zero, suc, ◌≡◌, ◌∙◌, ◌≤◌, nat_lt, refl, sym, ap, List, [], ◌∷◌}
 use Rattle.std.proofs.Common.{◌++◌, Bool, true, false, Option, if◌then◌else◌, append_assoc, arith}
 use Rattle.std.proofs.lemmas.List.{append-nil}
@@ -20,7 +20,7 @@ use Rattle.follow.proofs.Inside.{place_inside}
 use Rattle.follow.proofs.Tallying.{text_if_same}
 use Rattle.follow.proofs.Bounds.{counted_few, counted_low}
 
--- what is kept of some starts, and of those that are chosen
+-- the notes of some starts, and of the chosen ones
 some_more : (is : Bool) (x : StartState) (xs ys zs : List StartState) → zs ≡ (if is then xs ++ x ∷ [] else xs) ++ ys → zs ≡ xs ++ (if is then x ∷ ys else ys)
 some_more true x xs ys zs e = e ∙ append_assoc xs (x ∷ []) ys
 some_more false x xs ys zs e = e
@@ -37,14 +37,14 @@ module _ {S : Type 0} (m : Transitions S) (sights : S → Sight) (set : Order) w
   abbrev v : Transitions (Watched S)
   v = watched_transitions m sights
 
-  -- what is kept behind these states
+  -- the notes after these states
   abbrev pub kept_on : Kept → List S → Kept
   kept_on kept states = keep_all set.choice kept (starts_of m sights set.choice.watch states)
 
   abbrev pub ended_with : Ended S → Kept → Ended (Watched S)
   ended_with e kept = record { machine = watched_of e.machine set kept; place = e.place }
 
-  -- a state of the run, and those behind it
+  -- a state of the run, and those after it
   pub noted_on : (s : S) (kept : Kept) (states : List S) → kept_on (noted m sights s set.choice kept) states ≡ kept_on kept (s ∷ states)
   noted_on s kept states = grind arith
 
@@ -54,7 +54,7 @@ module _ {S : Type 0} (m : Transitions S) (sights : S → Sight) (set : Order) w
   either false e f kept xs ys one two = two
 
   module _ (side : Side) (trace : List Entry) (n : ℕ) where
-    -- that holds of so many steps
+    -- the induction hypothesis for `k` steps
     abbrev Holds : ℕ → Type 0
     Holds k = (s : S) (kept : Kept) (own : List Numbered) →
         replay_from v side trace n k (watched_of s set kept) own ≡ ended_with (replay_from m side trace n k s own) (kept_on kept (run_from m side trace n k s own))

@@ -1,4 +1,4 @@
--- One more start behind others.
+-- One more start after others.
 use Rattle.std.proofs.Common.{ℕ, ◌≡◌, ◌≤◌, ◌<◌, ◌+◌, ◌∙◌, arith, List, [], ◌∷◌, ◌++◌, length}
 use Rattle.std.proofs.Common.{take, true, false, nat_lt, if◌then◌else◌, length-append, take_all, ◌⊎◌, inl, inr}
 use Rattle.std.proofs.Common.{Option, Some, None, ◌&&◌, refl, sym, ap}
@@ -62,7 +62,7 @@ tallied_more counts t new starts after x so_far is more =
 pub tallied_without : (counts : Bool) (starts after : List StartState) → IsTallied counts None starts → IsTallied counts None after
 tallied_without counts starts after so_far = λ on. absurd (so_far on)
 
--- a start that is not chosen, and one that is, where it was counted before
+-- a start that is not chosen, and a chosen one that was counted before
 module _ {choice c : Choice} {trail t d : List StartState} {before b : Option (Option ℕ)} (counted : List StartState) (x : StartState) (one : t ≡ trail) (two : b ≡ before) (three : c ≡ choice)
     (four : d ≡ with_if (is_counted choice x.tick) counted x) where
   pub kept_left : is_chosen c b x.tick x.regs.pc x.watched ≡ false → kept_of t (Some x.watched) d ≡ keep choice (kept_of trail before counted) x

@@ -6,7 +6,7 @@ use Rattle.std.proofs.lemmas.Bool.Decides.{nat_tests}
 use Rattle.follow.specs.declared.points.PointsError.TheVariants.{BadLine, BadOrder}
 use Rattle.follow.specs.Points.{points_from, points_of_lines, BeginsBadly, points}
 
--- what was read of a text, with what is left of it
+-- the marks of the part of a text that was read, and the rest of it
 pub record ReadSoFar (text : List ℕ) (marked : List Bool) (line least : ℕ) (rest : List ℕ) : Type 0 where
   pub whole : points text ≡ points_from line least marked (points_of_lines rest)
   pub size : length marked ≡ 65536

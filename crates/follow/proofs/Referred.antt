@@ -1,4 +1,4 @@
--- The reference run of a party that is watched is that of the party, and the starts of its run are kept.
+-- The reference run of a watched party is that of the party, with the starts of its run.
 use Rattle.std.proofs.Common.{ℕ, zero, suc, ◌≡◌, ◌+◌, ◌∙◌, nat_eq, refl, ap, List, [], ◌∷◌, ◌++◌, Bool, None, if◌then◌else◌, arith}
 use Rattle.beeb_bits.specs.declared.Side.{Side}
 use Rattle.beeb_bits.specs.declared.Side.TheVariants.{Host, Para}
@@ -38,7 +38,8 @@ module _ {S : Type 0} (m : Transitions S) (sights : S → Sight) (set : Order) w
       → kept_on m sights set (kept_on m sights set kept (due_at m k s)) states ≡ kept_on m sights set kept (due_at m k s ++ states)
   kept_more k s kept states = grind arith
 
--- Where a replay of the watched party ends as its reference run does, the listing is that of the reference run.
+-- If a replay of the watched party ends as its reference run does, the listing is that of the
+-- reference run.
 
 module _ {S T : Type 0} (h : Transitions S) (sights : S → Sight) (p : Transitions T) (set : Order) where
   abbrev hv : Transitions (Watched S)

@@ -1,4 +1,4 @@
--- What is counted start by start is what is counted of all starts.
+-- The counts made start by start are the counts of all starts.
 use Rattle.std.proofs.Common.{ℕ, zero, suc, ◌≡◌, ◌+◌, ◌-◌, ◌*◌, ◌^◌, ◌≤◌, ◌<◌, ◌∙◌, refl}
 use Rattle.std.proofs.Common.{sym, ap, arith, min, List, [], ◌∷◌, ◌++◌, length, replicate, slice_index_or, slice_set, Bool}
 use Rattle.std.proofs.Common.{true, false, ◌&&◌, ◌||◌, ◌==◌, Option, None, Some, if◌then◌else◌, length-set}
@@ -15,7 +15,7 @@ use Rattle.follow.specs.Counts.{is_some_there, count_at, count_line, count_lines
 use Rattle.follow.specs.CodeTally.{Tallied, tallied, no_count, none_counted, none_tallied, sum_of, with_ticks, with_start}
 use Rattle.follow.specs.CodeTally.{ended_at, begun_at, last_of, tally, tally_all, table_lines, tallied_text, text_if}
 
--- one more start behind others
+-- one more start after others
 pub tally_push : (t : Tallied) (starts : List StartState) (x : StartState) → tally_all t (starts ++ x ∷ []) ≡ tally (tally_all t starts) x
 tally_push t [] x = refl
 tally_push t (s ∷ starts) x = tally_push (tally t s) starts x
@@ -36,7 +36,7 @@ since (Some last) pc tick = if last.pc == pc then tick - last.tick else 0
 abbrev pub weight : Bool → ℕ
 weight is = if is then 1 else 0
 
--- no sum there ends at the most that a word holds
+-- the sums there fit in a word
 record IsSmall (c : Count) : Type 0 where
   starts : c.starts ≤ 2 ^ 64 - 1
   ticks : c.ticks ≤ 2 ^ 64 - 1
@@ -121,7 +121,7 @@ total_more n pc c last x xs =
     (rw some_if (or_assoc c.branches _ _))
     (rw length_if (omega arith))
 
--- the table as it is where the run ends
+-- the table at the end of the run
 abbrev final : ℕ → Tallied → List Count
 final n t = ended_at t.table t.last n
 
@@ -136,7 +136,7 @@ all_length : (t : Tallied) (starts : List StartState) → length (tally_all t st
 all_length t [] = refl
 all_length t (x ∷ starts) = all_length (tally t x) starts ∙ tally_length t x
 
--- that of an address is what is counted there, beside what was counted before
+-- the count of an address is its count in the run, added to the count before
 entry : (n pc : ℕ) (t : Tallied) (starts : List StartState) → pc < length t.table → IsSmall (total n pc (at t.table pc) t.last starts)
     → at (final n (tally_all t starts)) pc ≡ total n pc (at t.table pc) t.last starts
 entry n pc t [] low small =

@@ -1,4 +1,4 @@
--- The steps of a party are those of the party that is watched, with what is kept of the starts.
+-- The steps of a watched party are those of the party, with notes of the starts.
 use Rattle.std.proofs.Common.{ℕ, zero, suc, ◌≡◌, ◌≤◌, ◌<◌, ◌∙◌, refl, arith, [], true, false, Some, None}
 use Rattle.beeb_bits.specs.declared.Tick.{Tick}
 use Rattle.beeb_bits.specs.declared.Side.TheVariants.{Host}
@@ -29,11 +29,12 @@ rise : {S : Type 0} {m : Transitions S} {n : ℕ} {last s : S} → IsLawful m �
 rise {m = m} {last = last} lawful Over = let d = m.due last in omega arith
 rise lawful (Silent {s = s} low none on) = omega (arith, lawful.rises s None, rise lawful on)
 
--- and then this is asked
+-- and then the party asks this
 asking : {S : Type 0} {m : Transitions S} {n : ℕ} {last s new : S} {ask : Ask} → Silently m n last s → IsAsk m n last ask new → Advances m n s ask new
 asking {m = m} {n = n} {last = last} silent asked = let some = runs_of m Host n silent in record { steps = some.0; last = last; runs = some.1; asked = asked }
 
--- Looks in two parts: after them the party advanced, and stopped at a step that is no sure look, or at one, which saw the lines.
+-- Looks in two parts. After them the party advanced, and stopped at a step that is no safe look, or
+-- at a safe one, which saw the lines.
 module _ {S : Type 0} {m : Transitions S} {n : ℕ} {lines : Lines} {safe_until : ℕ} {old cur : S} (mid : S) (first : (j : ℕ) × Looks m n (shown_lines lines safe_until) j old mid)
     (more : (k : ℕ) × Looks m n (shown_lines lines safe_until) k mid cur) where
   pub stops : {new : S} {ask : Ask} → Advances m n cur ask new → IsNotSafe safe_until ask → LookRunToAsk m n (shown_lines lines safe_until) old ask new
@@ -49,7 +50,7 @@ module _ {T : Type 0} {w : Transitions T} {sights : T → Sight} (seen : IsSeen 
   no_start : (t : T) → w.asks t ≡ None → (sights (w.next t None)).starting ≡ false
   no_start t h = grind arith
 
-  -- what is asked leaves the tick of the next step
+  -- a question leaves the tick of the next step
   due_asked : (n : ℕ) (last : T) (ask : Ask) (new : T) → IsAsk w n last ask new → w.due new ≡ w.due last
   due_asked n last ask new h = grind arith
 
@@ -57,13 +58,13 @@ module _ {T : Type 0} {w : Transitions T} {sights : T → Sight} (seen : IsSeen 
     ask_with : (n : ℕ) (last : T) (ask : Ask) (new : T) → IsAsk w n last ask new → IsAsk (watched_transitions w sights) n (watched_of last set kept) ask (watched_of new set kept)
     ask_with n last ask new h = grind arith
 
-    -- silent steps from a state that leaves what is kept, and each of them leaves it
+    -- silent steps from a state that changes no note, and each of them changes none
     steps_on : {n : ℕ} {last t : T} → noted w sights t set.choice kept ≡ kept → Silently w n last t
         → Silently (watched_transitions w sights) n (watched_of last set kept) (watched_of t set kept) × (noted w sights last set.choice kept ≡ kept)
     steps_on leaves Over = (Over, leaves)
     steps_on leaves (Silent {s = s} low none on) = let more = steps_on (rw (no_start s none)) on in (Silent low none (rw leaves more.0), more.1)
 
-    -- a start that is passed over leaves what is kept
+    -- a start that is skipped changes no note
     module _ (skip : SkipWhile) (leaves : LeavesKept set.choice kept.before skip) (n : ℕ) (lines : Lines) (safe_until : ℕ) where
       abbrev over : T → Type 0
       over s = IsSkipped skip (w.due s) (sights s).regs.pc (sights s).peek
@@ -92,7 +93,7 @@ module _ {T : Type 0} {w : Transitions T} {sights : T → Sight} (seen : IsSeen 
           let looks = passed k t last h in
           due_rises (watched_transitions w sights) n lines safe_until looks.0 (watched_of t set kept) (watched_of last set kept) (watched_lawful w sights seen) looks.1
 
--- ---- A party seen in another way
+-- ---- Another view of a party
 
 module _ {X S T : Type 0} {state : X → S} {m : Transitions S} {inside : X → T} {w : Transitions T} (same : IsSame state m inside w) where
   inside_due : (x : X) → w.due (inside x) ≡ m.due (state x)
@@ -135,7 +136,7 @@ module _ {X S T : Type 0} {state : X → S} {m : Transitions S} {inside : X → 
       pub advances_plain : (sights (inside x)).starting ≡ false → Advances (watched_transitions w sights) n (watched_of (inside x) set kept) ask (watched_of (inside y) set kept)
       advances_plain is = asking (steps_on seen set kept (rw is) way).0 (ask_with seen set kept n _ ask (inside y) asked)
 
-      -- where no step was done
+      -- if no step was done
       still_by : {last t : T} → Silently w n last t → w.due last ≤ w.due t → t ≡ last
       still_by Over low = refl
       still_by (Silent {s = s} below none on) low = absurd (omega (arith, seen.lawful.rises s None, rise seen.lawful on))
@@ -145,7 +146,7 @@ module _ {X S T : Type 0} {state : X → S} {m : Transitions S} {inside : X → 
           let here = still_by way (omega (arith, stopped, inside_due x, inside_due y, low)) in
           asking (rw here Over) (ask_with seen set kept n _ ask (inside y) asked)
 
-      -- where one was, and the start was noted
+      -- if one was done, and the start was noted
       first_by : {last t : T} → Silently w n last t → w.due t < w.due last
           → Silently (watched_transitions w sights) n (watched_of last set (noted w sights t set.choice kept)) (watched_of t set kept)
       first_by Over up = absurd (omega arith)

@@ -43,9 +43,9 @@ before_bytes place early = rw (lt-leb 7 place early)
 behind_bytes : (place : ℕ) → 12 < place → (nat_le 7 place && nat_le place 12) ≡ false
 behind_bytes place late = grind arith
 
--- ---- Which places are in time.
+-- ---- The places that are in time
 
--- The ID field of sector k.
+-- The ID field of sector `k`.
 abbrev of_address : Target → ℕ → Stream
 of_address target k = record {
   command = GivingAddress target k;
@@ -57,7 +57,7 @@ of_address target k = record {
   Over = λ x. (x.command ≡ Idle) × (x.sector ≡ target.head);
 }
 
--- nothing comes, and the command goes on
+-- no byte comes, and the command continues
 quiet : (target : Target) (k : ℕ) (s : State) (m : ℕ) → m < 896 → s.command ≡ GivingAddress target k → (m + 1 ≡ 896 → ⊥) →
     ((m + 1) % 64 ≡ 0 → 7 ≤ (m + 1) / 64 → (m + 1) / 64 ≤ 7 + 5 → ⊥) → Next (of_address target k) s (moved_on s k m) m
 unfolding moved_on
@@ -115,12 +115,12 @@ after_address s target k events at few all most =
     run (of_address target k) (address_goes target k few) (omega arith) events s (lets_go waiting s events all) (omega arith)
     at.command at.angle at.lost at.drq
 
--- ---- Which bytes are taken.
+-- ---- The bytes that are taken
 
 read_keeps : (reg : ℕ) (s : State) → (read_leaves reg s).sector ≡ s.sector
 read_keeps reg s = grind arith
 
--- the end is not undone by a program that waits
+-- A program that waits does not undo the end.
 over_kept : (target : Target) (e : Event) (s : State) → IsAccess e → Waits e → Accessed (is_data e) s (happens e s) →
     (s.command ≡ Idle) × (s.sector ≡ target.head) →
     ((happens e s).command ≡ Idle) × ((happens e s).sector ≡ target.head)
@@ -142,7 +142,7 @@ takes s target k events at few all most =
     (λ e x m got access may acc is. takes_access f bytes s e x m got (waits_read e may) acc (over_kept target e x access may acc) is)
     (count_steps events) events s all refl most (takes_first f bytes s (omega arith) at.command at.angle at.drq)
 
--- DRQ is off at the end, and nothing was lost
+-- DRQ is clear at the end, and nothing was lost
 record Served (s : State) : Type 0 where
   pub kept : s.lost_data ≡ false
   pub off : s.drq ≡ false
@@ -186,7 +186,7 @@ asked_for target m = SeekingAddress target (1000000 - m)
 address_command : (v : ℕ) (s : State) → 0xC0 ≤ v → v < 0xD0 → command_of v s ≡ address_of s
 address_command v s low high = grind (arith, le-ltb, lt-ltb)
 
--- where one sector of a track is on the disc all ten are, and none else
+-- If one sector of a track is on the disc, exactly the ten of the track are.
 on_disc_so : (o : Option Image) (target : Target) (k : ℕ) → is_on_disc o target 0 ≡ true → is_on_disc o target k ≡ nat_lt k 10
 on_disc_so o target k is = grind arith
 
@@ -197,7 +197,7 @@ and_false_between : (a b : Bool) → (a && false && b) ≡ false
 and_false_between true b = refl
 and_false_between false b = refl
 
--- no sector begins in the step behind m steps
+-- no sector begins in the step after `m` steps
 looks_on : (s0 : State) (target : Target) (k n : ℕ) → n < 200000 → is_on_disc (disc_in target.drive s0) target 0 ≡ true → ComesNext s0 k n →
     CountsFrom s0 (asked_for target) n
 unfolding asked_for
@@ -224,7 +224,7 @@ looks_on s0 target k n inside has next s m early w =
     let less : 1000000 - m - 1 ≡ 1000000 - (m + 1) = omega arith in
     ap (λ c. command_step c angle s1) w.command ∙ rw (none, lt-ltb 1 (1000000 - m) (omega arith), less)
 
--- the step at which one begins
+-- the step at which a sector begins
 finds : (s0 s : State) (target : Target) (k n : ℕ) → n < 200000 → is_single_density s0.latch ≡ true → is_on_disc (disc_in target.drive s0) target 0 ≡ true →
     s0.drq ≡ false → s0.lost_data ≡ false → ComesNext s0 k n → Waited s0 (asked_for target n) s n → IsAtAddress (step s) target k
 unfolding asked_for

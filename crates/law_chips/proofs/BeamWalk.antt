@@ -1,4 +1,5 @@
--- What each clock draws, and where the beam is then, while no register of the 6845 is written.
+-- The dots that each clock draws, and the position of the beam then, while no register of the 6845
+-- is written.
 use Rattle.std.proofs.Common.{◌≡◌, ◌∙◌, sym, ap, refl, ℕ, zero, suc, ◌+◌, ◌-◌, ◌*◌, ◌/◌, ◌%◌, ◌<◌, ◌≤◌, ◌==◌, ◌&&◌, ◌⊎◌, Bool, true, false, List, [], ◌∷◌}
 use Rattle.std.proofs.Common.{length, arith, inl, inr, subst, min, add-one}
 use Rattle.std.specs.Prelude.{slice_index, slice_set, if◌then◌else◌}
@@ -22,9 +23,9 @@ use Rattle.raster.specs.Clock.{begin_leaves, byte_dots, draw_byte_leaves, draw_c
 use Rattle.law_chips.specs.ShownBytes.{char_clocks, MicrosecondsAreClocks, sync_clock, MakesFrames}
 use Rattle.crtc6845.specs.Pictures.{sync_line, VerticalSyncComesInEachFrame}
 
--- ---- Counting round.
+-- ---- Counting in rounds
 
--- a number and one that is no more than a round past it
+-- a number and one at most a round later
 pub added : (w a j : ℕ) → 0 < w → j < w → ((a + j) % w ≡ a % w + j) ⊎ ((a + j) % w + w ≡ a % w + j)
 added w a j some small =
     let q = a / w in
@@ -42,7 +43,7 @@ added w a j some small =
           inr (omega arith)
     ]
 
--- a place further, or the next round's first
+-- the next place, or the next round's first
 pub next_place : (w n : ℕ) → 0 < w →
     (((n + 1) % w ≡ 0) × (((n + 1) / w ≡ n / w + 1) × (n % w + 1 ≡ w)))
     ⊎ (((n + 1) % w ≡ n % w + 1) × (((n + 1) / w ≡ n / w) × (n % w + 1 < w)))
@@ -54,7 +55,7 @@ test_true a b h = grind (arith, nat_tests)
 pub test_false : (a b : ℕ) → (a ≡ b → ⊥) → (a == b) ≡ false
 test_false a b h = grind (arith, nat_tests)
 
--- what comes at place r of each round comes at each round's length after it
+-- an event at place `r` of each round happens again a round's length later
 pub comes : (w r v : ℕ) → r < w → ((r + v) % w == r) ≡ (v % w == 0)
 comes w r v small =
     let turn : r + v ≡ v + r = omega arith in
@@ -99,11 +100,11 @@ pub record Inside (left x y : ℕ) : Type 0 where
 pub inside : (left x y : ℕ) → is_in_frame left x y ≡ true → Inside left x y
 inside left x y e = grind arith
 
--- where the dot at x and y is in the frame
+-- the place in the frame of the dot at `x` and `y`
 abbrev pub dot_index : ℕ → ℕ → ℕ → ℕ
 dot_index left x y = 640 * (y - 40) + (x - left)
 
--- dots from x on, so many of them, do not have the one at column p and line q
+-- The `many` dots from `x` on in line `y` do not include the one at column `p` and line `q`.
 abbrev pub IsApart : ℕ → ℕ → ℕ → ℕ → ℕ → Type 0
 IsApart p q x y many = (q ≡ y → ⊥) ⊎ ((p < x) ⊎ (x + many ≤ p))
 
@@ -161,7 +162,7 @@ drawn_dot left x y (suc d) (colour ∷ dots) frame within is long =
 
 -- ---- One clock.
 
--- what is drawn changes the working frame and the text alone
+-- A character that is drawn changes only the working frame and the text.
 record Draws (s x : State) : Type 0 where
   pub finished : x.finished ≡ s.finished
   pub crtc : x.crtc ≡ s.crtc
@@ -191,7 +192,7 @@ abbrev pub dots_at : List ℕ → ℕ → Beam → State → List ℕ
 dots_at ram size b s =
     byte_dots s.ula (slice_index ram (byte_address b.ma b.ra size)) b.ra (is_marked s.ula.control b.cursor s.cursor)
 
--- the frame that this character is drawn into, and what it leaves there
+-- the frame that this character is drawn into, and the frame afterwards
 abbrev pub frame_at : Beam → State → List ℕ
 frame_at b s = if b.frame_end then black else s.working
 
@@ -199,7 +200,7 @@ abbrev pub frame_after : List ℕ → ℕ → Beam → State → List ℕ
 frame_after ram size b s =
     if b.shown then dots_set 240 (place_at b s.place).x (place_at b s.place).y (dots_at ram size b s) (frame_at b s) else frame_at b s
 
--- what one clock leaves, by what the 6845 tells of it
+-- the raster after one clock, by the 6845's outputs
 pub record Clocked (ram : List ℕ) (size : ℕ) (b : Beam) (s x : State) : Type 0 where
   pub ula : x.ula ≡ s.ula
   pub place : x.place ≡ place_past (dots_of s.ula.control) (place_at b s.place)
@@ -226,7 +227,7 @@ one_crtc : (ram : List ℕ) (size : ℕ) (font : Font) (s : State) → (char_clo
 unfolding char_clock_leaves
 one_crtc ram size font s = (draws ram size font (beam_of s.crtc) (begin_leaves (beam_of s.crtc) (record s { crtc = clock_leaves s.crtc }))).crtc
 
--- ---- The 6845 and the ULA go by themselves.
+-- ---- The 6845 and the ULA do not depend on the raster.
 
 clocks_behind : (n : ℕ) (c : crtc.State) → clocks n (clock_leaves c) ≡ clock_leaves (clocks n c)
 clocks_behind zero c = refl
@@ -293,7 +294,7 @@ pub record Laws : Type 0 where
   pub columns : SyncComesInEachLine
   pub frames : VerticalSyncComesInEachFrame
 
--- ---- When the syncs begin.
+-- ---- The beginnings of the syncs
 
 sync_is_early : (c : crtc.State) → MakesFrames c → sync_line c.registers < frame_lines c.registers
 sync_is_early c makes = grind arith
@@ -317,7 +318,7 @@ line_begins : Laws → (c : crtc.State) → MakesFrames c → (t : ℕ) →
     (tells (sync_clock c.registers + t) c).line_start ≡ (t % line_characters c.registers == 0)
 line_begins laws c makes t = grind (arith, mul-add-mod_self_right)
 
--- ---- Where the beam is.
+-- ---- The position of the beam
 
 -- the place of the character of clock n
 abbrev pub place_in : (ℕ → List ℕ) → (ℕ → ℕ) → Font → State → ℕ → Place

@@ -1,4 +1,5 @@
--- Commands that are written: a search up to where its sector begins, and a motion up to its end.
+-- Commands that are written: a search up to the beginning of its sector, and a motion up to its
+-- end.
 use Rattle.std.proofs.Common.{◌≡◌, ◌∙◌, sym, ap, subst, refl, ℕ, ◌+◌, ◌-◌, ◌/◌, ◌%◌, ◌<◌, ◌≤◌, ◌==◌, ◌&&◌, Bool, true, false, List, arith, inl, inr, ◌*◌}
 use Rattle.std.proofs.Common.{◌||◌, min, max, not}
 use Rattle.std.specs.Prelude.{Some, nat_lt, if◌then◌else◌}
@@ -39,7 +40,7 @@ begun v s idle live other = rw (live, ne_eqb (v / 16) 0xD other, idle)
 sector_command : (v : ℕ) (s : State) → 0x80 ≤ v → v < 0xC0 → command_of v s ≡ sectors_of v s
 sector_command v s low high = rw (le-ltb v 0x80 low, lt-ltb v 0xC0 high)
 
--- what the command is m steps after its writing, with so many to settle
+-- the command `m` steps after its write, if the head settles for `left` steps
 settling : Transfer → ℕ → ℕ → Command
 settling t left m = if nat_lt m left then Settling t (left - m) else search_of t
 
@@ -56,14 +57,14 @@ over_is : (t : Transfer) (left : ℕ) → settling t left left ≡ search_of t
 unfolding settling
 over_is t left = grind arith
 
--- where the sector begins
+-- the beginning of the sector
 pub record Starts (s0 : State) (t : Transfer) (s : State) : Type 0 where
   pub at : IsAtSector s t s0.sector
   pub lost : s.lost_data ≡ false
   pub disc : disc_in t.target.drive s ≡ disc_in t.target.drive s0
   pub sector : s.sector ≡ s0.sector
 
--- a search has a sector as it had before the waiting
+-- a search has a sector if it had one before the program waited
 same_match : (s s1 : State) (t : Transfer) → s1.latch ≡ s.latch → s1.track ≡ s.track → s1.sector ≡ s.sector → s1.drive0 ≡ s.drive0 → s1.drive1 ≡ s.drive1 →
     has_match t s1 ≡ has_match t s
 same_match s s1 t latch track sector drive0 drive1 = grind arith
@@ -94,14 +95,14 @@ starts s v settles waits low high is =
       sector = found.3 ∙ sector;
     }
 
--- bit 5 tells a write from a read
+-- bit 5 separates writes from reads
 pub is_read : (v : ℕ) → 0x80 ≤ v → v < 0xA0 → bit v 5 ≡ false
 is_read v low high = ne_eqb (v / 32 % 2) 1 (λ e. omega arith)
 
 pub is_write : (v : ℕ) → 0xA0 ≤ v → v < 0xC0 → bit v 5 ≡ true
 is_write v low high = eq-eqb (v / 32 % 2) 1 (omega arith)
 
--- so many steps of the selected head, within so much time
+-- `steps` steps of the selected head, within the time of the command
 motion : ℕ → Bool → TrackChange → ℕ → State → Motion
 motion v inward track steps s = record { drive = drive_or_0 (drive_selected s.latch); steps = steps; inward = inward; track = track; verifies = bit v 2 }
 
@@ -118,7 +119,7 @@ counts m left = grind arith
 motion_command : (v : ℕ) (s : State) → v < 0x80 → command_of v s ≡ motion_of v s
 motion_command v s low = rw (lt-ltb v 0x80 low)
 
--- after its writing and some waiting
+-- after its write and some waiting
 waited : (s : State) (v : ℕ) (waits : List Event) (m : Motion) (left : ℕ) → v < 0x80 → IsGiven s waits → motion_of v s ≡ Moving m left → 0 < left →
     count_steps waits < left → Waited (write_leaves 0 v s) (counting m left (count_steps waits)) (history waits (write_leaves 0 v s)) (count_steps waits)
 unfolding counting
@@ -148,7 +149,7 @@ put_keeps Drive1 d s = refl
 renamed : (number : DriveNumber) (x y : State) → x.drive0 ≡ y.drive0 → x.drive1 ≡ y.drive1 → (drive_of number x).head ≡ (drive_of number y).head
 renamed number x y a b = ap (λ (d : Drive). d.head) (same_drive number x y a b)
 
--- What the end of a motion leaves.
+-- The state at the end of a motion.
 record Moved (m : Motion) (there value : ℕ) (before x : State) : Type 0 where
   pub over : x.command ≡ Idle
   pub asks : x.intrq ≡ true
@@ -162,7 +163,7 @@ record Moved (m : Motion) (there value : ℕ) (before x : State) : Type 0 where
 moved : (m : Motion) (s : State) → Moved m (head_after m s) (track_after m s) s (move_leaves m s)
 moved m s = grind arith
 
--- what a motion makes of the head, and of the track register
+-- the head, and the track register, after a motion
 head_by : Motion → ℕ → ℕ
 head_by m head = head_moved m.inward m.steps head
 
@@ -216,7 +217,7 @@ arrived s v waits m left low is moves some drive verifies end =
           ∙ ap (λ b. if m.steps == 0 then b else m.inward) (w.last_inward ∙ ap (λ (x : State). x.last_inward) written),
     )
 
--- ---- Which motion a command is.
+-- ---- The motion of each command
 
 is_restore : (v : ℕ) (s : State) → v < 0x10 → motion_of v s ≡ Moving (motion v false (Becomes 0) (head_selected s) s) (left_of v (head_selected s))
 unfolding motion left_of
@@ -247,7 +248,7 @@ some_left : (v n : ℕ) → 0 < left_of v n
 unfolding left_of
 some_left v n = omega arith
 
--- the time by which command it is
+-- the time of each command
 time_of_restore : (v : ℕ) (s : State) → v < 0x10 → motion_time v s ≡ left_of v (head_selected s)
 unfolding left_of
 time_of_restore v s low = rw (lt-ltb v 0x10 low)
@@ -289,7 +290,7 @@ sought s v waits low high is end =
       a.1 ∙ ap (λ b. if b then s.last_inward else nat_lt s.track s.byte) (no_steps s.byte s.track),
     )
 
--- a head that is where the track register says comes to where the data register says
+-- If the track register is the head's track, a seek moves the head to the data register's track.
 gets_there : (byte track : ℕ) → byte ≤ 83 → head_moved (nat_lt track byte) (max byte track - min byte track) track ≡ byte
 gets_there byte track small = grind arith
 

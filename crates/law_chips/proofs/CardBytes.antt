@@ -14,7 +14,7 @@ use Rattle.law_chips.specs.Cards.{CardRemembers}
 card : ℕ → List ℕ → Plug
 card page bytes = record { rules = card_rules; state = page ∷ bytes }
 
--- what an access leaves of the bytes
+-- the bytes after an access
 bytes_after : ℕ → Access → List ℕ → List ℕ
 bytes_after page (read at) bytes = bytes
 bytes_after page (write at v) bytes =
@@ -61,7 +61,7 @@ one_byte : (a : Access) (page of at : ℕ) (bytes : List ℕ) → IsAccess a →
 unfolding bytes_after
 one_byte a page of at bytes is long small low high = grind (arith, ne_eqb, le-leb, stored, eq-eqb, elsewhere, lt-leb)
 
--- what is answered in JIM, and by the page register
+-- the answers in JIM, and of the page register
 in_jim : (page at : ℕ) (bytes : List ℕ) → 0xFD00 ≤ at → plug_answer (card page bytes) at ≡ get_or bytes (card_place page at) 0
 unfolding card
 in_jim page at bytes low = grind arith

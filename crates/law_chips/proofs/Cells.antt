@@ -17,7 +17,7 @@ use Rattle.law_chips.specs.TeletextCells.{background}
 use Rattle.law_chips.specs.TeletextCells.{changes_height, held, pixels_of, CellsShowTheirCodes}
 use Rattle.law_chips.proofs.Flags.{by_bit}
 
--- what codes leave, the nearest first
+-- the effect of codes, the nearest first
 told : List ℕ → Style
 told before = record {
   foreground = colour before;
@@ -31,7 +31,7 @@ told before = record {
   held = held before;
 }
 
--- what one more code makes of a style
+-- the effect of one more code on a style
 more : ℕ → Style → Style
 more code s = record {
   foreground = if is_colour code then code % 8 else s.foreground;
@@ -49,7 +49,7 @@ more code s = record {
       else s.held;
 }
 
--- and what it makes of its own cell
+-- and its effect on its own cell
 own : ℕ → Style → Style
 own code s = record {
   foreground = s.foreground;

@@ -54,13 +54,13 @@ drawn_length false left x y dots frame long = long
 
 -- ---- A dot of the frame that is drawn.
 
--- a character that is not shown draws nothing, and one that is draws elsewhere
+-- A character that is not shown draws nothing. One that is shown draws other dots.
 stays_if : (is : Bool) (left p q x y : ℕ) (dots frame : List ℕ) → Inside left p q → (is ≡ true → IsApart p q x y (length dots)) →
     slice_index (if is then dots_set left x y dots frame else frame) (dot_index left p q) ≡ slice_index frame (dot_index left p q)
 stays_if true left p q x y dots frame here apart = others left p q x y dots frame here (apart refl)
 stays_if false left p q x y dots frame here apart = refl
 
--- another character of the same line, or one of another line, is elsewhere
+-- another character of the same line, or one of another line, has other dots
 columns_apart : (a b dots d : ℕ) → (a ≡ b → ⊥) → d < dots → (dots ≡ 8) ⊎ (dots ≡ 16) → (a * dots + d < b * dots) ⊎ (b * dots + dots ≤ a * dots + d)
 columns_apart a b dots d other within widths = grind arith
 
@@ -78,7 +78,8 @@ apart w a u j dots d many some more within widths bottom all = elim (cases_eq ((
 pub apart_at : (p q x y k l many : ℕ) → x ≡ k → y ≡ l → IsApart p q k l many → IsApart p q x y many
 apart_at p q x y k l many e g is = rw (e, g) is
 
--- clock n is so many clocks past the first vertical sync, and past the first horizontal one
+-- clock `n` is `t` clocks after the beginning of the first vertical sync, and `a` after that of the
+-- first horizontal one
 pub record IsClock (r : crtc.Registers) (n t a : ℕ) : Type 0 where
   pub vertical : sync_clock r + t ≡ n
   pub horizontal : r.horizontal_sync_position + a ≡ n
@@ -265,7 +266,7 @@ dot_is u byte ra marked d within = by_test (bit ra 3) where
   by_test true = get_or-replicate (dots_of u.control) d (under_cursor marked 0) 0 within
   by_test false = get_or-map-range_with_len (dot_colour u byte marked) 0 (dots_of u.control) d d 0 within (omega arith)
 
--- on which characters the cursor was, by what was told at them
+-- the characters that the cursor was on, by the 6845's outputs at them
 pub cursor_was : (ram : ℕ → List ℕ) (size : ℕ → ℕ) (font : Font) (s : State) (n : ℕ) → 3 ≤ n →
     (char_clocks ram size font n s).cursor ≡ cursor_before s.crtc n
 cursor_was ram size font s n three =
@@ -303,7 +304,7 @@ colour_is count characters ram size font s n d makes three is within =
     ∙ ap (λ k. dot s.ula (character_address r n) k (cursor_before s.crtc n)) level
     ∙ dot_is s.ula (byte_at (ram n) (size n) r n) (raster_at r n) (is_marked_at s.ula.control s.crtc n) d within
 
--- what each character draws
+-- the dots that each character draws
 pub bytes_shown : (ram : ℕ → List ℕ) (size : ℕ → ℕ) (font : Font) (s : State) → bit s.ula.control 1 ≡ false →
     Shows 240 ram size font s (λ n. dots_at (ram n) (size n) (tells n s.crtc) (char_clocks ram size font n s))
 bytes_shown ram size font s off = record {

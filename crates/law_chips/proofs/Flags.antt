@@ -29,7 +29,7 @@ first_or_later flag up before now levels = grind arith
 none : (flag up before : Bool) → flag ≡ flag || has_active up before []
 none flag up before = grind arith
 
--- the same of a line that may be an output
+-- the same for a line that may be an output
 first_or_later_in : (out flag up before now : Bool) (levels : List Bool) →
     (flag || (not out && is_edge up before now)) || (not out && has_active up now levels) ≡ flag || (not out && has_active up before (now ∷ levels))
 first_or_later_in out flag up before now levels = grind arith
@@ -160,7 +160,7 @@ each P t1 t2 cb1 cb2 sr ca1 ca2 shift_register = sr
 each P t1 t2 cb1 cb2 sr ca1 ca2 line_ca1 = ca1
 each P t1 t2 cb1 cb2 sr ca1 ca2 line_ca2 = ca2
 
--- a write of this register leaves the flag as it is, or clears it, as the table says
+-- a write of this register leaves the flag as it is, or clears it, as the data sheet's table says
 IsAsTold : ℕ → ℕ → State → Flag → Type 0
 IsAsTold reg v c f = is_set f (write_leaves reg v c).flags ≡ (is_set f c.flags && not (is_cleared f (write reg v) c))
 
@@ -192,7 +192,7 @@ at_ifr : (v : ℕ) (c : State) (f : Flag) → IsAsTold 13 v c f
 unfolding IsAsTold
 at_ifr v c = each (IsAsTold 13 v c) refl refl refl refl refl refl refl
 
--- a register of which no write clears a flag
+-- a register whose writes clear no flag
 record IsOther (reg : ℕ) : Type 0 where
   pub orb : (reg == 0) ≡ false
   pub ora : (reg == 1) ≡ false
@@ -202,7 +202,7 @@ record IsOther (reg : ℕ) : Type 0 where
   pub sr : (reg == 10) ≡ false
   pub ifr : (reg == 13) ≡ false
 
--- two ways that leave the flags
+-- two branches that leave the flags
 either : (b : Bool) (c x y : State) → x.flags ≡ c.flags → y.flags ≡ c.flags → (if b then x else y).flags ≡ c.flags
 either true c x y p q = p
 either false c x y p q = q
@@ -329,7 +329,7 @@ line c =
     some_of (c.flags.timer1 && c.enabled.timer1) (c.flags.timer2 && c.enabled.timer2) (c.flags.cb1 && c.enabled.cb1) (c.flags.cb2 && c.enabled.cb2)
     (c.flags.shift && c.enabled.shift) (c.flags.ca1 && c.enabled.ca1) (c.flags.ca2 && c.enabled.ca2)
 
--- what a write to IER makes of a flag
+-- the effect of a write to IER on a flag
 marked : (up mark before : Bool) → (if up then before || mark else before && not mark) ≡ (if mark then up else before)
 marked up mark before = grind arith
 

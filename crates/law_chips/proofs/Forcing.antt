@@ -1,4 +1,4 @@
--- A forced interrupt, and what comes behind it.
+-- A forced interrupt, and the events after it.
 use Rattle.std.proofs.Common.{arith, ◌≡◌, sym, subst, refl, ℕ, ◌/◌, ◌≤◌, ◌==◌, ◌&&◌, ◌||◌, not, Bool, true, false, List, [], ◌∷◌}
 use Rattle.std.specs.Prelude.{if◌then◌else◌}
 use Rattle.std.proofs.lemmas.Bool.{eq-eqb}

@@ -13,7 +13,7 @@ use Rattle.wd1770.specs.Sectors.{sector_ended, reading_at, writing_at}
 use Rattle.wd1770.specs.Addresses.{address_at}
 use Rattle.wd1770.specs.Step.{next_angle, command_step, step}
 
--- where x lost nothing, s had not either
+-- if `x` lost nothing, `s` had lost nothing either
 Keeps : State → State → Type 0
 Keeps s x = x.lost_data ≡ false → s.lost_data ≡ false
 

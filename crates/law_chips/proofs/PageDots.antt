@@ -39,7 +39,7 @@ in_text p q x y s on = grind arith
 in_cells : (p q : Bool) (x y s : State) → q ≡ true → (if p then (if q then x else y) else s).working ≡ (if p then x.working else s.working)
 in_cells p q x y s on = grind arith
 
--- the code of a character, as the 6845 tells of it
+-- the code of a character, by the 6845's outputs
 pub told_code : List ℕ → ℕ → Beam → ℕ
 told_code ram size b = slice_index ram (byte_address b.ma b.ra size) % 128
 
@@ -77,7 +77,7 @@ bottom_kept b t = grind arith
 pub codes_at : (b : Beam) (t : Text) (p : Bool) → b.line_start ≡ p → (text_at b t).codes ≡ (if p then row_start else t.codes)
 codes_at b t p is = grind arith
 
--- what is told of a character that is shown
+-- the 6845's outputs for a shown character
 pub record Here (ram : ℕ → List ℕ) (size : ℕ → ℕ) (s : State) (n : ℕ) : Type 0 where
   pub code : told_code (ram n) (size n) (tells n s.crtc) ≡ code_at ram size s.crtc.registers n
   pub raster : (tells n s.crtc).ra ≡ raster_at s.crtc.registers n

@@ -94,7 +94,7 @@ one_clear z room shown made q after cleared stays = record { is = grind (arith, 
 has_capacity : (from : Side) (k : ℕ) (flags : Flags) → 1 ≤ capacity from k flags
 has_capacity from k flags = grind arith
 
--- ---- What an event makes of a register.
+-- ---- The effect of an event on a register
 
 number_low : (number : ℕ) → number < 8 → register_number number ≤ 4
 number_low number low = omega arith
@@ -102,7 +102,7 @@ number_low number low = omega arith
 number_some : (number : ℕ) → 1 ≤ register_number number
 number_some number = omega arith
 
--- A read by the side that reads it takes its byte, where the number is that of the byte.
+-- A read by the side that reads the register takes its byte, if the number is that of the byte.
 read_by_reader : (from : Side) (k number : ℕ) (c : State) → number < 8 → 1 ≤ k → k ≤ 4 →
     queue from k (read_by (reader from) (register_number number) c)
     ≡ (if register_number number == k then take_leaves (queue from k c) else queue from k c)
@@ -130,7 +130,7 @@ incoming_is : (from : Side) (k : ℕ) (c : State) → register k (incoming_bank 
 incoming_is Host k c = refl
 incoming_is Para k c = refl
 
--- It answers the front byte.
+-- The read gives the front byte.
 read_shows : (from : Side) (k number : ℕ) (c : State) → 1 ≤ k → (number == byte_number k) ≡ true →
     answer_of c (reader from) (Read number) ≡ front_of (queue from k c)
 read_shows from k number c low is =
@@ -311,7 +311,7 @@ one_event from k c e lk hk may answered = (each from e.side e.query k c e.answer
 
 -- ---- Runs.
 
--- what leaves and what comes, one event in front
+-- the bytes that leave and enter, with one event in front
 one_more : (left lefts here next comes more last : List ℕ) → left ++ next ≡ here ++ comes → lefts ++ last ≡ next ++ more →
     (left ++ lefts) ++ last ≡ here ++ (comes ++ more)
 one_more left lefts here next comes more last first rest =
@@ -326,7 +326,7 @@ all_queues from k c (e ∷ events) lk hk may answered =
     (over (comes from k) d events) (held_bytes (queue from k (after_from d events)))
     (one_event from k c e lk hk may.0 answered.0) (all_queues from k d events lk hk may.1 answered.1)
 
--- where nothing is destroyed
+-- if nothing is destroyed
 only_read : (from : Side) (k : ℕ) (c : State) (e : Event) → destroys from k c e ≡ false → leaves from k c e ≡ read_out from k c e
 only_read from k c e keeps = grind arith
 

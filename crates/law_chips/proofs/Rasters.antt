@@ -55,7 +55,7 @@ registers_have_their_bits = record { keeps = moved; reached = λ moves bytes. al
 
 -- ---- The 6845 of a raster.
 
--- what a clock draws is no part of the 6845
+-- The drawing of a clock does not change the 6845.
 choice : (b : Bool) (c : State) (x y : raster.State) → x.crtc ≡ c → y.crtc ≡ c → (if b then x else y).crtc ≡ c
 choice true c x y p q = p
 choice false c x y p q = q
@@ -101,7 +101,7 @@ pub keeps : (n : ℕ) (c : State) → (clocks n c).registers ≡ c.registers
 keeps zero c = refl
 keeps (suc n) c = keeps n (clock_leaves c) ∙ count_keeps (start_leaves c) ∙ start_keeps c
 
--- the start of a line changes the count of sync lines and of fields alone
+-- the start of a line changes only the counts of sync lines and of fields
 abbrev pub IsKept : State → State → Type 0
 IsKept c d = (s : ℕ) × ((f : ℕ) × (d ≡ record c { sync_lines = s; fields = f }))
 
@@ -154,7 +154,7 @@ characters lines c bits begins (suc n) =
 pub frame_some : (r : Registers) → 0 < frame_lines r
 frame_some r = grind arith
 
--- what is so of clock n, behind the start of a line
+-- the state of clock `n`, after the start of its line
 pub record AtClock (c : State) (n : ℕ) : Type 0 where
   pub registers : (start_leaves (clocks n c)).registers ≡ c.registers
   pub column : (start_leaves (clocks n c)).character ≡ n % line_characters c.registers
@@ -219,7 +219,7 @@ IsAt r l c = InRow r l c.adjust c.row c.raster ⊎ InAdjust r l c.adjust
 first_line : (r : Registers) (row raster : ℕ) (adjust : Option ℕ) → row ≡ 0 → raster ≡ 0 → adjust ≡ None → InRow r 0 adjust row raster
 first_line r row raster adjust a b none = grind arith
 
--- which of the ends of a line it is
+-- the kind of a line's end
 rows_line : (c : State) → is_row_done c ≡ true → (c.row == c.registers.vertical_total) ≡ true → is_last_line_in None c ≡ false →
     row_line_ended c ≡ adjust_begun c
 rows_line c done all other = grind arith
@@ -302,7 +302,7 @@ pub and_left : (a b : Bool) → a ≡ true → (a && b) ≡ b
 and_left true b e = refl
 and_left false b e = cc
 
--- the character is of no account here
+-- the character does not matter here
 last_by_line : (adjust : Option ℕ) (c : State) → is_last_line_in adjust (record c { character = 0 }) ≡ is_last_line_in adjust c
 last_by_line None c = refl
 last_by_line (Some a) c = refl
@@ -362,7 +362,7 @@ walk lines frames c bits begins (suc n) =
           ])
     ])
 
--- ---- What is shown.
+-- ---- The shown characters
 
 pub and_false : (a : Bool) → (a && false) ≡ false
 and_false true = refl

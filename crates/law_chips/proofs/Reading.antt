@@ -22,26 +22,26 @@ use Rattle.law_chips.proofs.Streams.{Taking, IsGiven, takes_step, takes_access}
 pub same_disc : (number : Option DriveNumber) (s s0 : State) → s.drive0 ≡ s0.drive0 → s.drive1 ≡ s0.drive1 → disc_in number s ≡ disc_in number s0
 same_disc number s s0 a b = grind arith
 
--- which place passes
+-- the place that passes
 pub no_place : (k m : ℕ) → ((m + 1) % 64 ≡ 0 → ⊥) → places_into k (64 * (312 * k) + m + 1) ≡ None
 no_place k m other = grind arith
 
 pub a_place : (k m : ℕ) → (m + 1) % 64 ≡ 0 → places_into k (64 * (312 * k) + m + 1) ≡ Some ((m + 1) / 64)
 a_place k m is = grind arith
 
--- the step behind m steps is at the next angle
+-- the step after `m` steps is at the next angle
 unfoldable pub moved_on : State → ℕ → ℕ → State
 moved_on s k m = record s { angle = Some (64 * (312 * k) + m + 1) }
 
 pub next_place : (k m : ℕ) → Some (64 * (312 * k) + m + 1) ≡ Some (64 * (312 * k) + (m + 1))
 next_place k m = grind arith
 
--- a step of the command, where sector k is among the ten of a track
+-- a step of the command, if sector `k` is one of the ten of a track
 pub worked_is : (s : State) (t : Transfer) (k m : ℕ) → k < 10 → m < 18432 → s.command ≡ Transferring t k → s.angle ≡ Some (64 * (312 * k) + m) →
     work_leaves s ≡ transfer_step t k (64 * (312 * k) + m + 1) (record s { angle = Some (64 * (312 * k) + m + 1) })
 worked_is s t k m few inside goes at = grind arith
 
--- such a step, where this is done at the places that pass by
+-- such a step, by the work at the places that pass
 pub at_each : (at : Option ℕ → State → State) (To : State → Type 0) (k m : ℕ) (s x : State) → x ≡ at (places_into k (64 * (312 * k) + m + 1)) s →
     ((m + 1) % 64 ≡ 0 → To (at (Some ((m + 1) / 64)) s)) → (((m + 1) % 64 ≡ 0 → ⊥) → To (at None s)) → To x
 at_each at To k m s x is passes_by none = elim (cases_eq ((m + 1) % 64) 0) [
@@ -62,7 +62,7 @@ before_bytes place early = rw (lt-leb 31 place early)
 pub behind_bytes : (place : ℕ) → 287 ≤ place → is_byte_place 31 place ≡ false
 behind_bytes place late = grind arith
 
--- Sector k, which is read.
+-- The bytes of sector `k`.
 abbrev pub of_sector : Transfer → ℕ → Stream
 of_sector t k = record {
   command = Transferring t k;
@@ -74,7 +74,7 @@ of_sector t k = record {
   Over = λ x. x.command ≡ command_behind t;
 }
 
--- nothing comes, and the command goes on
+-- no byte comes, and the command continues
 quiet : (t : Transfer) (k : ℕ) (s : State) (m : ℕ) → m < 18432 → s.command ≡ Transferring t k → (m + 1 ≡ 18432 → ⊥) →
     ((m + 1) % 64 ≡ 0 → 31 ≤ (m + 1) / 64 → (m + 1) / 64 ≤ 31 + 255 → ⊥) → Next (of_sector t k) s (moved_on s k m) m
 unfolding moved_on
@@ -152,7 +152,7 @@ is_given s t k d bytes has reads = record {
   counted = λ b x over. over;
 }
 
--- where a sector is found no byte has come
+-- no byte has come when a sector is found
 pub at_start : (s : State) (t : Transfer) (k : ℕ) (bytes : List ℕ) → IsAtSector s t k → Taking (of_sector t k) bytes s s 0 []
 at_start s t k bytes at = grind arith
 

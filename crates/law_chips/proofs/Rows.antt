@@ -1,4 +1,4 @@
--- Which rows of a teletext page are the lower ones of double height, clock by clock.
+-- The rows of a teletext page that are the lower ones of double height, clock by clock.
 use Rattle.std.proofs.Common.{◌≡◌, ◌∙◌, sym, ap, subst, refl, ℕ, zero, suc, ◌+◌, ◌*◌, ◌/◌, ◌%◌, ◌<◌, ◌≤◌, ◌==◌, ◌&&◌, ◌⊎◌, not, Bool, true, false, List}
 use Rattle.std.proofs.Common.{add-one, arith}
 use Rattle.std.proofs.Common.{inl, inr, true≢false}
@@ -21,16 +21,16 @@ use Rattle.law_chips.proofs.BeamWalk.{next_place, test_true, test_false}
 use Rattle.law_chips.proofs.Rasters.{frame_some, and_left, and_false, at_clock, not_last, kept, last_of, next_of, InRow, IsAt, walk}
 use Rattle.law_chips.proofs.PageDots.{told_code, told, bottom_kept, here}
 
--- what the laws of the 6845 say
+-- the laws of the 6845
 pub record Facts : Type 0 where
   pub lines : LinesHaveTheirCharacters
   pub frames : FramesHaveTheirClocks
   pub count : ShownAddressesCount
   pub shown : CharactersAreShown
 
--- ---- Where the next clock is.
+-- ---- The position of the next clock
 
--- in the same row, in the next one, behind the rows, or in the next frame
+-- in the same row, in the next one, after the rows, or in the next frame
 record Stays (c : Crtc) (n : ℕ) : Type 0 where
   pub frame : frame_index c.registers (n + 1) ≡ frame_index c.registers n
   pub row : row_at c.registers (n + 1) ≡ row_at c.registers n
@@ -48,14 +48,14 @@ record Begins (c : Crtc) (n : ℕ) : Type 0 where
   pub row : row_at c.registers (n + 1) ≡ 0
   pub restart : (tells n c).restart ≡ true
 
--- It is behind the rows.
+-- It is after the rows.
 Beyond : Crtc → ℕ → Type 0
 Beyond c n = c.registers.vertical_total < row_at c.registers (n + 1)
 
 abbrev Goes : Crtc → ℕ → Type 0
 Goes c n = (Stays c n ⊎ Steps c n) ⊎ (Begins c n ⊎ Beyond c n)
 
--- whether a row ends, by the parts of its test
+-- the end of a row, by the parts of its test
 ends_row_by : (e a d l : Bool) (w x y z : Bool) → e ≡ w → a ≡ x → d ≡ y → l ≡ z → (e && a && d && not l) ≡ (w && x && y && not z)
 ends_row_by e a d l w x y z p q s t = rw (p, q, s, t)
 
@@ -141,13 +141,13 @@ frame_grows r m n before = grind (arith, div_grows, frame_some)
 row_grows : (r : Registers) (m n : ℕ) → m ≤ n → frame_index r m ≡ frame_index r n → row_at r m ≤ row_at r n
 row_grows r m n before same = grind (arith, div-add-mod', div_grows)
 
--- ---- What a clock makes of the text.
+-- ---- The effect of a clock on the text
 
--- the codes of the line have one for double height only where the row has
+-- the codes of the line have one for double height only if the row has
 Covers : Text → Type 0
 Covers t = t.codes.had_double ≡ true → t.doubled ≡ true
 
--- the text behind a character, before the line or the row ends
+-- the text after a character, before the line or the row ends
 shown_text : Bool → ℕ → Text → Text
 shown_text shown code t = if shown then text_after code t else t
 
@@ -155,7 +155,7 @@ covers_on : (shown : Bool) (code : ℕ) (t : Text) → Covers t → Covers (show
 unfolding Covers shown_text codes_after
 covers_on shown code t is = grind arith
 
--- a row has such a code then if it had before, or the character has it
+-- a row then has such a code if it had one before, or the character has it
 doubled_on : (shown : Bool) (code : ℕ) (t : Text) → Covers t → (shown_text shown code t).doubled ≡ true →
     (t.doubled ≡ true) ⊎ ((shown ≡ true) × (code ≡ 0x0D))
 unfolding Covers shown_text codes_after
@@ -191,9 +191,9 @@ past_row b t p q = grind arith
 past_frame : (b : Beam) (t : Text) → b.restart ≡ true → text_past b t ≡ first_row t
 past_frame b t p = grind arith
 
--- ---- What holds at each clock of a row.
+-- ---- The invariant at each clock of a row
 
--- so far the row has a character with the code
+-- the row up to this clock has a character with the code
 record Had (ram : ℕ → List ℕ) (size : ℕ → ℕ) (r : Registers) (n : ℕ) : Type 0 where
   pub clock : ℕ
   pub earlier : clock < n
@@ -210,7 +210,7 @@ record Holds (ram : ℕ → List ℕ) (size : ℕ → ℕ) (font : Font) (s : St
   pub below : (m : ℕ) → IsAbove s.crtc.registers m n → Doubles ram size s.crtc.registers m → is_lower ram size font s n ≡ not (is_lower ram size font s m)
   pub plain : ((m : ℕ) → IsAbove s.crtc.registers m n → Doubles ram size s.crtc.registers m → ⊥) → is_lower ram size font s n ≡ false
 
--- the text during a clock, and behind its character
+-- the text during a clock, and after its character
 during : (ℕ → List ℕ) → (ℕ → ℕ) → Font → State → ℕ → Text
 during ram size font s n = text_at (tells n s.crtc) (char_clocks ram size font n s).text
 
@@ -296,7 +296,7 @@ module _ (facts : Facts) (ram : ℕ → List ℕ) (size : ℕ → ℕ) (font : F
       subst Covers (sym (next_text ram size font s on n ∙ past_plain b (behind ram size font s n) ends.0 ends.1))
       (covers_on b.shown (told_code (ram n) (size n) b) (during ram size font s n) (covered n))))
 
-  -- the row has the code behind a character
+  -- the row has the code after a character
   had_behind : (n : ℕ) →
       Holds ram size font s n → (behind ram size font s n).doubled ≡ true →
       Had ram size s.crtc.registers n ⊎ Doubles ram size s.crtc.registers n

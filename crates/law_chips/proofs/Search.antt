@@ -35,7 +35,7 @@ record Lost (s : State) : Type 0 where
   pub command : s.command ≡ Idle
   pub none : s.record_not_found ≡ true
 
--- the step at which it is over
+-- the step at which the search is over
 record IsOver (s : State) : Type 0 where
   pub lost : Lost s
   pub rests : Rests true s
@@ -45,7 +45,7 @@ searched : (s : State) (t : Transfer) (left : ℕ) → s.command ≡ Searching t
     work_leaves s ≡ search_step t left (next_angle s.angle) (record s { angle = Some (next_angle s.angle) })
 searched s t left is = grind arith
 
--- no sector is found in the step behind m steps
+-- no sector is found in the step after `m` steps
 NoneAt : State → Transfer → ℕ → Type 0
 NoneAt s0 t m = (has_match t s0 && ((next_angle s0.angle + m) % 200000 == sector_angle s0.sector)) ≡ false
 
@@ -54,7 +54,7 @@ here : (s0 s : State) (t : Transfer) (left m : ℕ) → Going s0 t left s m →
     ≡ (has_match t s0 && ((next_angle s0.angle + m) % 200000 == sector_angle s0.sector))
 here s0 s t left m going = grind arith
 
--- what a step leaves by whether the sector is found
+-- the state after a step, by the sector found or not
 step_by : (b : Bool) (s0 s : State) (t : Transfer) (left m : ℕ) → Going s0 t left s m →
     (has_match t s0 && ((next_angle s0.angle + m) % 200000 == sector_angle s0.sector)) ≡ b →
     let s1 : State = record s { angle = Some (next_angle s.angle) } in
@@ -108,7 +108,7 @@ lost_read reg s lost = grind arith
 
 -- ---- Runs.
 
--- the steps are over: what holds stays
+-- the steps are over, and the invariant stays
 run_over : (P : State → Type 0) → ((reg : ℕ) (s : State) → P s → P (read_leaves reg s)) → (events : List Event) (s : State) → AllWait events →
     count_steps events ≡ 0 →
     P s → P (history events s)
@@ -139,7 +139,7 @@ run_done P reads s0 t left last ends before none (latch v ∷ es) s m all count 
 begins : (s : State) (t : Transfer) (left : ℕ) → s.command ≡ Searching t left → Going s t left s 0
 begins s t left is = grind (arith, at_first)
 
--- the search goes on for so many steps
+-- the search continues for these steps
 runs_on : (s : State) (t : Transfer) (left last : ℕ) (events : List Event) → s.command ≡ Searching t left → last < left →
     ((i : ℕ) → i < last → NoneAt s t i) → AllWait events → count_steps events ≤ last → (history events s).command ≡ Searching t (left - count_steps events)
 runs_on s t left last events is before none all most =

@@ -64,7 +64,7 @@ ends_so s0 t k s m many end is = grind arith
 before_end : (m : ℕ) → m < 18432 → ((m + 1) % 64 ≡ 0 → (m + 1) / 64 ≡ 288 → ⊥) → m + 1 < 18432
 before_end m inside other = grind arith
 
--- what a command does at its places
+-- the work of a command at its places
 pub record Leaves (t : Transfer) (at : Option ℕ → State → State) : Type 0 where
   pub none : (s : State) → at None s ≡ s
   pub others : (place : ℕ) (s : State) → (place ≡ 288 → ⊥) → Regs s (at (Some place) s)
@@ -102,7 +102,7 @@ kept_first s = grind arith
 waits_give : (e : Event) → Waits e → Gives e
 waits_give e may = grind arith
 
--- what a sector does that is read
+-- the work of a sector that is read
 reading_leaves : (t : Transfer) (k : ℕ) → Leaves t (reading_at t k)
 reading_leaves t k = record {
   none = λ s. refl;
@@ -209,11 +209,11 @@ put_keeps number target k i v s = grind arith
 byte_keeps : (target : Target) (k i : ℕ) (s : State) → Regs s (byte_written target k i s)
 byte_keeps target k i s = grind arith
 
--- at any place but the end
+-- at any place except the end
 place_keeps : (t : Transfer) (k place : ℕ) (s : State) → (place ≡ 288 → ⊥) → Regs s (writing_at t k (Some place) s)
 place_keeps t k place s other = grind (arith, ne_eqb, either, byte_keeps)
 
--- what a sector does that is written
+-- the work of a sector that is written
 writing_leaves : (t : Transfer) (k : ℕ) → Leaves t (writing_at t k)
 writing_leaves t k = grind (arith, place_keeps, w_end)
 

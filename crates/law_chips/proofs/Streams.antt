@@ -23,9 +23,9 @@ use Rattle.std.proofs.lemmas.List.Folds.{list_any-append}
 use Rattle.wd1770.specs.declared.command.Command.{Command}
 use Rattle.law_chips.proofs.Losing.{kept_before}
 
--- ---- What an access leaves.
+-- ---- The effect of an access
 
--- one of the data register or another
+-- an access of the data register, or of another
 pub record Accessed (data_register : Bool) (s x : State) : Type 0 where
   pub command : x.command ≡ s.command
   pub angle : x.angle ≡ s.angle
@@ -38,7 +38,7 @@ pub record Accessed (data_register : Bool) (s x : State) : Type 0 where
 read_leaves_it : (reg : ℕ) (s : State) → Accessed (reg == 3) s (read_leaves reg s)
 read_leaves_it reg s = grind arith
 
--- a law of the registers that can be written while a command goes on
+-- a law of the registers that can be written while a command continues
 pub of_three : (P : ℕ → Type 0) → P 1 → P 2 → P 3 → (reg : ℕ) → 1 ≤ reg → reg ≤ 3 → P reg
 of_three P one two three reg low high = grind arith
 
@@ -74,7 +74,7 @@ accessed (read reg) s may is = read_leaves_it reg s
 accessed (write reg v) s may is = write_leaves_it reg v s may.0 may.1
 accessed (latch v) s may is = latch_leaves_it v s may
 
--- how many steps there are behind an event
+-- the number of steps after an event, if there were `m` before
 abbrev pub steps_behind : ℕ → Event → ℕ
 steps_behind m microsecond = m + 1
 steps_behind m (read reg) = m
@@ -102,7 +102,7 @@ pub record Program : Type 1 where
 pub reads_let : (e : Event) → Reads e → LetsGo e
 reads_let e may = grind arith
 
--- to wait is to read no more than a reader may
+-- a program that waits reads no more than a reader may
 pub waits_read : (e : Event) → Waits e → Reads e
 waits_read e may = grind arith
 
@@ -154,7 +154,7 @@ writing = record {
 pub more_places : (s : State) (m : ℕ) (e : Event) (es : List Event) → accesses m (e ∷ es) ≡ place_if (is_data e) m ++ accesses (steps_behind m e) es
 more_places s m e es = grind arith
 
--- any, and in which places it accesses the data register
+-- any program, and the places at which it accesses the data register
 abbrev pub letting_go : Program
 letting_go = record {
   may = λ s e. LetsGo e;
@@ -206,11 +206,11 @@ module _ (p : Program) (P : State → ℕ → List ℕ → Type 0) (last : ℕ)
       P (history events s) n (p.outs s 0 events)
   runs_all n events s all count most is = grind (arith, runs)
 
--- whether a place is among these
+-- true if a place is one of these
 unfoldable pub has_place : ℕ → List ℕ → Bool
 has_place place ps = list_any (λ p. p == place) ps
 
--- What one more access makes of a test on places.
+-- The effect of one more access on a test of places.
 pub any_push : (f : ℕ → Bool) (ps : List ℕ) (p : ℕ) → list_any f (ps ++ p ∷ []) ≡ (list_any f ps || f p)
 any_push f ps p = list_any-append f ps (p ∷ []) ∙ ap (λ b. list_any f ps || b) (or-false (f p))
 
@@ -234,14 +234,14 @@ any_now f ps p on = grind (arith, any_push, or_true)
 by_contrary : (a b : Bool) → (b ≡ false → a ≡ false) → a ≡ true → b ≡ true
 by_contrary a b h is = grind arith
 
--- what was lost stays so
+-- lost data stays set
 pub stays_lost : (s : State) → s.lost_data ≡ true → (step s).lost_data ≡ true
 stays_lost s is = by_contrary s.lost_data (step s).lost_data (kept_before s) is
 
 -- ---- A command that begins at the angle `base`, gives bytes 0 to l, byte i at its place `first` +
 -- i, and ends at its place `last`.
 
--- A byte was not taken, and is told to be lost.
+-- A byte was not taken, and lost data is set.
 pub record Missed (first l : ℕ) (s : State) (m : ℕ) (ps : List ℕ) : Type 0 where
   pub lost : s.lost_data ≡ true
   pub byte : ℕ
@@ -412,7 +412,7 @@ module _ (f : Stream) where
       subst (Either x m) (sym (append-nil ps))
       (inr (record { lost = acc.lost ∙ is.lost; byte = is.byte; inside = is.inside; over = is.over; missed = is.missed }))
 
-  -- where no byte has come
+  -- no byte has come
   begins : (s : State) → 1 ≤ f.first → s.command ≡ f.command → s.angle ≡ Some f.base → s.lost_data ≡ false → s.drq ≡ false →
       Fine s 0 []
   unfolding has_place
@@ -425,20 +425,20 @@ module _ (f : Stream) where
       (λ e s m ps access may acc is. accessed_in (is_data e) s (happens e s) m ps acc is)
       (count_steps events) events s all refl most (inl (begins s some command angle kept off))
 
--- how many bytes have come m steps after the beginning
+-- the number of bytes that have come `m` steps after the beginning
 abbrev pub come : Stream → ℕ → ℕ
 come f m = min (f.l + 1) (m / 64 - (f.first - 1))
 
--- what an access takes: the byte that waits, where it is one of the data register
+-- the byte that an access takes: the waiting one, if it is an access of the data register
 taken_is : (e : Event) (s : State) → Reads e → taken_by s e ≡ (if is_data e && s.drq then s.byte ∷ [] else [])
 taken_is e s may = grind arith
 
--- what is taken, and the byte that waits behind it
+-- the bytes taken, and the waiting one after them
 took : (b : Bool) (s x : State) (got : List ℕ) → Accessed b s x → (got ++ (if b && s.drq then s.byte ∷ [] else [])) ++ waiting_byte x ≡ got ++ waiting_byte s
 took b s x got acc = grind (arith, append-nil)
 
 module _ (f : Stream) (bytes : List ℕ) (s0 : State) where
-  -- m steps after the beginning in state s0, where these bytes have been taken
+  -- `m` steps after the beginning in state `s0`; the bytes `got` have been taken
   pub record Taking (s : State) (m : ℕ) (got : List ℕ) : Type 0 where
     pub going : m < 64 * f.last → s.command ≡ f.command
     pub over : 64 * f.last ≤ m → f.Over s
@@ -455,13 +455,13 @@ module _ (f : Stream) (bytes : List ℕ) (s0 : State) where
     pub gives : (s : State) (i : ℕ) → s.drive0 ≡ s0.drive0 → s.drive1 ≡ s0.drive1 → f.gives s i ≡ slice_index bytes i
     pub counted : (b : Bool) (s : State) → f.Over s → f.Over (count_leaves b s)
 
-  -- nothing waits_behind
+  -- no byte waits
   waits_on : (s x : State) (m : ℕ) (got : List ℕ) →
       ((m + 1) % 64 ≡ 0 → f.first ≤ (m + 1) / 64 → (m + 1) / 64 ≤ f.first + f.l → ⊥) → come f (m + 1) ≡ come f m → Next f s x m → Taking s m got →
       x.lost_data ≡ false → got ++ waiting_byte x ≡ take (come f (m + 1)) bytes
   waits_on s x m got none same next is kept = grind arith
 
-  -- a byte waits_behind
+  -- a byte waits
   one_comes : (s x : State) (m : ℕ) (got : List ℕ) → IsGiven → (m + 1) % 64 ≡ 0 → f.first ≤ (m + 1) / 64 → (m + 1) / 64 ≤ f.first + f.l → Next f s x m →
       Taking s m got → x.lost_data ≡ false → got ++ waiting_byte x ≡ take (come f (m + 1)) bytes
   one_comes s x m got given place low high next is kept = grind (arith, or_parts, append-nil, take_more)
@@ -488,6 +488,6 @@ module _ (f : Stream) (bytes : List ℕ) (s0 : State) where
       Taking s m got → Taking (happens e s) m (got ++ taken_by s e)
   takes_access e s m got may acc keeps is = grind (arith, taken_is, took)
 
-  -- where no byte has come
+  -- no byte has come
   pub takes_first : 1 ≤ f.last → s0.command ≡ f.command → s0.angle ≡ Some f.base → s0.drq ≡ false → Taking s0 0 []
   takes_first some command angle off = grind arith

@@ -31,7 +31,7 @@ use Rattle.law_chips.proofs.Search.{search_ends, within_turn}
 given : ℕ → List ℕ → Bool
 given i ps = list_any (is_in_time true i) ps
 
--- whether DRQ asks for a byte in this place
+-- true if DRQ asks for a byte at this place
 wants : ℕ → List ℕ → Bool
 wants place ps = if nat_lt place 12 then false else if nat_lt place 22 then not (given 0 ps) else if nat_lt place 30 then false else not (has_place place ps)
 
@@ -51,7 +51,7 @@ wants_next : (place : ℕ) (ps : List ℕ) → 30 ≤ place → wants place ps �
 unfolding wants
 wants_next place ps low = grind arith
 
--- a byte behind the first is given in one place
+-- a byte after the first is given at one place
 given_in : (i place : ℕ) (ps : List ℕ) → 1 ≤ i → place ≡ 29 + i → given i ps ≡ has_place place ps
 unfolding given has_place
 given_in i place ps some is = grind arith
@@ -73,7 +73,7 @@ record Fine (t : Transfer) (k : ℕ) (s : State) (m : ℕ) (ps : List ℕ) : Typ
   pub ahead : (p : ℕ) → m / 64 < p → has_place p ps ≡ false
   pub early : m / 64 < 12 → given 0 ps ≡ false
 
--- A byte was not given, and is told to be lost.
+-- A byte was not given, and lost data is set.
 record Missed (s : State) (m : ℕ) (ps : List ℕ) : Type 0 where
   pub lost : s.lost_data ≡ true
   pub byte : ℕ
@@ -109,14 +109,14 @@ none_over m not_first not_next i inside over = elim (over_cases i) [
       ]
 ]
 
--- a step that changes only the angle and DRQ, and at which the time of no byte ends
+-- a step that changes only the angle and DRQ, and ends the time of no byte
 plain : (t : Transfer) (k : ℕ) (s x : State) (m : ℕ) (ps : List ℕ) → NoneOver m → (m + 1 < 18432 → x.command ≡ Transferring t k) →
     x.angle ≡ Some (64 * (312 * k) + m + 1) → x.lost_data ≡ s.lost_data → (m + 1 < 64 * 285 → x.drq ≡ wants ((m + 1) / 64) ps) → Fine t k s m ps →
     Fine t k x (m + 1) ps
 unfolding NoneOver
 plain t k s x m ps none command angle kept drq is = grind arith
 
--- nothing comes in another place before the bytes
+-- no byte comes at another place before the bytes
 same_wants : (m : ℕ) (ps : List ℕ) → (m + 1 ≡ 64 * 12 → ⊥) → (m + 1 ≡ 64 * 22 → ⊥) → m + 1 < 64 * 30 → wants ((m + 1) / 64) ps ≡ wants (m / 64) ps
 same_wants m ps not_12 not_22 early = grind (arith, wants_none, wants_first, wants_no_more)
 
@@ -132,7 +132,7 @@ looks : (t : Transfer) (k : ℕ) (s : State) (m : ℕ) (ps : List ℕ) → m + 1
 unfolding moved_on
 looks t k s m ps now off had is = grind (arith, next_place, wants_no_more, over_cases)
 
--- whether the first byte was given, by whether DRQ asks for it still
+-- the first byte was given exactly if DRQ does not ask for it any more
 first_asked : (t : Transfer) (k : ℕ) (s : State) (m : ℕ) (ps : List ℕ) (b : Bool) → m + 1 ≡ 64 * 22 → s.drq ≡ b → Fine t k s m ps → given 0 ps ≡ not b
 first_asked t k s m ps b now drq is = grind (arith, wants_first)
 

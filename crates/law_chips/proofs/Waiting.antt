@@ -15,7 +15,7 @@ small_angle (Some a) = omega arith
 pub stays_off : (a b q : Bool) → q ≡ false → (if a then q else if b then false else q) ≡ false
 stays_off a b q off = grind arith
 
--- what m steps of waiting leave of a state
+-- the state after `m` steps of waiting
 pub record Waited (s0 : State) (c : Command) (s : State) (m : ℕ) : Type 0 where
   pub command : s.command ≡ c
   pub track : s.track ≡ s0.track

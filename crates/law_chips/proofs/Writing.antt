@@ -27,7 +27,8 @@ use Rattle.law_chips.proofs.Reading.{same_disc, moved_on, next_place, worked_is,
 use Rattle.law_chips.proofs.Losing.{kept_before}
 use Rattle.law_chips.proofs.Streams.{Accessed, IsAccess, is_data, writing, runs_all}
 
--- how many bytes have been written m steps after the sector was found, and for how many DRQ was set
+-- the number of bytes written `m` steps after the sector was found, and the number for which DRQ
+-- was set
 pub gone : ℕ → ℕ
 gone m = min 256 (m / 64 - 29)
 
@@ -37,7 +38,7 @@ asked m = min 256 (min 1 (m / 64 - 11) + min 256 (m / 64 - 29))
 pub owed : Bool → ℕ
 owed drq = if drq then 1 else 0
 
--- what the end of a sector leaves
+-- the state after the end of a sector
 record Ended (t : Transfer) (s x : State) : Type 0 where
   pub command : x.command ≡ command_behind t
   pub angle : x.angle ≡ s.angle
@@ -46,7 +47,7 @@ record Ended (t : Transfer) (s x : State) : Type 0 where
   pub byte : x.byte ≡ s.byte
   pub drq : x.drq ≡ s.drq
 
--- what a byte that is written leaves of the state
+-- the state after a byte is written
 pub record Put (target : Target) (number : Option DriveNumber) (k i v : ℕ) (s x : State) : Type 0 where
   pub command : x.command ≡ s.command
   pub angle : x.angle ≡ s.angle
@@ -59,7 +60,7 @@ put target number k i v s = grind arith
 same_kind : (side track sector i v : ℕ) (d : Image) → (byte_put side track sector i v d).kind ≡ d.kind
 same_kind side track sector i v d = grind arith
 
--- DRQ behind a byte
+-- DRQ after a byte
 owed_behind : (i : ℕ) (drq : Bool) → drq ≡ false → i < 256 → i + 1 + owed (drq || not (i == 255)) ≡ min 256 (i + 2)
 unfolding owed
 owed_behind i drq off low = grind arith
@@ -71,7 +72,7 @@ last_of i drq off = grind arith
 places_differ : (kind : Kind) (side track k i j : ℕ) → place kind side track k j ≡ place kind side track k i → j ≡ i
 places_differ kind side track k i j e = omega arith
 
--- ---- What a step at a place does.
+-- ---- The effect of a step at a place
 
 byte_place : (place : ℕ) → 30 ≤ place → place < 286 → is_byte_place 30 place ≡ true
 byte_place place low high = rw (le-leb 30 place low, lt-ltb place 286 high)
@@ -82,7 +83,7 @@ before_bytes place early = rw (lt-leb 30 place early)
 pub behind_bytes : (place : ℕ) → 286 ≤ place → is_byte_place 30 place ≡ false
 behind_bytes place late = grind arith
 
--- What is so of what a step at a place leaves, by which place it is.
+-- A property of the state after a step at a place, for each place.
 pub by_place : (P : State → Type 0) (t : Transfer) (k place : ℕ) (s : State) → (place ≡ 12 → P (record s { drq = true })) →
     (place ≡ 22 → s.drq ≡ true → P (finish_leaves (record s { lost_data = true }))) →
     (30 ≤ place → place < 286 → P (byte_written t.target k (place - 30) s)) → (place ≡ 288 → P (sector_ended t s)) →
@@ -96,11 +97,11 @@ pub writes_is : (t : Transfer) (k angle : ℕ) (s : State) → t.writes ≡ true
 writes_is t k angle s writes = grind arith
 
 module _ (d : Image) (t : Transfer) (k : ℕ) where
-  -- where a byte of the sector is
+  -- the place of a byte of the sector
   unfoldable pub at_byte : ℕ → ℕ
   at_byte i = place d.kind t.target.side t.target.head k i
 
-  -- m steps after sector k of disc d was found, where these bytes have been given
+  -- `m` steps after sector `k` of disc `d` was found; these bytes have been given
   pub record Inside (s : State) (m : ℕ) (bytes : List ℕ) : Type 0 where
     pub going : m < 18432 → s.command ≡ Transferring t k
     pub over : 18432 ≤ m → s.command ≡ command_behind t
@@ -118,7 +119,7 @@ module _ (d : Image) (t : Transfer) (k : ℕ) where
       Inside s m bytes → Inside (count_leaves before s) m bytes
   counted_inside s m bytes before is = grind arith
 
-  -- A step that changes only this much: the command, DRQ and the angle.
+  -- A step that changes only the command, DRQ and the angle.
   plain : (s x : State) (m : ℕ) (bytes : List ℕ) → Inside s m bytes →
       (m + 1 < 18432 → x.command ≡ Transferring t k) → (18432 ≤ m + 1 → x.command ≡ command_behind t) → x.angle ≡ Some (64 * (312 * k) + m + 1) →
       x.drive0 ≡ s.drive0 → x.drive1 ≡ s.drive1 → x.byte ≡ s.byte → gone (m + 1) ≡ gone m → length bytes + owed x.drq ≡ asked (m + 1) →
@@ -126,7 +127,7 @@ module _ (d : Image) (t : Transfer) (k : ℕ) where
       Inside x (m + 1) bytes
   plain s x m bytes is going over angle drive0 drive1 byte same count pending = grind arith
 
-  -- nothing comes
+  -- no byte comes
   passes : (s : State) (m : ℕ) (bytes : List ℕ) → m < 18432 → gone (m + 1) ≡ gone m → asked (m + 1) ≡ asked m →
       (m + 1 ≡ 18432 → ⊥) → Inside s m bytes → Inside (moved_on s k m) (m + 1) bytes
   unfolding moved_on
@@ -189,7 +190,7 @@ module _ (d : Image) (t : Transfer) (k : ℕ) where
 
   -- ---- Runs.
 
-  -- what holds of a run as long as nothing is lost
+  -- the invariant of a run while nothing is lost
   abbrev Within : State → ℕ → List ℕ → Type 0
   Within s m bytes = s.lost_data ≡ false → Inside s m bytes
 

@@ -46,7 +46,7 @@ last_written page of at [] b = b
 last_written page of at (a ∷ accesses) b = last_written (page_after a page) of at accesses (byte_after page of at a b)
 
 -- After each run from power-on, a read in JIM gives the byte that was last written there while the
--- selected page was selected, or 00. A read of FCFF gives the page.
+-- same page was selected, or 00. A read of FCFF gives the page.
 pub record CardRemembers : Type 0 where
   pub bytes : (accesses : List Access) (at : ℕ) → AreAccesses accesses → 0xFD00 ≤ at → at ≤ 0xFDFF →
       plug_answer (after_accesses accesses new_card) at ≡ last_written 0 (last_page accesses 0) at accesses 0

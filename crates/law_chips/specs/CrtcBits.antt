@@ -53,7 +53,8 @@ abbrev pub PutBits : List picture.Move → Type 0
 PutBits [] = ⊤
 PutBits (m ∷ moves) = PutsBits m × PutBits moves
 
--- Then a raster's 6845 is within its bits after each run from power-on.
+-- If each 6845 that is put into a raster is within its bits, the raster's 6845 is too, after each
+-- run from power-on.
 abbrev pub RastersHaveTheirBits : Type 0
 RastersHaveTheirBits =
     (moves : List picture.Move) → PutBits moves →

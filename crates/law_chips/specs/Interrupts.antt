@@ -17,7 +17,8 @@ status_is_read (read reg ∷ events) = (reg == 0) || status_is_read events
 status_is_read (write reg v ∷ events) = status_is_read events
 status_is_read (latch v ∷ events) = status_is_read events
 
--- The effect of Dx at once: registers, heads and discs stay as they were, and DRQ is clear.
+-- The effect of Dx at once: registers, heads and discs stay as they were. DRQ, lost data and record
+-- not found are clear.
 pub record LeavesRest (s x : State) : Type 0 where
   pub track : x.track ≡ s.track
   pub sector : x.sector ≡ s.sector

@@ -56,14 +56,13 @@ frame_number r n = (n - sync_clock r) / frame_clocks r
 abbrev pub finish_clock : crtc.Registers → ℕ → ℕ
 finish_clock r n = frame_start r (frame_number r n + 1)
 
--- ---- Which characters are shown.
+-- ---- The characters that are shown
 
 -- the raster of clock `n`, if its line is none of the vertical total adjust
 abbrev pub raster_at : crtc.Registers → ℕ → ℕ
 raster_at r n = line_at r n % row_lines r * raster_step r
 
--- A character is shown if it is one of the first R1 of its line, in one of the first R6 rows, and
--- the frame has the row.
+-- A character is shown if its column is below R1 and its row below R6, and the frame has the row.
 abbrev pub is_shown_at : crtc.Registers → ℕ → Bool
 is_shown_at r n =
     nat_lt (column_at r n) r.horizontal_displayed && nat_lt (row_at r n) r.vertical_displayed
@@ -128,8 +127,8 @@ pub record IsUnderWay (r : crtc.Registers) (n : ℕ) : Type 0 where
 -- Each dot of each shown character within the frame has the colour of its byte in the finished
 -- frame. This holds after the clock that finishes that frame, until the next one is finished. The
 -- byte and the screen's size are those at the character's clock, even if the RAM is written later.
--- The frame is 256 lines of 640 dots, from line 40 after the beginning of vertical sync on, and
--- from dot 240 after that of horizontal sync on.
+-- The frame is 256 lines of 640 dots. It begins at line 40 after the beginning of vertical sync,
+-- and at dot 240 after that of horizontal sync.
 abbrev pub FramesShowTheirBytes : Type 0
 FramesShowTheirBytes =
     (ram : ℕ → List ℕ) (size : ℕ → ℕ) (font : Font) (s : State) (n d m : ℕ) →

@@ -1,4 +1,4 @@
--- Which steps begin a sequence.
+-- The steps that begin a sequence.
 use Rattle.std.proofs.Common.{◌≡◌, refl, ℕ, Bool, true, false, cond, List, [], ◌∷◌, ◌++◌, length}
 use Rattle.std.specs.Prelude.{Option, None, slice_get}
 use Rattle.op_table.specs.declared.names.Part.{Part}
@@ -38,7 +38,7 @@ by_halt : (b : Bool) (c : State) (x : Option ℕ) → (b ≡ true → begun c �
 by_halt true c x is = is refl
 by_halt false c x is = behind c.seen x c.sequence
 
--- no access begins one
+-- no access begins a sequence
 pub access_not_begun : (part : Part) (c : State) (byte : ℕ) → begun (after_byte part c byte) ≡ None
 access_not_begun part c byte = by_halt _ c _ (halted_not_begun part c)
 

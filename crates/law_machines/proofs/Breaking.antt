@@ -1,4 +1,4 @@
--- When BREAK begins, step by step.
+-- The beginning of BREAK, step by step.
 use Rattle.std.proofs.Common.{◌≡◌, ◌∙◌, sym, ap, subst, refl, ℕ, zero, suc, ◌+◌, ◌-◌, ◌%◌, ◌<◌, ◌≤◌, ◌&&◌, ◌||◌, Bool, true, false, cond, List, [], ◌∷◌, ◌++◌, ◌⊎◌, inl, inr, append_assoc, arith}
 use Rattle.std.specs.Prelude.{Option, None, Some, is_none, nat_lt, nat_le, if◌then◌else◌}
 use Rattle.std.proofs.lemmas.Bool.{cases_Bool, true≢false, false≢true}
@@ -36,7 +36,7 @@ use Rattle.law_machines.proofs.HostCycles.{ended, last, some_cycles}
 
 -- ---- counts of breaks
 
--- how many have come by a tick
+-- the number of breaks that have come by a tick
 abbrev until : ℕ → List Event → ℕ
 until t [] = 0
 until t (e ∷ events) = cond (is_break_by t e) (1 + until t events) (until t events)
@@ -44,7 +44,7 @@ until t (e ∷ events) = cond (is_break_by t e) (1 + until t events) (until t ev
 until_is : (t : ℕ) (events : List Event) → until t events ≡ breaks_until t events
 until_is t events = is_count_by (until t) (is_break_by t) refl (λ e more. refl) events
 
--- how many breaks have a tick below this one
+-- the number of breaks with a tick below this one
 abbrev below : ℕ → List Event → ℕ
 below zero events = 0
 below (suc u) events = breaks_until u events
@@ -70,7 +70,7 @@ below_up (suc u) t events high =
     let up : until u events ≤ until t events = until_up events (omega (arith, high)) in
     omega (arith, up, until_is u events, until_is t events)
 
--- where more have come by t than below a tick, one is between
+-- If more have come by `t` than below a tick, one is between.
 record Between (low t : ℕ) (events : List Event) : Type 0 where
   pub break : ℕ
   pub pressed : HasBreak break events
@@ -110,7 +110,7 @@ between : (low : ℕ) {t : ℕ} {events : List Event} → below low events < bre
 between zero {t} {events} more = some_by events (omega (arith, more, until_is t events))
 between (suc u) {t} {events} more = more_by events (omega (arith, more, until_is u events, until_is t events))
 
--- and where one is between, more have come
+-- And if one is between, more have come.
 counted : (b late : Bool) (m : ℕ) → b ≡ true → late ≡ true → 0 < cond (b && late) (1 + m) m
 counted true true m is here = omega arith
 counted true false m is here = cc
@@ -160,7 +160,7 @@ more_below (suc u) {t} events has from high =
     let more : until u events < until t events = more_until events has (omega (arith, from)) high in
     omega (arith, more, until_is u events, until_is t events)
 
--- where none is pending at a tick, those that were taken are all up to it
+-- If none is pending at a tick, all breaks up to it are taken, and no later one.
 all_taken : {low : ℕ} (u : ℕ) {taken : ℕ} (events : List Event) → taken ≡ below low events → low ≤ u + 1 → nat_lt taken (breaks_until u events) ≡ false → taken ≡ below (suc u) events
 all_taken {low} u {taken} events is high none =
     let most : breaks_until u events ≤ taken = grind (arith, nat_tests, none) in
@@ -342,7 +342,7 @@ record Inv (script : List Event) (us : List ℕ) (s : HostState) : Type 0 where
   pub latest : (low ≡ 0) ⊎ ((u : ℕ) × Within u us × (low ≡ suc u))
   pub earlier : EachBy (λ u. (u < low) ⊎ ((u ≡ s.due) × (is_break s ≡ true))) us
 
--- where BREAK might begin at a tick, and all breaks up to it are taken behind the step
+-- BREAK might begin at a tick, and all breaks up to it are taken after the step.
 passes : {script : List Event} {us : List ℕ} {s y : HostState} {t : ℕ} → Inv script us s → chance s ≡ Some t → s.due ≤ t → y.bus.bus.board.script ≡ script →
     y.bus.bus.board.breaks ≡ below (suc t) script → suc t ≤ y.due → IsOnCycle y → Inv script (us ++ listed (chance s)) y
 passes {us} {s} {y} {t} inv at high same taken reached on =
@@ -363,7 +363,7 @@ passes {us} {s} {y} {t} inv at high same taken reached on =
     sooner u (inl low) = omega arith
     sooner u (inr here) = omega arith
 
--- where it might begin at none
+-- BREAK might begin at no tick.
 stays_so : {script : List Event} {us : List ℕ} {s y : HostState} → Inv script us s → chance s ≡ None → is_break s ≡ false → y.bus.bus.board.script ≡ script →
     y.bus.bus.board.breaks ≡ s.bus.bus.board.breaks → s.due ≤ y.due → IsOnCycle y → Inv script (us ++ listed (chance s)) y
 stays_so {script} {us} {s} {y} inv at free same taken high on =
@@ -381,7 +381,7 @@ stays_so {script} {us} {s} {y} inv at free same taken high on =
     kept u (inl low) = inl low
     kept u (inr here) = absurd (true≢false (sym here.1 ∙ free))
 
--- where the next step is the break step at that tick
+-- The next step is the break step at that tick.
 waits : (script : List Event) (us : List ℕ) (s y : HostState) (t : ℕ) → Inv script us s → chance s ≡ Some t → s.due ≤ t → is_break s ≡ false → y.bus.bus.board.script ≡ script →
     y.bus.bus.board.breaks ≡ s.bus.bus.board.breaks → y.due ≡ t → is_break y ≡ true → IsOnCycle y → Inv script (us ++ listed (chance s)) y
 waits script us s y t inv at high free same taken here breaks on =

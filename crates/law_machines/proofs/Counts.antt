@@ -1,4 +1,4 @@
--- How many cycles a processor has done.
+-- The number of cycles that a processor has done.
 use Rattle.std.proofs.Common.{◌≡◌, ◌∙◌, sym, ap, subst, refl, ℕ, zero, suc, ◌+◌, ◌<◌, ◌≤◌, Bool, true, false, cond, List, [], ◌∷◌, ◌++◌, length, arith}
 use Rattle.std.specs.Prelude.{Option, None, Some, is_none, IfSome, slice_get}
 use Rattle.std.proofs.lemmas.Bool.{false≢true}
@@ -30,7 +30,7 @@ goes_on (Some op ∷ []) r Nmi is = absurd (false≢true is)
 goes_on (Some op ∷ []) r Irq is = absurd (false≢true is)
 goes_on (Some op ∷ []) r Instruction is = read_again _ r _ is
 
--- a part that is halted never comes to an end
+-- a halted processor never ends its sequence
 pub never_ends : (part : Part) (c : State) → halted part c ≡ true → is_none (next_cycle part c) ≡ false
 never_ends Nmos c is = goes_on c.seen c.regs c.sequence is
 never_ends Cmos c is = absurd (false≢true is)
@@ -38,7 +38,7 @@ never_ends Cmos c is = absurd (false≢true is)
 pub stays : (part : Part) {c : State} (byte : ℕ) → halted part c ≡ true → after_byte part c byte ≡ c
 stays part byte is = rw is
 
--- else each cycle adds to what was seen
+-- otherwise each cycle adds to the bytes seen
 pub one_more : (part : Part) (c : State) (byte : ℕ) → halted part c ≡ false → length (after_byte part c byte).seen ≡ length c.seen + 1
 one_more part c byte runs =
     ap (λ b. length (cond b c (record c { seen = c.seen ++ shown_byte (next_cycle part c) byte ∷ [] })).seen) runs ∙ length_push c.seen (shown_byte (next_cycle part c) byte)
@@ -66,6 +66,6 @@ table part least c op seen row instruction over saw low is =
     ∙ ap (λ xs. slice_get (accesses part c.sequence c.regs xs) (length c.seen)) (sym saw) ∙ over in
     omega (arith, all, lacks (accesses part Instruction c.regs (Some op ∷ seen)) (length c.seen) none)
 
--- the cycles of a step and those behind it
+-- the cycles of a step and of the steps after it
 pub cycle_more : (before here more last : ℕ) → here ≡ before + 1 → more + here ≡ last → 1 + more + before ≡ last
 cycle_more before here more last one rest = omega arith

@@ -13,7 +13,7 @@ use Rattle.raster.specs.State.{State}
 use Rattle.raster.specs.Clock.{begin_leaves, show_leaves, char_clock_leaves}
 use Rattle.law_machines.specs.Frames.{char_clocks, FramesFinish, CursorStands}
 
--- what a clock draws is no part of the finished frame, nor of the 6845
+-- The drawing of a clock changes neither the finished frame nor the 6845.
 record Draws (s x : State) : Type 0 where
   pub finished : x.finished ≡ s.finished
   pub crtc : x.crtc ≡ s.crtc
@@ -43,7 +43,7 @@ clocks_behind : (n : ℕ) (c : chip.State) → clocks n (clock_leaves c) ≡ clo
 clocks_behind zero c = refl
 clocks_behind (suc n) c = clocks_behind n _
 
--- the 6845 goes by itself
+-- the 6845 does not depend on the raster
 by_itself : (ram : ℕ → List ℕ) (size : ℕ → ℕ) (font : Font) (n : ℕ) (s : State) → (char_clocks ram size font n s).crtc ≡ clocks n s.crtc
 by_itself ram size font zero s = refl
 by_itself ram size font (suc n) s =
@@ -89,7 +89,7 @@ grouped true true false d e = refl
 grouped true true true false e = refl
 grouped true true true true e = refl
 
--- the cursor, by what is told
+-- the cursor, by the 6845's outputs
 told_cursor : {r : chip.Registers} (x : chip.State) → (start_leaves x).registers ≡ r →
     (beam_of x).cursor
     ≡ ((beam_of x).shown && (((beam_of x).ma == cursor_address r) && (nat_le (r.cursor_start % 32) (beam_of x).ra && (nat_le (beam_of x).ra r.cursor_end
@@ -100,7 +100,7 @@ told_cursor x is =
     ∙ ap (λ (q : chip.Registers). (beam_of x).shown && (((beam_of x).ma == cursor_address q) && (nat_le (q.cursor_start % 32) (beam_of x).ra && (nat_le (beam_of x).ra q.cursor_end
     && blinks_on q.cursor_start (beam_of x).fields)))) is
 
--- the address counts where the character is shown
+-- the address counts if the character is shown
 where_shown : (is : Bool) {ma place : ℕ} (at : ℕ) (rest : Bool) → (is ≡ true → ma ≡ place) → (is && ((ma == at) && rest)) ≡ (is && ((place == at) && rest))
 where_shown true at rest same = rw (same refl)
 where_shown false at rest same = refl

@@ -65,7 +65,7 @@ fresh_at y {q} {r} cpu_is first =
     ∙ begins (bus_break_pending y.bus.bus y.due) (is_last_tick (cycle_of y) y.due) q r in
     first ∙ sym (ap (λ (b : Bool). if b then cycle_of y - 1 else 0) none)
 
--- behind a look or a break step
+-- after a look or a break step
 fresh_on : (y : HostState) (q : Sequence) (r : Regs) (t : ℕ) → y.cpu ≡ fresh q r → y.due ≡ t + 1 → t % cycle_of y ≡ cycle_of y - 1 → IsOnCycle y
 fresh_on y q r t cpu_is due_is ends = fresh_at y cpu_is (ap (λ (u : ℕ). u % cycle_of y) due_is ∙ behind (clock_of y.bus.bus) t ends)
 
@@ -78,7 +78,7 @@ none_left true true = refl
 none_left true false = refl
 none_left false h = refl
 
--- behind an access that began a cycle
+-- after an access that began a cycle
 access_on : {clock : Clock} (y : HostState) (t : ℕ) {k : ℕ} {p h v : Bool} → 0 < k → t % host clock ≡ 0 → clock_of y.bus.bus ≡ clock →
     y.due ≡ (if (p && h) || v then t + (host clock * k - 1) else t + host clock * k) → is_none (next_cycle y.cpu) ≡ v →
     (h ≡ true → (v ≡ false) × (halted y.cpu ≡ true)) → bus_break_pending y.bus.bus (t + (host clock * k - 1)) ≡ p → IsOnCycle y

@@ -20,7 +20,7 @@ use Rattle.law_machines.specs.Cycles.{the_cycle}
 use Rattle.law_machines.specs.HostTicks.{run, cycles, IsAccess, AllAccess, wait, takes, HostTakes, HostTakesTheTable}
 use Rattle.law_machines.proofs.Counts.{never_ends, stays, one_more, same_sequence, table, cycle_more}
 
--- the tick of the look, where a sequence is over
+-- the tick of the look, if a sequence is over
 tail : HostState → ℕ
 tail s = if is_none (next_cycle s.cpu) then 1 else 0
 
@@ -56,7 +56,7 @@ never (a ∷ answers) s is all =
     let same : (next_state s a).cpu ≡ s.cpu = (given_one s a all.0).1 ∙ stays Nmos _ is in
     never answers _ (ap halted same ∙ is) all.1
 
--- So what comes to its end was never halted.
+-- So a processor whose sequence ends was never halted.
 runs_on : (answers : List (Option Answer)) (s : HostState) → AllAccess answers s → next_cycle (run answers s).cpu ≡ None → halted s.cpu ≡ false
 runs_on answers s all over = elim (cases_Bool (halted s.cpu)) [
   | inl is ↦ absurd (true≢false (sym (ap is_none over) ∙ never answers s is all))
@@ -136,7 +136,7 @@ host_takes = record {
       behind_by (is_break x) _ answer over ∙ at_look s answers some all over;
 }
 
--- ---- How many cycles.
+-- ---- The number of cycles
 
 one_cycle : (o : Option Cycle) (cs : List Cycle) → is_none o ≡ false → length (the_cycle o ++ cs) ≡ 1 + length cs
 one_cycle None cs some = absurd (true≢false some)

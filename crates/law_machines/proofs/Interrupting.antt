@@ -1,4 +1,4 @@
--- Which sequence begins at a look, over runs of either processor.
+-- The sequence that begins at a look, over runs of either processor.
 use Rattle.std.proofs.Common.{◌≡◌, ◌∙◌, ap, refl, ℕ, ◌+◌, ◌≤◌, ◌==◌, ◌||◌, Bool, true, false, not, List, [], ◌∷◌, arith, ◌⊎◌, inl, inr}
 use Rattle.std.specs.Prelude.{Option, None, Some, if◌then◌else◌}
 use Rattle.beeb_bits.specs.Bits.{weight}
@@ -34,7 +34,7 @@ not_begun none is = cc
 
 -- ---- the second processor
 
--- what it has taken
+-- the counts that it has taken
 record Took (x y : ℕ) (s : para.ParaState) : Type 0 where
   pub resets : s.bus.resets ≡ x
   pub nmis : s.bus.nmis ≡ y
@@ -42,7 +42,7 @@ record Took (x y : ℕ) (s : para.ParaState) : Type 0 where
 abbrev para_after : Option Cycle → para.ParaState → Option Answer → para.ParaState
 para_after o s a = at.after_step Cmos para_bus_model o s a
 
--- a step behind which nothing begins takes nothing
+-- a step after which nothing begins takes no count
 look_takes : (resets prst : Bool) {h : para.ParaState} (r t : para.ParaState) {x y : ℕ} {q p : Sequence} → Took x y h → begun r.cpu ≡ Some q → begun t.cpu ≡ Some p →
     begun (if resets then (if prst then h else r) else t).cpu ≡ None → Took x y (if resets then (if prst then h else r) else t)
 look_takes true true r t th br bt none = th
@@ -60,7 +60,7 @@ goes_on [] s x y took on = took
 goes_on (a ∷ answers) s x y took on =
     goes_on answers (para_step.next_state s a) x y (step_takes (cmos.next_cycle s.cpu) a (record { resets = took.resets; nmis = took.nmis }) on.0) on.1
 
--- a look at which something begins takes both counts
+-- a look at which a sequence begins takes both counts
 same_count : {a b : ℕ} → not (a == b) ≡ false → b ≡ a
 same_count is = grind arith
 
@@ -77,7 +77,7 @@ look_took None s l over none is =
     begins_takes _ l.prst _ l none (record { resets = refl; nmis = refl }) (record { resets = refl; nmis = refl })
     (same_count) is
 
--- what begins at a look, by what was taken
+-- the sequence that begins at a look, by the counts taken
 look_choice : (resets prst : Bool) (h r t : para.ParaState) {q : Sequence} → begun h.cpu ≡ None → begun r.cpu ≡ Some Reset → begun t.cpu ≡ Some q →
     begun (if resets then (if prst then h else r) else t).cpu ≡ (if resets then (if prst then None else Some Reset) else Some q)
 look_choice true true h r t eh er et = eh

@@ -18,7 +18,7 @@ use Rattle.law_machines.specs.Cycles.{the_cycle}
 use Rattle.law_machines.specs.ParaTicks.{run, cycles, AllAccess, ParaTakes, ParaTakesTheTable}
 use Rattle.law_machines.proofs.Counts.{one_more, same_sequence, table, cycle_more}
 
--- the tick of the look, where a sequence is over
+-- the tick of the look, if a sequence is over
 tail : ParaState → ℕ
 tail s = if is_none (next_cycle s.cpu) then 1 else 0
 
@@ -26,7 +26,7 @@ due_tail : (c : Clock) (over : Bool) (t : ℕ) → (if over then t + (para c - 1
 due_tail c true t = omega (arith, some-para c)
 due_tail c false t = omega arith
 
--- an access, of the machine closed behind its first tick
+-- an access of the machine, which is closed after the access's first tick
 one : (o : Option Cycle) (s : ParaState) (a : Option Answer) → is_none o ≡ false →
     (after_step Cmos para_bus_model o s a).due + tail (after_step Cmos para_bus_model o s a) ≡ s.due + para s.bus.clock
 unfolding tail
@@ -96,7 +96,7 @@ para_takes = record {
       looks_on _ _ answer over free ∙ at_look s answers some all over;
 }
 
--- ---- How many cycles.
+-- ---- The number of cycles
 
 handed : (o : Option Cycle) (s : ParaState) (a : Option Answer) → is_none o ≡ false → (byte : ℕ) × ((after_step Cmos para_bus_model o s a).cpu ≡ after_byte s.cpu byte)
 handed None s a some = absurd (true≢false some)

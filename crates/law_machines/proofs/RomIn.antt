@@ -23,7 +23,7 @@ use Rattle.law_machines.proofs.Beginning.{over_not_begun, access_not_begun}
 not_reset : {q : Option Sequence} → q ≡ None → q ≡ Some Reset → ⊥
 not_reset none is = cc
 
--- no look but one that finds a reset begins one
+-- only a look that finds a reset begins one
 no_other : (nmi irq : Bool) (r : Regs) → Some (sequence_at_look nmi irq r) ≡ Some Reset → ⊥
 no_other true irq r is = cc
 no_other false irq r is = by_flag (irq && not (has_flag r.p INTERRUPT)) is
@@ -51,7 +51,7 @@ step_leaves None s a free =
     let l = lines_in a in
     look_leaves _ l.prst _ _ _ refl refl refl free
 
--- where a reset begins the boot ROM is in
+-- the boot ROM is in when a reset begins
 look_resets : (resets prst : Bool) (h r t : ParaState) → (IsReset h → ⊥) → r.bus.rom_in ≡ true → (IsReset t → ⊥) →
     IsReset (if resets then (if prst then h else r) else t) → (if resets then (if prst then h else r) else t).bus.rom_in ≡ true
 look_resets true true h r t nh er nt is = absurd (nh is)
@@ -66,7 +66,7 @@ reset_by None s a over is =
     look_resets (not (l.resets == s.bus.resets)) l.prst _ _ _ (not_reset (over refl)) refl
     (no_other (not (l.nmis == s.bus.nmis)) l.pirq (after s.cpu)) is
 
--- so it is at each state of a run at which one begins
+-- the boot ROM is in at each state of a run at which a reset begins
 resets_in : (answers : List (Option Answer)) (s : ParaState) → (IsReset s → s.bus.rom_in ≡ true) → IsReset (run answers s) → (run answers s).bus.rom_in ≡ true
 resets_in [] s here is = here is
 resets_in (a ∷ answers) s here is =
@@ -97,7 +97,7 @@ by_test (Some Nmi) = inr (λ is. cc)
 by_test (Some Irq) = inr (λ is. cc)
 by_test (Some Instruction) = inr (λ is. cc)
 
--- the last state of a run at which one begins, if there is one behind its first
+-- the last state of a run after its first at which a reset begins, if there is one
 record Last (s : ParaState) (answers : List (Option Answer)) : Type 0 where
   pub before : List (Option Answer)
   pub after : List (Option Answer)

@@ -97,7 +97,7 @@ none_below {k} (e ∷ events) high order =
     skipped true late = rw late
     skipped false late = refl
 
--- what one event adds in tick k: nothing, or a shot at it
+-- one event adds nothing in tick `k`, or a shot at it
 abbrev Adds : Bool → Bool → Bool → Bool → ℕ → ℕ → List ℕ → List ℕ → ℕ → Type 0
 Adds s by_then before now t k xs ys n =
     (if s && by_then then t ∷ xs else xs) ≡ (if s && before then t ∷ ys else ys) ++ replicate (if now && s then suc n else n) k
@@ -156,7 +156,7 @@ map_same : (f : ℕ → List ℕ) (n k : ℕ) → map f (replicate n k) ≡ repl
 map_same f zero k = refl
 map_same f (suc n) k = rw (map_same f n k)
 
--- ---- what no access changes
+-- ---- The parts that no access changes
 
 record Keeps (b x : BoardState) : Type 0 where
   pub script : x.script ≡ b.script
@@ -219,7 +219,7 @@ access_keeps : (c : Cycle) (b : BusState) → Keeps b.board (bus_after b c).boar
 access_keeps (Read at) b = read_keeps (place_of at) b at
 access_keeps (Write at v) b = write_keeps (place_of at) b at v
 
--- a step, of a host whose devices have come to it
+-- a step of a host whose devices have been run to it
 step_keeps : (breaks : Bool) (o : Option Cycle) (s : HostState) (a : Option Answer) →
     Keeps s.bus.bus.board (if breaks then after_break s else after_step o s a).bus.bus.board
 unfolding devices_reset

@@ -50,8 +50,8 @@ abbrev pub NoneBetween : ℕ → ℕ → List ℕ → Type 0
 NoneBetween break t [] = Unit {0}
 NoneBetween break t (u ∷ ticks) = ((u < break) ⊎ (u ≡ t)) × NoneBetween break t ticks
 
--- Tick `t` is the first at or after a break of the script at which BREAK may begin. The list has
--- the earlier ticks at which it may.
+-- A break of the script is at tick `t` or earlier. The ticks `before`, at which BREAK might have
+-- begun, are earlier than this break, or are `t`.
 pub record IsFirst (script : List Event) (t : ℕ) (before : List ℕ) : Type 0 where
   pub break : ℕ
   pub pressed : HasBreak break script

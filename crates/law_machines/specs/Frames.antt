@@ -35,9 +35,9 @@ pub record FramesFinish : Type 0 where
 abbrev pub place_of : chip.Registers → ℕ → ℕ
 place_of r n = (start_address r + row_at r n * r.horizontal_displayed + column_at r n) % 16384
 
--- From the first clock of a frame on that begins at the start address, the cursor is on each shown
--- character at the cursor's address, on the rasters from R10's low five bits to R11, as it blinks.
--- It is on no other.
+-- A frame begins at the start address. From its first clock on, the cursor is on each shown
+-- character at the cursor's address, and on no other. It blinks, on the rasters from R10's low five
+-- bits to R11.
 abbrev pub CursorStands : Type 0
 CursorStands =
     (c : chip.State) (n : ℕ) → HaveTheirBits c.registers → BeginsFrame c → c.base ≡ start_address c.registers →

@@ -1,5 +1,6 @@
--- The duration of a sequence of the host: an instruction, a reset, an NMI or an IRQ, from its first
--- access to the look after its last one, or to the break step in place of that look.
+-- The duration of a sequence of the host: an instruction, a reset, an NMI or an IRQ. It begins with
+-- the first access, and ends with the look after the last one, or with the break step in place of
+-- this look.
 -- (MCS6500 Hardware Manual, summary of single cycle execution; BBC Microcomputer Advanced User
 -- Guide, the 1 MHz bus.)
 use Rattle.std.specs.Prelude.{ℕ, ◌+◌, ◌-◌, ◌*◌, ◌/◌, ◌%◌, ◌||◌, Bool, ◌≡◌, ◌≤◌, ◌<◌, ◌==◌, false, List, [], ◌∷◌, ◌++◌, length, Option, Some, None, is_none, if◌then◌else◌}
@@ -41,8 +42,8 @@ abbrev pub AllAccess : List (Option Answer) → HostState → Type 0
 AllAccess [] s = Unit {0}
 AllAccess (a ∷ answers) s = IsAccess s × AllAccess answers (next_state s a)
 
--- The cycles that an access at tick `t` waits for the 1 MHz clock: none if it does not use the 1
--- MHz bus. Otherwise one if its own cycle is even, and two if it is odd.
+-- The cycles that an access at tick `t` waits for the 1 MHz clock: none if its address is none of a
+-- 1 MHz device. Otherwise one if its own cycle is even, and two if it is odd.
 abbrev pub wait : Clock → ℕ → Cycle → ℕ
 wait clock t c = if stretched_in memory_map (address c) then (if t / host clock % 2 == 0 then 1 else 2) else 0
 
@@ -74,8 +75,8 @@ pub record HostKeepsCycles : Type 0 where
       IsOnCycle (power_on clock roms d0 d1 script plugs)
   pub next : (s : HostState) (answer : Option Answer) → IsOnCycle s → IsOnCycle (next_state s answer)
 
--- An instruction that is over has made at least as many accesses as the instruction table has
--- cycles for its opcode, the first byte that the processor read.
+-- The number of accesses of an instruction that is over is at least the number of cycles that the
+-- instruction table has for its opcode. The opcode is the first byte that the processor read.
 abbrev pub HostTakesTheTable : Type 0
 HostTakesTheTable =
     (s : HostState) (answers : List (Option Answer)) (op : ℕ) (seen : List (Option ℕ)) (row : Row) →

@@ -40,8 +40,8 @@ pub record ParaTakes : Type 0 where
       (next_state (run answers s) answer).bus.is_held ≡ false →
       (next_state (run answers s) answer).due ≡ s.due + para s.bus.clock * length (cycles answers s)
 
--- An instruction that is over has made at least as many accesses as the instruction table has
--- cycles for its opcode, the first byte that the processor read.
+-- The number of accesses of an instruction that is over is at least the number of cycles that the
+-- instruction table has for its opcode. The opcode is the first byte that the processor read.
 abbrev pub ParaTakesTheTable : Type 0
 ParaTakesTheTable =
     (s : ParaState) (answers : List (Option Answer)) (op : ℕ) (seen : List (Option ℕ)) (row : Row) →

@@ -24,8 +24,8 @@ pub fn host_interrupts_begin()
     ensures { HostInterrupts }
 {}
 
-/// Over runs of the host, BREAK begins only from its tick on, at the first look, or at the last
-/// tick of an access of a halted processor.
+/// Over runs of the host, BREAK begins only at or after its tick. It begins at the first look, or
+/// at the last tick of an access of a halted processor.
 pub fn break_begins()
     ensures { BreaksBegin }
 {

@@ -2,7 +2,7 @@
 ghost use Rattle.law_machines.specs.Frames.{FramesFinish, CursorStands};
 ghost use Rattle.law_machines.specs.Shots.{ShotsAreFinished};
 
-/// The finished frame changes only where a frame ends, which is once in each frame of the 6845.
+/// The finished frame changes only when a frame ends, once in each frame of the 6845.
 pub fn frames_finish()
     ensures { FramesFinish }
 {

@@ -1,4 +1,4 @@
--- What the words of `solo` and of `run` name is a run that begins.
+-- The words of `solo` and of `run`, with the files that they name, begin a run.
 use Rattle.std.proofs.Common.{◌≡◌, refl, ℕ, ◌≤◌, List, map, Bool, ◌&&◌, nat_le, Option, Some, None, Ok, arith, if◌then◌else◌}
 use Rattle.std.specs.Prelude.{unwrap_or, codes}
 use Rattle.std.proofs.lemmas.Bool.Decides.{nat_tests}

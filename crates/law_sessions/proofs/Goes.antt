@@ -1,4 +1,4 @@
--- A run that goes on from its session file.
+-- A run that continues from its session file.
 use Rattle.std.proofs.Common.{◌≡◌, ◌∙◌, refl, ap, ℕ, min, nat_le, List, length, take, None, option_map, Ok, arith}
 use Rattle.bus_plug.specs.Plug.{Plug}
 use Rattle.tube_trace.specs.FirstWrong.{wrong}
@@ -27,7 +27,7 @@ use Rattle.law_sessions.specs.OneRun.{accesses_of, saved_run, MachinesAreMadeAga
 use Rattle.law_sessions.specs.Words.{WordsBegin}
 use Rattle.law_sessions.proofs.Saved.{none_wrong}
 
--- what a session of these machines comes to, whose accesses are theirs
+-- the result of a session of these machines, with their accesses
 pub one_run : (set : Setup) (i : Inputs) (plugs : List Plug) (m : HostState × ParaState) (s : Session) (ticks kept : ℕ) (names : Names) (j : Inputs) →
     state_of j.state ≡ Ok s → machines_of (setup_in s plugs) (inputs_in s) ≡ Ok m → machines_of set i ≡ Ok m → wrong s.entries ≡ None → place_of s ticks m ≡ None →
     begun_if names.save (setup_in s plugs) (inputs_in s) ≡ begun_if names.save set i → s.clock ≡ set.clock →

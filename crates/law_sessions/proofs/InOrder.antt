@@ -85,7 +85,7 @@ use Rattle.law_sessions.specs.Refusals.{differs_at, held, entries_in, entries_at
 use Rattle.law_sessions.specs.Refusals.{made_causes, replay_causes, follow_causes, bad_points_by, bad_points, pair_causes}
 use Rattle.law_sessions.specs.Refusals.{session_causes, read_causes, causes, NoFault, ComesToWriting, RefusesInOrder, RefusalsInOrder}
 
--- a command that comes to this tells the first of these causes
+-- a command with this result reports the first of these causes
 abbrev Tells : Result (Verdict Ending) (Stop Cause) → List (Option Status) → Type 0
 Tells r list = end_of (first_of list) ≡ Some (ending_of r)
 
@@ -127,7 +127,7 @@ module _ (next : Result (Verdict Ending) (Refusal Cause)) (list : List (Option S
   all_fit [] says = says
   all_fit (s ∷ images) says = by_fit s.fits s (first_misfit images) (map misfit images ++ list) (all_fit images says)
 
--- what follows where all fit
+-- the rest, if all lengths fit
 fit_bound : {A B : Type 0} (m : Option Cause) (next : Result A (Refusal Cause)) (g : A → Result B (Refusal Cause)) → (unless_caused m next >>= g) ≡ unless_caused m (next >>= g)
 fit_bound None next g = refl
 fit_bound (Some cause) next g = refl
@@ -196,7 +196,7 @@ bound (Ok x) f g = refl
 bound (Err e) f g = refl
 
 module _ (lengths : LengthsComeFirst) where
-  -- the host against its entries, whatever comes of them
+  -- the host against its entries, before any further result
   host_told : (set : Setup) (i : Inputs) (last : List (Option Status)) (g : List Entry × host.HostState → Result (Verdict Ending) (Refusal Cause)) →
       Says (g (entries_at set.tube i.trace, host.with_tube set.tube (host_at set i))) last → Says (host_of set i >>= g) (made_causes set Host i last)
   unfolding host_of
@@ -278,7 +278,7 @@ dis_told_by : (b : Bool) (v : Verdict Ending) (n : ℕ) → v.ending ≡ endings
 dis_told_by true v n done = refl
 dis_told_by false v n done = rw done
 
--- what a command comes to by what it read
+-- the result of a command, by what it read
 read_told : LengthsComeFirst → (plugs : List Plug) (c : Command) (i : Inputs) → ((seed : ℕ) → Some c ≡ Some (gen seed) → ⊥) → Says (after plugs c i) (read_causes plugs c i)
 unfolding check_after trace_of tools.asm_after tools.dis_after
 read_told lengths plugs (check name) i alone = check_told_by (trace i.trace)
@@ -291,16 +291,16 @@ read_told lengths plugs (resume state ticks out keep given) i alone = session_to
 read_told lengths plugs (follow side name ticks out given) i alone = follow_told lengths (setup_of given plugs) side ticks (choice_of given) out i
 read_told lengths plugs (gen seed) i alone = absurd (alone seed refl)
 
--- what it comes to on the files that the shelf holds
+-- the result of a command on the files that the shelf holds
 verdict_told : LengthsComeFirst → (plugs : List Plug) (c : Command) (files : Files) → ((seed : ℕ) → Some c ≡ Some (gen seed) → ⊥) →
     Tells (verdict (plan plugs c) files) (causes plugs files (Some c))
 verdict_told lengths plugs c files alone =
     all_read files (reads c) (λ list. or_stop (after plugs c (inputs_of list))) (read_causes plugs c (inputs_of (held files (reads c))))
     (read_told lengths plugs c (inputs_of (held files (reads c))) alone)
 
--- ---- from what a command comes to, to its status
+-- ---- from the result of a command to its status
 
--- the status that ends so
+-- the status of an ending
 abbrev status_by : Option (Result Ending (Stop Cause)) → Status
 status_by None = Usage
 status_by (Some (Ok endings.Done)) = Done
@@ -339,7 +339,7 @@ parts_read slot (Ok bytes) (Ok m) inputs is = (bytes, m, refl, refl)
 parts_read slot (Ok bytes) (Err stop) inputs is = cc
 parts_read slot (Err stop) more inputs is = cc
 
--- a file that is not there, behind files that were read
+-- a missing file, after files that were read
 stops_there : (files : Files) (front : List (Want InputKind)) (w : Want InputKind) (rest : List (Want InputKind)) (inputs : plans.Inputs InputKind) →
     read_all {C = Cause} files front ≡ Ok inputs → bytes_of files w.1 ≡ None → read_all {C = Cause} files (front ++ w ∷ rest) ≡ Err (stops.ReadFault w.1)
 stops_there files [] w rest inputs read gone = rw gone
@@ -407,7 +407,7 @@ module _ (lengths : LengthsComeFirst) (plugs : List Plug) (files : Files) (c : C
   by_end status None is e none = absurd e
   by_end status (Some end) is e none = first_by status end is e.ends none
 
-  -- it came to a verdict
+  -- it reached a verdict
   written_behind : (v : Verdict Ending) → ComesTo the_plan old.shelf.files (Ok v) → ComesToWriting the_causes
   written_behind v comes =
       comes_to (first_of the_causes) v.ending (verdict_told lengths plugs c files alone ∙ ap (λ (x : Result (Verdict Ending) (Stop Cause)). Some (ending_of x)) (verdict_is (Ok v) comes))

@@ -25,7 +25,7 @@ RisesFrom low roms = IsTrue (rise_from low (map (λ (rom : Rom). rom.slot) roms)
 rest_rises : (low : ℕ) (r : Rom) (roms : List Rom) → RisesFrom low (r ∷ roms) → RisesFrom (r.slot + 1) roms
 rest_rises low r roms rises = grind (arith, nat_tests)
 
--- none is in a slot below those that there are
+-- no ROM is in a slot below those that exist
 none_in : (slot low : ℕ) (roms : List Rom) → slot < low → RisesFrom low roms → rom_of_slot roms slot ≡ None
 none_in slot low [] h rises = refl
 none_in slot low (r ∷ roms) h rises =
@@ -69,7 +69,7 @@ module _ (i : Inputs) (more : List InputKind) where
   no_more : (x : Inputs) → with_roms x [] ≡ x
   no_more x = ap (λ (all : List Rom). record x { roms = all }) (append-nil x.roms)
 
-  -- a slot and those behind it, by whether the first ROM that is left is in it
+  -- a slot and those after it, if the first remaining ROM is in it and if not
   one_slot : (b : Bool) (count low : ℕ) (r : Rom) (roms : List Rom) (x : Inputs) → (r.slot == low) ≡ b → RisesFrom low (r ∷ roms) → Stand low (r ∷ roms) →
       (RisesFrom (low + 1) roms → Stand (low + 1) roms → Reads (low + 1) count (with_input (slots.Rom low) r.bytes x) (with_roms (with_input (slots.Rom low) r.bytes x) roms)) →
       (RisesFrom (low + 1) (r ∷ roms) → Stand (low + 1) (r ∷ roms) → Reads (low + 1) count x (with_roms x (r ∷ roms))) →
@@ -100,7 +100,7 @@ module _ (i : Inputs) (more : List InputKind) where
 
 -- ---- the other parts
 
--- what the machines of a run are made of, and nothing else
+-- the inputs that the machines of a run are made of, and no others
 abbrev pub made_of : List ℕ → List ℕ → List Rom → Option (List ℕ) → Option (List ℕ) → Option (List ℕ) → Option (List ℕ) → Inputs
 made_of os tube roms font disc0 disc1 keys = record no_inputs {
   os = os;
@@ -147,7 +147,7 @@ read_last i roms =
     ∙ read_disc1 i.os i.tube roms i.font i.disc0 i.disc1 keys
     ∙ read_keys i.os i.tube roms i.font i.disc0 i.disc1 i.keys
 
--- what was read, without what no machine is made of
+-- the inputs that were read, without those that no machine is made of
 abbrev pub files_of : Inputs → Inputs
 files_of i = made_of i.os i.tube i.roms i.font i.disc0 i.disc1 i.keys
 
@@ -176,7 +176,7 @@ sides_kept Dsd (Some bytes) = refl
 
 -- ---- both machines
 
--- what a session of a run says of the machines
+-- the setup of the machines that a session of a run gives
 abbrev set_again : Setup → Inputs → Setup
 set_again set i = setup set.clock (kind_by (has_two_sides set.kinds.0 i.disc0), kind_by (has_two_sides set.kinds.1 i.disc1)) set.number set.plugs true
 

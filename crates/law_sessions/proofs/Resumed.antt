@@ -1,4 +1,4 @@
--- What goes on from any session file.
+-- Runs resumed from any session file.
 use Rattle.std.proofs.Common.{◌≡◌, ◌∙◌, sym, refl, ap, subst, ℕ, List, Option, Some, None, Result, Ok, Err}
 use Rattle.bus_plug.specs.Plug.{Plug}
 use Rattle.host_mach.specs.State.{HostState}
@@ -48,7 +48,7 @@ module _ (only : OnlyFileReads) where
       let session : IsSession s = keeps bytes s are read in
       record { made = made; number = session.plugs; plugged = refl; roms = roms_rise s; keys = keys_stand s session.keys }
 
--- ---- a run that goes on, and is done
+-- ---- a run that is resumed, and done
 
 -- no answer was wrong, and no machine differed
 went : {S : Type 0} (left : S → Verdict Ending) (x : S) (w : Option (ℕ × ℕ)) (place : Option (ℕ × Option Doing)) → (unless_wrong w (verdict_of_place left x place)).ending ≡ Done →
@@ -62,7 +62,7 @@ made_of : (r : Result (HostState × ParaState) (Refusal Cause)) (after : HostSta
 made_of (Ok m) after v is = (m, refl, cc)
 made_of (Err e) after v is = cc
 
--- what a session comes to is what is made of its machines
+-- the result of a session is that of its machines
 from_machines : (s : Session) (plugs : List Plug) (n keep : ℕ) (names : Names) (j : inputs.Inputs) → state_of j.state ≡ Ok s →
     session_after plugs n keep names j ≡ (machines_of (setup_in s plugs) (inputs_in s) >>= λ m. Ok (unless_wrong (wrong s.entries) (session_ended plugs n keep names s m)))
 unfolding session_after

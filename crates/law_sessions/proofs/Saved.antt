@@ -31,7 +31,7 @@ none_wrong {entries = entries} trace = none_is ((none_iff entries refl).1 trace.
     none_is : {A : Type 0} {o : Option A} → IsNone o → o ≡ None
     none_is none = grind arith
 
--- ---- how many accesses are saved
+-- ---- the number of saved accesses
 
 below_less : (t : ℕ) (xs : List Entry) → length (entries_below t xs) ≤ length xs
 below_less t [] = omega arith

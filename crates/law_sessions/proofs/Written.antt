@@ -1,4 +1,4 @@
--- What a run writes that is to be saved.
+-- The outputs of a run that is to be saved.
 use Rattle.std.proofs.Common.{◌≡◌, ◌∙◌, sym, refl, ap, ℕ, List, [], ◌∷◌, ◌++◌, length, map, take, Option, Some, append_assoc}
 use Rattle.std.proofs.lemmas.List.{map-append}
 use Rattle.tube_trace.specs.Entries.{accesses}
@@ -34,12 +34,12 @@ mapped f x xs last = (map f last.0, ap (map f) last.1 ∙ map-append f last.0 (x
 there : (save : Option (List ℕ)) (name : List ℕ) → save ≡ Some name → IsLast Session (if_there Session save)
 there save name is = rw is ([], refl)
 
--- the session file is behind all others
+-- the session file comes after all others
 session_last : (l : Left) (name : List ℕ) → l.names.save ≡ Some name → IsLast Session (machine_outputs l)
 unfolding machine_outputs
 session_last l name is = behind Session (front_of l ++ if_there Sound l.names.wav) (if_there Session l.names.save) (there l.names.save name is)
 
--- what both machines leave
+-- the outputs of both machines
 abbrev left_of : Setup → Inputs → HostState × ParaState → ℕ → ℕ → Names → Left
 left_of set i m n keep names =
     let w : World HostState ParaState = reference host_transitions para_transitions m.0 m.1 n in

@@ -93,9 +93,9 @@ const FIRST_BYTE: u64 = 21_950;
 /// The number of acts of each seed.
 pub const ACTS: u64 = 250;
 
-// An act at a tick: a write, a read, a look at both lines, one at the NMI line alone, a write to
-// the RAM after the bus is closed below the tick, a closing, the steps that a board owes, or a
-// break.
+// An act at a tick: a write, a read, a look at both lines, or one at the NMI line alone. It may
+// also be a write to the RAM after the bus is closed below the tick, a closing, the steps that a
+// board owes, or a break.
 #[derive(Clone, Copy)]
 enum Act {
     Write(u16, u8),
@@ -391,37 +391,32 @@ pub struct Lists<'a> {
 
 // The beginning of both buses, and the number of acts to try.
 #[derive(Clone, Copy)]
-struct Execution<'a> {
+struct Course<'a> {
     clock: Clock,
     lists: Lists<'a>,
     acts: u64,
 }
 
-impl Tried<Execution<'_>> for Bus {
-    fn make(alloc: Global, execution: &Execution<'_>) -> Result<Self, NoMemory> {
-        bus(
-            alloc,
-            execution.clock,
-            execution.lists.script,
-            execution.lists.size,
-        )
+impl Tried<Course<'_>> for Bus {
+    fn make(alloc: Global, course: &Course<'_>) -> Result<Self, NoMemory> {
+        bus(alloc, course.clock, course.lists.script, course.lists.size)
     }
 
     fn agrees(
         &mut self,
         other: &mut Self,
         _alloc: Global,
-        execution: &Execution<'_>,
+        course: &Course<'_>,
         chance: &mut Chance,
     ) -> Result<bool, NoMemory> {
         let mut both = Both {
             lagging: self,
             stepped: other,
-            micro: execution.clock.micro(),
+            micro: course.clock.micro(),
             calm: 0,
             lines: (0, false),
         };
-        Ok(both.agree_on(chance, execution.lists, execution.acts))
+        Ok(both.agree_on(chance, course.lists, course.acts))
     }
 }
 
@@ -429,6 +424,6 @@ impl Tried<Execution<'_>> for Bus {
 pub fn agrees(alloc: Global, seed: u64, acts: u64, lists: Lists<'_>) -> Result<bool, NoMemory> {
     let mut chance = Chance::new(seed, 3);
     let clock = chance.clock();
-    let execution = Execution { clock, lists, acts };
-    agree::<Execution<'_>, Bus>(alloc, &execution, &mut chance)
+    let course = Course { clock, lists, acts };
+    agree::<Course<'_>, Bus>(alloc, &course, &mut chance)
 }

@@ -3,7 +3,7 @@
 use crate::chance::Chance;
 use crate::code::{EDGES, halves, row_at};
 use crate::host::Host;
-use crate::roads::Execution;
+use crate::roads::Course;
 use crate::setting::Setting;
 use crate::twins::agree;
 use beeb_bits::{Clock, NoMemory};
@@ -78,7 +78,7 @@ impl Case {
         }
     }
 
-    // The pointer, or for a jump that one at the edge.
+    // Places the pointer, or, for a jump, the one at the edge.
     fn place_pointer(&self, mode: Mode, setting: &mut Setting) {
         let to = match mode {
             Mode::IndX | Mode::IndZp => halves(self.edge),
@@ -141,8 +141,8 @@ impl Case {
     }
 }
 
-// LDA #7F, STA FE4E, LDA #C0, STA FE4E, LDA #, STA FE44, LDA #0, STA FE45: timer 1 of the system's
-// 6522 asks for an IRQ some microseconds later.
+// Returns code that makes timer 1 of the system's 6522 ask for an IRQ some microseconds later: LDA
+// #7F, STA FE4E, LDA #C0, STA FE4E, LDA #, STA FE44, LDA #0, STA FE45.
 fn start_timer(count: u8) -> [u8; 20] {
     [
         0xa9, 0x7f, 0x8d, 0x4e, 0xfe, 0xa9, 0xc0, 0x8d, 0x4e, 0xfe, 0xa9, count, 0x8d, 0x44, 0xfe,
@@ -185,7 +185,7 @@ fn cycle_of(part: Part, clock: Clock) -> u64 {
 }
 
 // Makes the course of a case.
-fn execution(alloc: Global, chance: &mut Chance, case: Case) -> Result<Execution, NoMemory> {
+fn course(alloc: Global, chance: &mut Chance, case: Case) -> Result<Course, NoMemory> {
     let clock = chance.clock();
     let mut setting = Setting::new(alloc, case.part)?;
     case.place(chance, &mut setting);
@@ -215,7 +215,7 @@ fn execution(alloc: Global, chance: &mut Chance, case: Case) -> Result<Execution
     } else {
         Vec::new(alloc)
     };
-    Ok(Execution {
+    Ok(Course {
         clock,
         image: setting.image,
         script,
@@ -258,9 +258,9 @@ pub fn agrees(alloc: Global, seed: u64) -> Result<bool, NoMemory> {
         r,
         pointer: any_byte(&mut chance),
     };
-    let execution = execution(alloc, &mut chance, case)?;
+    let course = course(alloc, &mut chance, case)?;
     match part {
-        Part::Cmos => agree::<Execution, ParaMachine>(alloc, &execution, &mut chance),
-        Part::Nmos => agree::<Execution, Host>(alloc, &execution, &mut chance),
+        Part::Cmos => agree::<Course, ParaMachine>(alloc, &course, &mut chance),
+        Part::Nmos => agree::<Course, Host>(alloc, &course, &mut chance),
     }
 }

@@ -1,7 +1,7 @@
 //! The host, an NMOS 6502.
 use crate::chance::Chance;
 use crate::code::Place;
-use crate::roads::{Execution, Stands};
+use crate::roads::{Course, Stands};
 use crate::twins::agree;
 use beeb_bits::{Clock, NoMemory};
 use bus_plug::RamCard;
@@ -56,8 +56,8 @@ fn events(chance: &mut Chance, clock: Clock) -> &'static [u8] {
 }
 
 // Returns the disc of a course, or `None` if it has none.
-fn disc_of(alloc: Global, execution: &Execution) -> Result<Option<Disc>, NoMemory> {
-    if !execution.has_disc {
+fn disc_of(alloc: Global, course: &Course) -> Result<Option<Disc>, NoMemory> {
+    if !course.has_disc {
         return Ok(None);
     }
     let bytes = vec![in alloc; 0xa5; 2_560]?;
@@ -68,19 +68,19 @@ fn disc_of(alloc: Global, execution: &Execution) -> Result<Option<Disc>, NoMemor
 pub type Host = Forward<HostMachine<RamCard>>;
 
 // Makes the host of a course, with its image as the operating system and as the ROM in slot 0.
-fn machine(alloc: Global, execution: &Execution) -> Result<HostMachine<RamCard>, NoMemory> {
-    let disc = disc_of(alloc, execution)?;
-    let Ok(slots) = vec![in alloc; (0, execution.image.to_vec(alloc)?)] else {
+fn machine(alloc: Global, course: &Course) -> Result<HostMachine<RamCard>, NoMemory> {
+    let disc = disc_of(alloc, course)?;
+    let Ok(slots) = vec![in alloc; (0, course.image.to_vec(alloc)?)] else {
         return Err(NoMemory);
     };
-    let Ok(roms) = RomSet::read(execution.image.to_vec(alloc)?, slots, None) else {
+    let Ok(roms) = RomSet::read(course.image.to_vec(alloc)?, slots, None) else {
         return Err(NoMemory);
     };
-    let Ok(script) = read(alloc, &execution.script) else {
+    let Ok(script) = read(alloc, &course.script) else {
         return Err(NoMemory);
     };
     let plugs = Vec::new(alloc);
-    HostMachine::make(alloc, execution.clock, roms, disc, None, script, plugs)
+    HostMachine::make(alloc, course.clock, roms, disc, None, script, plugs)
 }
 
 // Makes the same machine as one without notes. Generic, like `agree`.
@@ -89,8 +89,8 @@ fn forward<P: Party>(made: Result<P, NoMemory>) -> Result<Forward<P>, NoMemory> 
 }
 
 impl Stands for Host {
-    fn begun(alloc: Global, execution: &Execution) -> Result<Host, NoMemory> {
-        forward(machine(alloc, execution))
+    fn begun(alloc: Global, course: &Course) -> Result<Host, NoMemory> {
+        forward(machine(alloc, course))
     }
 
     fn part() -> Part {
@@ -124,6 +124,6 @@ pub fn agrees(alloc: Global, seed: u64) -> Result<bool, NoMemory> {
     };
     let image = place.image(alloc, &mut chance, 16_384)?;
     let script = events(&mut chance, clock).to_vec(alloc)?;
-    let execution = Execution::of_program(&mut chance, clock, clock.host(), image, script);
-    agree::<Execution, Host>(alloc, &execution, &mut chance)
+    let course = Course::of_program(&mut chance, clock, clock.host(), image, script);
+    agree::<Course, Host>(alloc, &course, &mut chance)
 }

@@ -249,7 +249,7 @@ fn go_by_ticks<M: Stands>(machine: &mut M, end: u64, tube: &mut Tube) -> bool
 /// A machine whose registers can be read.
 pub trait Stands: Rewinds {
     /// Makes a machine at a course's beginning.
-    fn begun(alloc: Global, execution: &Execution) -> Result<Self, NoMemory>;
+    fn begun(alloc: Global, course: &Course) -> Result<Self, NoMemory>;
 
     fn part() -> Part;
 
@@ -263,7 +263,7 @@ pub trait Stands: Rewinds {
 /// stop at tick `begun`, lines change from tick `from` on, and both machines are compared at ticks
 /// `middle` and `end`.
 #[derive(Drop)]
-pub struct Execution {
+pub struct Course {
     pub clock: Clock,
     pub image: Vec<u8>,
     pub script: Vec<u8>,
@@ -274,7 +274,7 @@ pub struct Execution {
     pub end: u64,
 }
 
-impl Execution {
+impl Course {
     /// Returns the course of a random program. Its entry code takes 15,134 cycles.
     pub fn of_program(
         chance: &mut Chance,
@@ -282,13 +282,13 @@ impl Execution {
         cycle: u64,
         image: Vec<u8>,
         script: Vec<u8>,
-    ) -> Execution
+    ) -> Course
         requires { cycle ≤ 6 }
     {
         let begun = cycle * (15_100 + u64::from(chance.below(60) % 60));
         let middle = begun + u64::from(chance.below(3_000) % 3_000);
         let end = middle + u64::from(chance.below(3_000) % 3_000);
-        Execution {
+        Course {
             clock,
             image,
             script,
@@ -301,19 +301,19 @@ impl Execution {
     }
 }
 
-impl<M: Stands> Tried<Execution> for M {
-    fn make(alloc: Global, execution: &Execution) -> Result<Self, NoMemory> {
-        M::begun(alloc, execution)
+impl<M: Stands> Tried<Course> for M {
+    fn make(alloc: Global, course: &Course) -> Result<Self, NoMemory> {
+        M::begun(alloc, course)
     }
 
     fn agrees(
         &mut self,
         other: &mut Self,
         alloc: Global,
-        execution: &Execution,
+        course: &Course,
         chance: &mut Chance,
     ) -> Result<bool, NoMemory> {
-        come_to_the_same(alloc, self, other, execution, chance)
+        come_to_the_same(alloc, self, other, course, chance)
     }
 }
 
@@ -323,20 +323,20 @@ fn come_to_the_same<M: Stands>(
     alloc: Global,
     far: &mut M,
     near: &mut M,
-    execution: &Execution,
+    course: &Course,
     chance: &mut Chance,
 ) -> Result<bool, NoMemory> {
     let mut past = M::past(alloc)?;
     let seed = u64::from(chance.word());
-    let mut far_tube = Tube::new(seed, execution.from);
-    let mut near_tube = Tube::new(seed, execution.from);
-    let begun = execution.begun.min(MOST);
+    let mut far_tube = Tube::new(seed, course.from);
+    let mut near_tube = Tube::new(seed, course.from);
+    let begun = course.begun.min(MOST);
     go_far(near, &mut past, begun, &mut near_tube, chance);
     // If `far` stops here too, its next instruction is done cycle by cycle.
     if chance.once_in(4) {
         go_far(far, &mut past, begun, &mut far_tube, chance);
     }
-    for end in [execution.middle, execution.end] {
+    for end in [course.middle, course.end] {
         let end = end.min(MOST);
         go_far(far, &mut past, end, &mut far_tube, chance);
         if !go_by_ticks(near, end, &mut near_tube)

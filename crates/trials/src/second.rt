@@ -1,7 +1,7 @@
 //! The second processor, a 65C02.
 use crate::chance::Chance;
 use crate::code::Place;
-use crate::roads::{Execution, Stands};
+use crate::roads::{Course, Stands};
 use crate::twins::agree;
 use beeb_bits::NoMemory;
 use cpu_alu::Regs;
@@ -11,8 +11,8 @@ use std::alloc::Global;
 use tube_party::Party;
 
 impl Stands for ParaMachine {
-    fn begun(alloc: Global, execution: &Execution) -> Result<ParaMachine, NoMemory> {
-        match ParaMachine::make(alloc, execution.clock, execution.image.to_vec(alloc)?) {
+    fn begun(alloc: Global, course: &Course) -> Result<ParaMachine, NoMemory> {
+        match ParaMachine::make(alloc, course.clock, course.image.to_vec(alloc)?) {
             Ok(machine) => Ok(machine),
             Err(_) => Err(NoMemory),
         }
@@ -52,6 +52,6 @@ pub fn agrees(alloc: Global, seed: u64) -> Result<bool, NoMemory> {
     };
     let image = place.image(alloc, &mut chance, 2_048)?;
     let script = Vec::new(alloc);
-    let execution = Execution::of_program(&mut chance, clock, clock.para(), image, script);
-    agree::<Execution, ParaMachine>(alloc, &execution, &mut chance)
+    let course = Course::of_program(&mut chance, clock, clock.para(), image, script);
+    agree::<Course, ParaMachine>(alloc, &course, &mut chance)
 }

@@ -6,14 +6,14 @@ use std::alloc::Global;
 /// A kind that is tried in two instances on a course `C`.
 pub trait Tried<C>: Drop {
     /// Makes one at the course's beginning.
-    fn make(alloc: Global, execution: &C) -> Result<Self, NoMemory>;
+    fn make(alloc: Global, course: &C) -> Result<Self, NoMemory>;
 
     /// Returns true if both end the same on the course.
     fn agrees(
         &mut self,
         other: &mut Self,
         alloc: Global,
-        execution: &C,
+        course: &C,
         chance: &mut Chance,
     ) -> Result<bool, NoMemory>;
 }
@@ -22,10 +22,10 @@ pub trait Tried<C>: Drop {
 /// sees the fields of a machine follows each of them over each exit.
 pub fn agree<C, T: Tried<C>>(
     alloc: Global,
-    execution: &C,
+    course: &C,
     chance: &mut Chance,
 ) -> Result<bool, NoMemory> {
-    let mut one = T::make(alloc, execution)?;
-    let mut other = T::make(alloc, execution)?;
-    one.agrees(&mut other, alloc, execution, chance)
+    let mut one = T::make(alloc, course)?;
+    let mut other = T::make(alloc, course)?;
+    one.agrees(&mut other, alloc, course, chance)
 }

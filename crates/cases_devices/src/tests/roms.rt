@@ -108,8 +108,8 @@ fn shapes_stand_by_code_and_row(rt: HostRuntime) -> Result<(), Fail> {
     let alloc = rt.alloc();
     let os = image(alloc, 16_384, 0)?;
     let roms = RomSet::read(os, Vec::new(alloc), Some(image(alloc, 960, 5)?))?;
-    // The code, the row, and the byte. The shape of 21 begins at 10, that of 41 at 330, which is 79
-    // above 251, and that of 7F at 950, which is 197 above three times 251.
+    // The code, the row, and the byte. The shape of 21 begins at 10. That of 41 begins at 330,
+    // which is 79 above 251, and that of 7F at 950, which is 197 above three times 251.
     let rows = [
         (0x20, 0, 5),
         (0x20, 9, 14),

@@ -1,7 +1,9 @@
 //! The memory map, address by address, and the devices on the bus.
 //!
-//! A program is words of a tick, a colon and what is done at it: `AAAA=VV` writes a byte to an address, and `AAAA?VV` reads it there; `irq` and
-//! `calm` look at the interrupt line; `+N` looks how often the NMI line rose; `D#N` looks how long the image in a drive is, or that there is none.
+//! A program is words of a tick, a colon and an act at it. `AAAA=VV` writes a byte to an address,
+//! and `AAAA?VV` reads it there. `irq` and `calm` look at the interrupt line. `+N` checks the
+//! number of rises of the NMI line. `D#N` checks the length of the image in a drive, or that there
+//! is none.
 use super::held::with_new;
 use beeb_bits::{Clock, NoMemory, Tick};
 use bus_plug::BusDevice;
@@ -16,7 +18,8 @@ use std::alloc::Global;
 use std::test::Fail;
 use std::vec::Vec;
 
-// So many bytes, each the same but for those at some places. The length is an argument so that no proof writes the list out.
+// Makes `length` bytes `byte`, with `others` at their places. The length is an argument, so that no
+// proof writes the list out.
 fn image(alloc: Global, length: usize, byte: u8, others: &[(usize, u8)]) -> Result<Vec<u8>, Fail> {
     let mut bytes = vec![in alloc; byte; length]?;
     for (place, other) in others {
@@ -27,7 +30,8 @@ fn image(alloc: Global, length: usize, byte: u8, others: &[(usize, u8)]) -> Resu
     Ok(bytes)
 }
 
-// An operating system of 11 and a ROM of 8,192 bytes 22 in slot 5, each with other bytes at both ends; the other slots are empty.
+// Makes an operating system of bytes 11 and a ROM of 8,192 bytes 22 in slot 5, each with other
+// bytes at both ends. The other slots are empty.
 fn roms(alloc: Global) -> Result<RomSet, Fail> {
     let ends = [(0, 0x12), (0x3bff, 0x13), (0x3f00, 0x14), (0x3fff, 0x15)];
     let os = image(alloc, 16_384, 0x11, &ends)?;
@@ -35,7 +39,7 @@ fn roms(alloc: Global) -> Result<RomSet, Fail> {
     Ok(RomSet::read(os, vec![in alloc; (5, rom)]?, None)?)
 }
 
-// Ten sectors; byte i of sector n is n + i.
+// Makes a disc of ten sectors. Byte i of sector n is n + i.
 fn disc(alloc: Global) -> Result<Disc, Fail> {
     let mut bytes = vec![in alloc; 0; 2_560]?;
     for (place, byte) in bytes.iter_mut().enumerate() {
@@ -47,12 +51,13 @@ fn disc(alloc: Global) -> Result<Disc, Fail> {
 // Both clocks.
 const CLOCKS: [Clock; 2] = [Clock::Three, Clock::Four];
 
-// How many ticks of a clock pass in a tick of the tables, which have those of a second processor at 3 MHz.
+// Returns the ticks of a clock in one tick of the tables. The tables have the ticks of a second
+// processor at 3 MHz.
 fn scale(clock: Clock) -> u64 {
     clock.micro() / Clock::Three.micro()
 }
 
-// The text of a script in which `;` ends a line, with each tick so many times as late.
+// Returns the text of a script in which `;` ends a line, with each tick times `times`.
 fn later(alloc: Global, script: &str, times: u64) -> Result<String, Fail> {
     let mut text = String::new(alloc);
     for line in script.split_terminator(';') {
@@ -65,7 +70,8 @@ fn later(alloc: Global, script: &str, times: u64) -> Result<String, Fail> {
     Ok(text)
 }
 
-// It has that disc in drive 0. The script has the ticks of the tables, and in it `;` ends a line.
+// Makes a bus with that disc in drive 0. The script has the ticks of the tables, and `;` ends a
+// line in it.
 fn bus_with(alloc: Global, clock: Clock, script: &str) -> Result<Bus, Fail> {
     let text = later(alloc, script, scale(clock))?;
     let script = read(alloc, text.as_bytes())?;
@@ -80,8 +86,9 @@ fn bus_with(alloc: Global, clock: Clock, script: &str) -> Result<Bus, Fail> {
     )?)
 }
 
-// What is done to the bus at a tick: a write, a read with its answer, a look with the level of the interrupt line, one with the count of the
-// NMI line's rises, one at a drive with the length of its disc, one with the tick of the next break, one whether a break is pending, or a break.
+// An act on the bus at a tick: a write, a read with its answer, or a break. It may also be a look
+// at the interrupt line's level, the count of the NMI line's rises, the length of a drive's disc,
+// the tick of the next break, or a pending break.
 #[derive(Clone, Copy)]
 enum Act {
     Write(u16, u8),
@@ -130,7 +137,7 @@ fn act_of(word: &str) -> Option<Act> {
     }
 }
 
-// A tick of the tables, each of which is so many of the bus.
+// Converts a tick of the tables, which is `times` ticks of the bus.
 fn in_ticks(tick: Option<Tick>, times: u64) -> Option<Tick> {
     match tick {
         Some(tick) => Some(Tick(tick.0.wrapping_mul(times))),
@@ -138,7 +145,7 @@ fn in_ticks(tick: Option<Tick>, times: u64) -> Option<Tick> {
     }
 }
 
-// Does one of these, and answers whether it is as it should be.
+// Does an act. Returns true if its result is the expected one.
 fn is_right<D: BusDevice>(bus: &mut Bus<D>, t: u64, act: Act) -> bool {
     let t = t % (1 << 40);
     if bus.closed() > t + 1 {
@@ -168,13 +175,14 @@ fn is_right<D: BusDevice>(bus: &mut Bus<D>, t: u64, act: Act) -> bool {
     }
 }
 
-// The tick and the act of a word.
+// Returns the tick and the act of a word.
 fn word_of(word: &str) -> Option<(u64, Act)> {
     let (tick, act) = word.split_once(':')?;
     Some((tick.parse().ok()?, act_of(act)?))
 }
 
-// Carries a program out, each tick of which is so many of the bus, and answers whether all is as it should be.
+// Does a program whose ticks are `times` ticks of the bus each. Returns true if all results are the
+// expected ones.
 fn does_by<D: BusDevice>(bus: &mut Bus<D>, times: u64, program: &str) -> bool {
     for word in program.split(' ') {
         let Some((t, act)) = word_of(word) else {
@@ -187,13 +195,14 @@ fn does_by<D: BusDevice>(bus: &mut Bus<D>, times: u64, program: &str) -> bool {
     true
 }
 
-// The same of a program with the ticks of the tables.
+// Does a program with the ticks of the tables.
 fn does<D: BusDevice>(bus: &mut Bus<D>, program: &str) -> bool {
     let times = scale(bus.clock());
     does_by(bus, times, program)
 }
 
-// Of lines with a script, `|` and a program, the first whose program is not right at a new bus of one of both clocks after another program.
+// Returns the first line, of a script, `|` and a program, whose program is wrong, with the clock.
+// Each runs on a new bus of either clock, after the program `before`.
 fn first_wrong(
     alloc: Global,
     before: &str,
@@ -212,8 +221,8 @@ fn first_wrong(
     Ok(None)
 }
 
-// The first and the last address of an area, or of those of one kind in it, what both read first and after a write of A5, and whether they
-// are stretched.
+// The first and the last address of an area, or of those of one kind in it; what both read at first
+// and after a write of A5; and `slow` if their cycles are stretched.
 const MAP: &str = "\
 0000 7FFF 00 A5 fast
 8000 BFFF FF FF fast
@@ -262,14 +271,14 @@ FEA0 FEA3 FE FE fast
 FEE0 FEFF - - fast
 ";
 
-// Whether an address reads these before and after a write of A5.
+// Returns true if an address reads these bytes before and after a write of A5.
 fn reads_as_mapped(bus: &mut Bus, at: u16, before: u8, after: u8) -> bool {
     is_right(bus, 30, Read(at, before))
         && is_right(bus, 33, Write(at, 0xa5))
         && is_right(bus, 39, Read(at, after))
 }
 
-// The same of a new bus of either clock.
+// Returns true if this holds for a new bus of either clock.
 fn is_as_mapped(alloc: Global, at: u16, before: u8, after: u8) -> Result<bool, Fail> {
     for clock in CLOCKS {
         let bus = bus_with(alloc, clock, "");
@@ -280,7 +289,8 @@ fn is_as_mapped(alloc: Global, at: u16, before: u8, after: u8) -> Result<bool, F
     Ok(true)
 }
 
-// The parts of a row: the addresses, the bytes, and how many cycles an access takes that begins at an even cycle, and at an odd one.
+// The parts of a row: the addresses, the bytes, and the cycles of an access that begins at an even
+// cycle, and at an odd one.
 type Area = ((u16, u16), Option<(u8, u8)>, (u8, u8));
 
 fn area_of(row: &str) -> Option<Area> {
@@ -310,7 +320,7 @@ fn each_address_is_that_of_the_map(rt: HostRuntime) -> Result<(), Fail> {
     Ok(())
 }
 
-// The clock by the megahertz of the second processor.
+// Returns the clock by the megahertz of the second processor.
 fn clock_of(megahertz: &str) -> Option<Clock> {
     match megahertz {
         "3" => Some(Clock::Three),
@@ -319,8 +329,9 @@ fn clock_of(megahertz: &str) -> Option<Clock> {
     }
 }
 
-// The megahertz of the second processor, the tick of a cycle of the host, the address of an access that
-// begins there, and how many ticks it takes: a cycle, or, where it is stretched, two from an even cycle on and three from an odd one.
+// The megahertz of the second processor, the tick of a cycle of the host, the address of an access
+// at that tick, and its duration in ticks. It takes one cycle; if it is stretched, two from an even
+// cycle on, and three from an odd one.
 const STRETCHED: &str = "\
 3 30 FE40 6
 3 33 FE40 9
@@ -331,7 +342,7 @@ const STRETCHED: &str = "\
 4 30 FE40 18
 ";
 
-// Whether the access of such a row takes its ticks.
+// Returns true if the access of such a row takes its ticks.
 fn takes_its_ticks(row: &str) -> Option<bool> {
     let mut words = row.split(' ');
     let clock = clock_of(words.next()?)?;
@@ -349,14 +360,14 @@ fn an_access_waits_for_the_1_mhz_clock(rt: HostRuntime) -> Result<(), Fail> {
     Ok(())
 }
 
-// The megahertz of the second processor, and a program with the ticks of its clock: a timer that is written between the microseconds 0 and 1 sets its
-// flag in microsecond 7.
+// The megahertz of the second processor, and a program with the ticks of its clock. A timer that is
+// written between the microseconds 0 and 1 sets its flag in microsecond 7.
 const MICROSECONDS: &str = "\
 3|2:FE4B=40 2:FE44=05 2:FE45=00 41:FE4D?00 42:FE4D?40
 4|2:FE4B=40 2:FE44=05 2:FE45=00 83:FE4D?00 84:FE4D?40
 ";
 
-// Whether a new bus of a row's clock does its program.
+// Returns true if a new bus of a row's clock does its program.
 fn has_its_ticks(alloc: Global, row: &str) -> Result<Option<bool>, Fail> {
     let Some((megahertz, program)) = row.split_once('|') else {
         return Ok(None);
@@ -376,7 +387,8 @@ fn a_microsecond_has_the_ticks_of_the_clock(rt: HostRuntime) -> Result<(), Fail>
     Ok(())
 }
 
-// Where a byte is written to the latch, and what 8000, 9FFF, A000 and BFFF then read. A write to the ROM is ignored.
+// The address at which a byte is written to the latch, and what 8000, 9FFF, A000 and BFFF then
+// read. A write to the ROM is ignored.
 const LATCH: &str = "\
 |0:FE30=05 3:8000=A5 6:8000?23 9:9FFF?24 12:A000?23 15:BFFF?24 17:calm 17:+0
 |0:FE3F=F5 3:8000=A5 6:8000?23 9:9FFF?24 12:A000?23 15:BFFF?24 17:calm 17:+0
@@ -392,7 +404,8 @@ fn the_latch_takes_the_low_four_bits(rt: HostRuntime) -> Result<(), Fail> {
     Ok(())
 }
 
-// A device that owns the addresses from one to another and counts its reads from a byte on; a write sets the byte.
+// A device that owns the addresses from `first` to `last` and counts its reads from `byte` on. A
+// write sets the byte.
 #[derive(Drop)]
 struct Counter {
     first: u16,
@@ -437,7 +450,7 @@ impl BusDevice for Counter {
 const OWNERS: &str =
     "0:FC0F?14 3:FC10?0A 6:FCFF?0B 9:FD00?15 12:FDFE?16 15:FDFF?FF 18:FC10=77 21:FDFF=55 24:FC20?77 27:FC00?17";
 
-// A bus with two of them.
+// Makes a bus with two of them.
 fn bus_with_counters(alloc: Global) -> Result<Bus<Counter>, Fail> {
     let device = |first, last, byte| Counter { first, last, byte };
     let plugs = vec![in alloc; device(0xfc10, 0xfcff, 10), device(0xfc00, 0xfdfe, 20)]?;
@@ -446,7 +459,7 @@ fn bus_with_counters(alloc: Global) -> Result<Bus<Counter>, Fail> {
     Ok(Bus::make(alloc, Clock::Three, roms, None, None, script, plugs)?)
 }
 
-// Whether each access is one call of its owner.
+// Returns true if each access is one call of its owner.
 fn first_owners_answer(bus: &mut Bus<Counter>) -> bool {
     let is_right = does(bus, OWNERS);
     let bytes = bus.plugs().iter().map(|device| device.byte);
@@ -462,7 +475,8 @@ fn the_first_owner_answers_and_no_other(rt: HostRuntime) -> Result<(), Fail> {
     Ok(())
 }
 
-// For each script, register 3 of the system's 6522 has 7F and register F has 41; register C has 04, so that CA2 is noticed where it rises.
+// For each script, register 3 of the system's 6522 has 7F and register F has 41. Register C has 04,
+// so a rise of CA2 sets its flag.
 const KEYS: &str = "\
 # The key is down from tick 60 on, and CA2 is 1 from microsecond 10 on.
 at 60 down 41;|54:FE4F?41 59:FE4F?41 59:FE4D?00 60:FE4F?C1 60:FE4D?01
@@ -505,24 +519,27 @@ fn the_latch_and_the_timers_go_by_the_bus(rt: HostRuntime) -> Result<(), Fail> {
     Ok(())
 }
 
-// Before microsecond 1: 39 rows of 8 lines of 64 characters, of which 32 rows of 40 characters are shown, of sixteen dots each, from the
-// address of register 13 and 12 on; two dots a pixel, black or white. Vertical sync begins in microsecond 17,409, and each 19,968 later. Each
-// register of the 6845 is written where it stands a multiple of 4 addresses on, and the ULA's where they do a multiple of 2.
+// Before microsecond 1: 39 rows of 8 lines of 64 characters. 32 rows of 40 characters are shown, of
+// sixteen dots each, from the address in registers 12 and 13 on; two dots a pixel, black or white.
+// Vertical sync begins in microsecond 17,409, and every 19,968 later. The 6845 and the ULA are
+// written at all their addresses, which repeat every two.
 const SCREEN: &str = "\
 0:FE00=00 0:FE01=3F 0:FE02=01 0:FE03=28 0:FE04=02 0:FE05=31 0:FE06=03 0:FE07=24 0:FE00=04 0:FE01=26 0:FE02=05 0:FE03=00 0:FE04=06 \
 0:FE05=20 0:FE06=07 0:FE07=22 0:FE00=08 0:FE01=00 0:FE02=09 0:FE03=07 0:FE04=0A 0:FE05=00 0:FE06=0B 0:FE07=00 0:FE02=0D 0:FE03=00 \
 0:FE21=07 0:FE21=17 0:FE23=27 0:FE23=37 0:FE25=47 0:FE25=57 0:FE27=67 0:FE27=77 0:FE29=80 0:FE29=90 0:FE2B=A0 0:FE2B=B0 0:FE2D=C0 \
 0:FE2D=D0 0:FE2F=E0 0:FE2F=F0 0:FE2E=08";
 
-// How many dots of each frame are not black.
+// Returns the number of dots of each frame that are not black.
 fn lit(frames: &[Frame]) -> [Option<usize>; 4] {
     [0, 1, 2, 3].map(|i| {
         frames.get(i).map(|frame| frame.colours.iter().filter(|colour| **colour > 0).count())
     })
 }
 
-// What makes the screen begin where it does and sets bits 4 and 5 of the latch; when A5 is written, and where; and behind `|` whether it is in the frame
-// that is finished in microsecond 37,377, whose first byte was read in 19,969, so at tick 119,814.
+// The writes that set the screen's beginning and bits 4 and 5 of the latch, and the tick and the
+// address of the write of A5. After `|`, `shown` if A5 is in the frame that is finished in
+// microsecond 37,377. The first byte of this frame was read in microsecond 19,969, which is tick
+// 119,814.
 const SHOTS: &str = "\
 0:FE00=0C 0:FE01=0B 1:FE42=0F 1:FE40=04 1:FE40=05 1:FE00=0C 1:FE05?0B 1:FE04?FE 1:5800=A5|shown
 0:FE00=0C 0:FE01=0B 1:FE42=0F 1:FE40=04 1:FE40=05 1:FE00=0C 1:FE05?0B 1:FE04?FE 119813:5800=A5|shown
@@ -534,7 +551,7 @@ const SHOTS: &str = "\
 0:FE00=0C 0:FE01=10 1:FE42=0F 1:FE40=0C 1:FE40=0D 1:FE00=0C 1:FE05?10 1:FE04?FE 1:5800=A5|shown
 ";
 
-// Each shot is taken before the microsecond of its tick.
+// Returns true if each shot is taken before the microsecond of its tick.
 fn are_taken(bus: &mut Bus) -> bool {
     let times = scale(bus.clock());
     for (n, taken) in [(224_262, 1), (224_263, 2), (224_264, 4)] {
@@ -546,7 +563,7 @@ fn are_taken(bus: &mut Bus) -> bool {
     true
 }
 
-// Whether the last two of the frames, and they alone, have A5 in white and black.
+// Returns true if the last two of the frames, and only these, have A5 in white and black.
 fn are_frames(frames: &[Frame], is_shown: bool) -> bool {
     let dots = [7, 7, 0, 0, 7, 7, 0, 0, 0, 0, 7, 7, 0, 0, 7, 7];
     let count = if is_shown { 8 } else { 0 };
@@ -554,7 +571,7 @@ fn are_frames(frames: &[Frame], is_shown: bool) -> bool {
     lit(frames) == [Some(0), Some(0), Some(count), Some(count)] && is_there == Some(is_shown)
 }
 
-// Whether the shots are right after a program.
+// Returns true if the shots are right after a program.
 fn takes_shots(bus: &mut Bus, program: &str, shown: &str) -> bool {
     does(bus, SCREEN)
         && does(bus, program)
@@ -562,7 +579,7 @@ fn takes_shots(bus: &mut Bus, program: &str, shown: &str) -> bool {
         && are_frames(bus.frames(), shown == "shown")
 }
 
-// The same of a new bus.
+// Returns true if this holds for a new bus.
 fn takes_its_shots(alloc: Global, clock: Clock, program: &str, shown: &str) -> Result<bool, Fail> {
     let script = "at 1 shot;at 224262 shot;at 224263 shot;at 224263 shot;";
     let bus = bus_with(alloc, clock, script);
@@ -636,7 +653,8 @@ fn a_break_resets_the_disc_latch_and_the_users_6522(rt: HostRuntime) -> Result<(
     Ok(())
 }
 
-// A conversion that is begun between the microseconds 0 and 1 ends in microsecond 4,000, at tick 24,000, or in 10,000, at tick 60,000.
+// A conversion that begins between the microseconds 0 and 1 ends in microsecond 4,000, at tick
+// 24,000, or in 10,000, at tick 60,000.
 const CONVERSIONS: &str = "\
 at 0 adc 1 8000;|0:FEC0?40 1:FEC0=01 1:FEC0?81 23999:FEC0?81 23999:FEC1?00 24000:FEC0?61 24000:FEC1?80 24000:FEC2?00 24000:FEC3?FE 24001:FEDC?61
 # Each register stands at each fourth address, and only writes to the first do anything.
@@ -662,7 +680,7 @@ fn conversions_go_by_the_bus(rt: HostRuntime) -> Result<(), Fail> {
     Ok(())
 }
 
-// Programs, and behind `|` the moments and bytes of the sound writes.
+// Programs, and after `|` the moments and bytes of the sound writes.
 const SOUNDS: &str = "\
 # An operating system's first, in microsecond 21.
 36:FE42=FF 51:FE43=FF 75:FE4F=9F 99:FE40=08 123:FE40=00|21:9F
@@ -679,7 +697,7 @@ const SOUNDS: &str = "\
 0:FE42=FF 0:FE43=0F 0:FE4F=30 0:FE50=08 11:FE50=00|2:F0
 ";
 
-// The write that a word tells of.
+// Returns the sound write of a word.
 fn sound_of(word: &str) -> Option<SoundWrite> {
     let (moment, v) = word.split_once(':')?;
     Some(SoundWrite {
@@ -688,7 +706,7 @@ fn sound_of(word: &str) -> Option<SoundWrite> {
     })
 }
 
-// Whether these are the sound writes.
+// Returns true if these are the sound writes.
 fn are_sounds(sound: &[SoundWrite], words: &str) -> bool {
     let words = words.split(' ').filter(|word| !word.is_empty());
     words
@@ -696,7 +714,7 @@ fn are_sounds(sound: &[SoundWrite], words: &str) -> bool {
         .eq(sound.iter().map(|write| Some(*write)))
 }
 
-// Whether a program at a new bus makes these sound writes.
+// Returns true if a program on a new bus makes these sound writes.
 fn makes_its_sounds(
     alloc: Global,
     clock: Clock,
@@ -725,7 +743,7 @@ fn the_sound_chip_is_written_where_bit_0_of_the_latch_falls(rt: HostRuntime) -> 
     Ok(())
 }
 
-// Writes this byte to the sound chip so many times, in microsecond 1.
+// Writes this byte to the sound chip in microsecond 1, `times` times.
 fn write_sound(bus: &mut Bus, v: u8, times: u32) -> bool {
     let mut is_done = is_right(bus, 0, Write(0xfe4f, v));
     for _ in 0..times {
@@ -736,7 +754,7 @@ fn write_sound(bus: &mut Bus, v: u8, times: u32) -> bool {
     is_done
 }
 
-// Whether as many writes are kept as there is room for, and none behind them.
+// Returns true if writes are kept while there is room, and none after.
 fn keeps_the_first(bus: &mut Bus) -> bool {
     let last = SoundWrite {
         moment: 1,

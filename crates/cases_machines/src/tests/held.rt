@@ -1,5 +1,5 @@
-//! Machines and buses while they are asked. What holds them is generic, since a proof that sees the fields of one follows each of them over each
-//! way out.
+//! Machines and buses that a test asks. The functions are generic, since a proof that sees the
+//! fields of one follows each of them over each exit.
 ghost use Rattle.std.specs.Prelude.{All, IfOk};
 ghost use Rattle.tube_trace.specs.Entries.{IsEntry};
 
@@ -7,7 +7,7 @@ use std::alloc::Global;
 use std::test::Fail;
 use tube_trace::{Entry, read};
 
-// What a new one answers.
+// Returns the answer of a new one.
 pub(super) fn with_new<T: Drop, R, F: FnOnce(&mut T) -> R + Drop>(
     made: Result<T, Fail>,
     ask: F,
@@ -18,7 +18,7 @@ pub(super) fn with_new<T: Drop, R, F: FnOnce(&mut T) -> R + Drop>(
     Ok(ask(&mut made))
 }
 
-// Two new ones.
+// Makes two.
 pub(super) fn pair<T: Drop, U, F: FnOnce() -> Result<U, Fail> + Drop>(
     made: Result<T, Fail>,
     make_other: F,
@@ -29,7 +29,7 @@ pub(super) fn pair<T: Drop, U, F: FnOnce() -> Result<U, Fail> + Drop>(
     Ok((made, make_other()?))
 }
 
-// The entries of a trace, in which `;` ends a line and `~` stands for eight zeros.
+// Returns the entries of a trace, in which `;` ends a line and `~` is eight zeros.
 pub(super) fn entries_of(alloc: Global, text: &str) -> Result<Vec<Entry>, Fail>
     ensures { IfOk result (λ entries. All IsEntry entries.items) }
 {

@@ -1,4 +1,4 @@
-//! Listings of both machines, against short traces.
+//! Listings of both machines, run against short traces.
 ghost use Rattle.std.specs.Prelude.{◌<◌, All, IfOk, IsTrue};
 
 use super::held::entries_of;
@@ -15,7 +15,7 @@ use std::vec::Vec;
 use tube_chip::Op;
 use tube_party::{Doing, replay};
 
-// Bytes 00 but for some parts.
+// Makes bytes 00, except for some parts.
 fn image(alloc: Global, length: usize, parts: &[(usize, &[u8])]) -> Result<Vec<u8>, Fail> {
     let mut bytes = vec![in alloc; 0; length]?;
     for (start, part) in parts {
@@ -34,8 +34,8 @@ const TWO_LETTERS: &[u8] = &[
     0xf1, 0x4c, 0x11, 0xc0,
 ];
 
-// What stands at F800, and at another place of the boot ROM, of the second processor's program of a name. NMI goes to F820, and IRQ to F840 where
-// JMP F840 stands.
+// Returns the bytes at F800, and at another place of the boot ROM, of the second processor's
+// program of a name. NMI goes to F820, and IRQ to F840, which has JMP F840.
 fn boot_of(name: &str) -> (&'static [u8], usize, &'static [u8]) {
     match name {
         // JMP F800
@@ -81,7 +81,8 @@ const PAGES: &[u8] = &[
     0x0f, 0xc0,
 ];
 
-// What stands at C000, and at another place of the operating system, of the host's program of a name.
+// Returns the bytes at C000, and at another place of the operating system, of the host's program of
+// a name.
 fn os_of(name: &str) -> (&'static [u8], usize, &'static [u8]) {
     match name {
         "letters" => (TWO_LETTERS, 0, &[0xa2]),
@@ -101,7 +102,8 @@ fn os_of(name: &str) -> (&'static [u8], usize, &'static [u8]) {
     }
 }
 
-// Slot 14 has 8 KB that begin with 34, slot 15 has 16 KB that begin with 12, and the others nothing.
+// Makes the ROMs: slot 14 has 8 KB that begin with 34, slot 15 has 16 KB that begin with 12, and
+// the others nothing.
 fn paged(alloc: Global) -> Result<Vec<(u8, Vec<u8>)>, Fail>
     ensures { IfOk result (λ roms. All (λ slot. slot.0 < 16) roms.items) }
 {
@@ -123,7 +125,7 @@ fn host(alloc: Global, name: &str) -> Result<HostMachine<RamCard>, Fail> {
     Ok(HostMachine::make(alloc, Clock::Three, roms, None, None, script, plugs)?)
 }
 
-// `N of M` and the lines, each ended by `;`; or where it differs.
+// Returns `N of M` and the lines, each ended by `;`; or the first difference.
 fn told(alloc: Global, listing: Result<Listing, FollowError>) -> Result<String, Fail> {
     match listing {
         Ok(listing) => {
@@ -168,7 +170,7 @@ fn choice_of(at: Option<u16>, watch: Option<u16>) -> Choice {
     }
 }
 
-// The program, the ticks and what is chosen.
+// Returns the program, the ticks and the choice of a row.
 fn head_of(row: &str) -> Option<(&str, u16, Choice)> {
     let mut words = row.split(' ');
     let name = words.next()?;
@@ -178,8 +180,8 @@ fn head_of(row: &str) -> Option<(&str, u16, Choice)> {
     Some((name, ticks, choice_of(at, watch)))
 }
 
-// A line is a program, the ticks, the address of `--at` and that of `--watch` or `-`; behind `@` what is told; and behind another the trace.
-// `~` stands for eight zeros.
+// A line is a program, the ticks, and the addresses of `--at` and of `--watch` or `-`; after `@`
+// the expected text; and after another `@` the trace. `~` is eight zeros.
 const PARA: &str = "\
 # The first start is at tick 14, behind the reset; a start is listed where its own tick is below the end.
 loop 14 - -@0 of 0;@
@@ -242,7 +244,7 @@ pages 2000 C00A A000@1 of 1;~39 C00A A=0F X=00 Y=00 S=FD P=24 LDA #&03;@
 pages 2000 - 7FFF@0 of 0;@
 ";
 
-// Whether it is told so. Lines that are not looked at stand as `..`.
+// Returns true if the text is the expected one. `..` is any lines.
 fn is_told(told: &str, want: &str) -> bool {
     match want.split_once("..") {
         Some((head, tail)) => told.starts_with(head) && told.ends_with(tail),
@@ -269,7 +271,7 @@ fn is_right<M: Seen>(
     Ok(is_told(told(alloc, listing)?.as_str(), want.as_str()))
 }
 
-// The first line that is not right.
+// Returns the first line that is wrong.
 fn first_wrong(
     alloc: Global,
     side: Side,
@@ -311,7 +313,7 @@ fn the_hosts_starts_are_listed(rt: HostRuntime) -> Result<(), Fail> {
     Ok(())
 }
 
-// The host asks for a letter every 21 ticks, and is given two.
+// The host asks for a letter every 21 ticks, and gets two.
 const LAST_LINES: &str = "\
 000000039A P W 1 48;00000003A6 P W 1 49;00000003AB H R 0 C0;00000003BD H R 1 48;00000003EA H R 0 C0;00000003FC H R 1 49;";
 
@@ -338,10 +340,11 @@ fn a_byte_is_watched_against_a_trace_of_both(rt: HostRuntime) -> Result<(), Fail
     Ok(())
 }
 
-// What stands behind the tick in a line of the loop.
+// The part after the tick in a line of the loop.
 const BEHIND_TICK: &[u8] = b" F800 A=00 X=00 Y=00 S=FD P=24 JMP &F800\n";
 
-// The first of these lines that is not that of its tick. Each is 51 bytes, and 6 ticks behind the one before it.
+// Returns the first line that is not that of its tick. Each is 51 bytes, and 6 ticks after the one
+// before it.
 fn first_bad_line(text: &[u8]) -> Option<usize> {
     let mut tick = 14_u64;
     for (i, line) in text.chunks(51).enumerate() {
@@ -382,10 +385,10 @@ fn a_refusal_is_told(rt: HostRuntime) -> Result<(), Fail> {
     Ok(())
 }
 
-// What a machine is asked for at an address, and what it has there.
+// An address, and the byte that a machine reports for it.
 type Peek = (u16, Option<u8>);
 
-// The first address at which a machine has another byte.
+// Returns the first address at which a machine has another byte.
 fn first_other<M: Seen>(machine: M, peeks: &[Peek]) -> Option<u16> {
     for (at, byte) in peeks {
         if machine.peek(*at) != *byte {
@@ -411,7 +414,7 @@ const HOST_PEEKS: &[Peek] = &[
     (0xfffd, Some(0xc0)),
 ];
 
-// The boot ROM lies over the clear RAM.
+// The boot ROM covers the clear RAM.
 const PARA_PEEKS: &[Peek] = &[
     (0x0000, Some(0x00)),
     (0xf7ff, Some(0x00)),
@@ -423,7 +426,7 @@ const PARA_PEEKS: &[Peek] = &[
     (0xffff, Some(0xf8)),
 ];
 
-// And behind the first access to the Tube it does not.
+// After the first access to the Tube it does not.
 const LATER_PEEKS: &[Peek] = &[
     (0xf800, Some(0x00)),
     (0xfef7, Some(0x00)),

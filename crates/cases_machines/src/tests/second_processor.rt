@@ -1,4 +1,4 @@
-//! The second processor at both clocks, against traces and ahead of them.
+//! The second processor at both clocks, run against traces and ahead of them.
 use super::held::{entries_of, pair, with_new};
 use beeb_bits::{Clock, Side, Tick};
 use para_mach::{ParaError, ParaMachine};
@@ -16,7 +16,8 @@ fn put(bytes: &mut Vec<u8>, start: usize, part: &[u8]) {
     }
 }
 
-// A machine at this clock with this boot ROM: the code at F800, JMP F820 at F820 and JMP F840 at F840, NMI to F820, reset to F800 and IRQ to F840, the rest 00.
+// Makes a machine at this clock with this boot ROM: the code at F800, JMP F820 at F820 and JMP F840
+// at F840, NMI to F820, reset to F800 and IRQ to F840, the rest 00.
 fn fresh(alloc: Global, clock: Clock, code: &[u8]) -> Result<ParaMachine, Fail> {
     let mut bytes = vec![in alloc; 0; 2_048]?;
     put(&mut bytes, 0, code);
@@ -35,7 +36,7 @@ const OPEN_LOOP: &[u8] = &[0x58, 0x4c, 0x01, 0xf8];
 // JMP FEF8
 const STATUS: &[u8] = &[0x4c, 0xf8, 0xfe];
 
-// A letter to register 1, and JMP F805 in the RAM that comes to light there, which is clear: BRK
+// A letter to register 1, and JMP F805. The RAM that then appears there is clear: BRK.
 const LETTER: &[u8] = &[0xa9, 0x48, 0x8d, 0xf9, 0xfe, 0x4c, 0x05, 0xf8];
 
 // A copy of itself to the RAM below it, and then the two letters to register 1.
@@ -71,7 +72,7 @@ fn code_of(name: &str) -> Option<&'static [u8]> {
     }
 }
 
-// 3 or 4 MHz.
+// Returns the clock of 3 or 4 MHz.
 fn clock_of(digit: &str) -> Option<Clock> {
     match digit {
         "3" => Some(Clock::Three),
@@ -80,7 +81,7 @@ fn clock_of(digit: &str) -> Option<Clock> {
     }
 }
 
-// Why no machine is made of a boot ROM of so many bytes.
+// Returns the refusal of a boot ROM of `len` bytes.
 fn refused(alloc: Global, clock: Clock, len: usize) -> Result<Option<ParaError>, Fail> {
     let bytes = vec![in alloc; 0; len]?;
     Ok(ParaMachine::make(alloc, clock, bytes).err())
@@ -112,7 +113,8 @@ fn a_boot_rom_of_another_length_is_told(rt: HostRuntime) -> Result<(), Fail> {
     Ok(())
 }
 
-// PC, A, X, Y, S and P without bits 4 and 5, which are not flags; whether it is held, and whether an instruction begins.
+// Returns PC, A, X, Y, S and P without bits 4 and 5, which are not flags; `held` or `runs`; and
+// `starts` if an instruction begins.
 fn shown(alloc: Global, machine: &ParaMachine) -> Result<String, Fail> {
     let r = machine.regs();
     let held = if machine.held() { "held" } else { "runs" };
@@ -128,8 +130,9 @@ fn shown(alloc: Global, machine: &ParaMachine) -> Result<String, Fail> {
     Ok(text)
 }
 
-// A line is a run from power-on: 3 or 4 MHz, the code, the ticks, and the number of an entry that it does not make or `-`; behind `@` what is
-// shown then, or its beginning; and behind another the trace, in which `;` ends a line and `~` stands for eight zeros.
+// A line is a run from power-on: 3 or 4 MHz, the code, the ticks, and the number of an entry that
+// it does not make, or `-`. After `@` comes the state afterwards, or its beginning; and after
+// another `@` the trace, in which `;` ends a line and `~` is eight zeros.
 const RUNS: &str = "\
 # No ticks: the power-on state.
 3 loop 0 -@0000 00 00 00 00 00 runs within@
@@ -200,10 +203,10 @@ const LOOKS: &str = "\
 4 open 200 3@F801 00 00 00 FD 00 runs @~28 H W 0 82;~2D H W 1 00;~2E P R 1 00;
 ";
 
-// A machine, and the first entry that its run does not make, and what it does in its place.
+// A machine, and the first entry that its run does not make, with the access in its place.
 type Ended = (ParaMachine, Option<(u64, Option<Doing>)>);
 
-// A run from power-on against its side of a trace.
+// Runs from power-on against the machine's side of a trace.
 fn replayed(
     alloc: Global,
     clock: Clock,
@@ -216,7 +219,7 @@ fn replayed(
     Ok(replay(start, Side::Para, &entries, Tick(u64::from(ticks))))
 }
 
-// Whether such a run ends so.
+// Returns true if such a run ends as expected.
 fn ends_so(
     alloc: Global,
     (clock, code, ticks): (Clock, &[u8], u16),
@@ -230,7 +233,7 @@ fn ends_so(
     Ok(shown?.starts_with(want) && place == unmade)
 }
 
-// The clock, the code, the ticks and the entry of a run.
+// Returns the clock, the code, the ticks and the entry of a run.
 fn head_of(row: &str) -> Option<((Clock, &'static [u8], u16), Option<u64>)> {
     let mut words = row.split(' ');
     let clock = clock_of(words.next()?)?;
@@ -239,7 +242,7 @@ fn head_of(row: &str) -> Option<((Clock, &'static [u8], u16), Option<u64>)> {
     Some(((clock, code, ticks), words.next()?.parse().ok()))
 }
 
-// The first run that does not end so.
+// Returns the first run that does not end as expected.
 fn first_wrong(alloc: Global, runs: &'static str) -> Result<Option<&'static str>, Fail> {
     for line in runs.lines() {
         if let Some((head, rest)) = line.split_once('@') {
@@ -267,7 +270,7 @@ fn looks_see_the_chip_after_all_entries_before_them(rt: HostRuntime) -> Result<(
     Ok(())
 }
 
-// Whether the RAM holds the copy, and nothing where the boot ROM's vectors are.
+// Returns true if the RAM holds the copy, and 00 at the boot ROM's vectors.
 fn holds_letters(ram: &[u8]) -> bool {
     ram.get(0xf800..0xf818) == Some(LETTERS) && ram.get(0xffff) == Some(&0)
 }
@@ -295,7 +298,7 @@ fn the_ram_lies_under_the_boot_rom(rt: HostRuntime) -> Result<(), Fail> {
 // A row: a clock, a code and three numbers.
 type Row = (Clock, &'static [u8], u64, u64, u64);
 
-// A row that is in no table, and at which a test fails.
+// A row of no table, which fails each test.
 const NO_ROW: Row = (Clock::Three, LOOP, 0, 0, 2);
 
 fn number(digits: Option<&str>) -> Option<u64> {
@@ -316,17 +319,18 @@ fn row_of(row: &str) -> Option<Row> {
     ))
 }
 
-// Past all that is done here.
+// A tick after all that is done here.
 const END: Tick = Tick(1_000_000);
 
-// A machine that went on from power-on with looks below this tick sure, and what it asks then.
+// Makes a machine that has advanced from power-on with looks below tick `from` safe. Returns its
+// question too.
 fn begun(alloc: Global, clock: Clock, code: &[u8], from: u64) -> Result<(ParaMachine, Ask), Fail> {
     let mut machine = fresh(alloc, clock, code)?;
     let ask = machine.advance_seeing(END, &Chip::new().lines(), Tick(from));
     Ok((machine, ask))
 }
 
-// What shows where a machine is.
+// Returns true if both machines are in the same state, as far as it can be read.
 fn same(one: &ParaMachine, other: &ParaMachine) -> bool {
     one.regs() == other.regs()
         && one.ram() == other.ram()
@@ -335,7 +339,7 @@ fn same(one: &ParaMachine, other: &ParaMachine) -> bool {
         && one.starting() == other.starting()
 }
 
-// The clock, the code, 0, the tick below which looks are sure, and the first look that is not.
+// The clock, the code, 0, the tick below which looks are safe, and the first look that is not.
 const SURE: &str = "\
 3 loop 0 0 13
 3 loop 0 13 13
@@ -365,8 +369,9 @@ fn a_look_is_seen_below_the_safe_tick(rt: HostRuntime) -> Result<(), Fail> {
     Ok(())
 }
 
-// The clock, the code, the tick below which looks are sure at first, then the same for the run that is rolled back, and 1 if it goes that far,
-// else 0: at most 65,536 writes are noted, each of which takes a cycle at least.
+// The clock, the code, the tick below which looks are safe at first, and the same tick for the run
+// that is rolled back. The last number is 1 if this run gets there, otherwise 0. At most 65,536
+// writes are noted, and each takes at least a cycle.
 const TAKEN_BACK: &str = "\
 3 loop 0 0 1
 3 loop 0 900 1
@@ -388,7 +393,8 @@ const TAKEN_BACK: &str = "\
 4 letters 30 13500 1
 ";
 
-// Whether a machine that noted a run of this row and asks this is where one is that noted nothing, which asks the same.
+// Returns true if a machine that noted a run of this row, with this question, is in the state of
+// one without notes that asks the same.
 fn is_ahead(
     alloc: Global,
     machine: &ParaMachine,
@@ -406,14 +412,15 @@ fn is_ahead(
     })
 }
 
-// What is noted of a run.
+// The notes of a run.
 type Past = <ParaMachine as Rewinds>::Past;
 
 fn past(alloc: Global) -> Result<Past, Fail> {
     Ok(ParaMachine::past(alloc)?)
 }
 
-// Whether a run of this row goes ahead and is rolled back to its twin, twice, since nothing of the first time is left.
+// Returns true if a run of this row advances and is rolled back to its twin. It is run twice:
+// nothing of the first time may be left.
 fn is_taken_back(
     alloc: Global,
     machine: &mut ParaMachine,
@@ -432,7 +439,7 @@ fn is_taken_back(
     Ok(is_right)
 }
 
-// The same of new machines, which both ask for the same look at first.
+// Returns true if this holds for new machines, which both ask for the same look at first.
 fn are_taken_back(alloc: Global, row: Row) -> Result<bool, Fail> {
     let make = || begun(alloc, row.0, row.1, row.2);
     let held = pair(pair(make(), make), || past(alloc));
@@ -455,7 +462,8 @@ fn a_run_is_taken_back(rt: HostRuntime) -> Result<(), Fail> {
     Ok(())
 }
 
-// The clock, the code, the ticks below which looks are sure in the first stride and in the second, and 0.
+// The clock, the code, the ticks below which looks are safe in the first stride and in the second,
+// and 0.
 const STRIDES: &str = "\
 3 loop 0 0 0
 3 loop 14 900 0
@@ -469,7 +477,7 @@ const STRIDES: &str = "\
 4 writer 1350 6000 0
 ";
 
-// What is asked after two strides, if the first ends at a look.
+// Returns the question after two strides, if the first ends at a look.
 #[tactic(auto, using(tube_party::specs::Steps::left_pending))]
 fn strode(machine: &mut ParaMachine, past: &mut Past, safe_until: u64, far: u64) -> Option<Ask> {
     let lines = Chip::new().lines();
@@ -486,7 +494,8 @@ fn strode(machine: &mut ParaMachine, past: &mut Past, safe_until: u64, far: u64)
     None
 }
 
-// Whether two strides ask what a run up to both looks asks, and come to where it does, twice, and are rolled back to a twin.
+// Returns true if two strides ask the question of a run up to both looks, and reach its state,
+// twice, and are rolled back to a twin.
 fn are_strides(
     machine: &mut ParaMachine,
     twin: &ParaMachine,
@@ -504,7 +513,7 @@ fn are_strides(
     is_right
 }
 
-// The same of new machines.
+// Returns true if this holds for new machines.
 fn new_ones_stride(alloc: Global, (clock, code, safe_until, far, _): Row) -> Result<bool, Fail> {
     let make = || fresh(alloc, clock, code);
     let others = pair(
@@ -529,7 +538,8 @@ fn strides_go_on_from_one_mark(rt: HostRuntime) -> Result<(), Fail> {
     Ok(())
 }
 
-// A turn of the poll takes twelve cycles. The last of these reads ends it, and the machine is in the RAM from before the first on.
+// Returns the reads of the poll. A turn of it takes twelve cycles, and the last read ends it. The
+// machine runs in the RAM from before the first read on.
 fn reads_of(clock: Clock) -> &'static str {
     match clock {
         Clock::Three => "00000003A0 P R 0 00;00000003B8 P R 0 00;00000003D0 P R 0 80;",
@@ -537,12 +547,12 @@ fn reads_of(clock: Clock) -> &'static str {
     }
 }
 
-// The poll, replayed against these reads up to a tick.
+// Replays the poll against these reads up to a tick.
 fn polled(alloc: Global, clock: Clock, t: u16) -> Result<Ended, Fail> {
     replayed(alloc, clock, POLL, t, reads_of(clock))
 }
 
-// A desk that answers one access by a byte, and no other.
+// A port that answers one access with a byte, and no other.
 #[derive(Drop)]
 struct Once {
     byte: Option<u8>,
@@ -570,7 +580,7 @@ impl TubePort for Once {
     }
 }
 
-// What is asked after the first stride and after each of two reads that are answered ahead.
+// Returns the questions after the first stride and after each of two reads that are answered ahead.
 #[tactic(auto, using(tube_party::specs::Steps::left_pending))]
 fn answered(
     machine: &mut ParaMachine,
@@ -595,7 +605,8 @@ fn answered(
     (first, Some(second), Some(third))
 }
 
-// Whether two reads are answered ahead with these asks, twice, since nothing of the first time is left, and are rolled back to a twin.
+// Returns true if two reads are answered ahead with these questions, and are rolled back to a twin.
+// They are answered twice: nothing of the first time may be left.
 fn are_answered(
     machine: &mut ParaMachine,
     twin: &ParaMachine,
@@ -614,8 +625,9 @@ fn are_answered(
     is_right
 }
 
-// Whether the last two reads are asked at these ticks and answered ahead of a mark behind the first, with looks sure below a tick in the last
-// stride and this look asked then, as where all reads are made up to that look.
+// Returns true if the last two reads come at these ticks and are answered ahead from a checkpoint
+// after the first. In the last stride, looks below tick `safe_until` are safe, and `look` is asked.
+// The state must be that of a run with all reads up to that look.
 fn is_answered(
     alloc: Global,
     clock: Clock,
@@ -654,8 +666,9 @@ fn reads_are_answered_from_one_mark(rt: HostRuntime) -> Result<(), Fail> {
     Ok(())
 }
 
-// The clock, the code, up to where it goes, and then ahead; the looks that are asked then. The reset at power-on takes 14 ticks or 21, and then
-// a look comes every second tick or every third.
+// The clock, the code, the tick up to which it advances, the tick of its speculation's end, and the
+// look that it asks for then. The reset at power-on takes 14 ticks or 21, and then a look comes
+// every second tick or every third.
 const HELD: &str = "\
 3 loop 0 1000 1001
 3 loop 500 500 501
@@ -668,7 +681,8 @@ const HELD: &str = "\
 4 loop 21 24 26
 ";
 
-// Whether both ask the same at first, and one then goes ahead to a look, held, twice, and is rolled back to the other.
+// Returns true if both ask the same at first, and one then advances ahead, held, to a look, twice,
+// and is rolled back to the other.
 fn goes_ahead_held(
     machine: &mut ParaMachine,
     twin: &mut ParaMachine,
@@ -690,7 +704,7 @@ fn goes_ahead_held(
 #[test]
 fn a_held_machine_goes_ahead_too(rt: HostRuntime) -> Result<(), Fail> {
     let mut chip = Chip::new();
-    // P is set: one reset, whose line stands.
+    // P is set: one reset, whose line stays asserted.
     let _ = chip.apply(Side::Host, Op::Write(0, 0xa0));
     let lines = chip.lines();
     for line in HELD.lines() {

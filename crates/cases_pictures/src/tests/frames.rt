@@ -449,8 +449,8 @@ fn step_by_step(scene: &mut Scene, kilobytes: u8, control: u8, n: u64) {
     }
 }
 
-/// Returns true if two frames of this screen are the same clock by clock and by more and more
-/// microseconds at once, and have more than one colour.
+/// Returns true if two frames of this screen have more than one colour, and are the same clock by
+/// clock and by more and more microseconds at once.
 fn is_same(
     alloc: Global,
     (registers, changes, control, kilobytes): (&[u8; 16], &[(usize, u8)], u8, u8),

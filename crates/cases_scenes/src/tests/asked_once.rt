@@ -1,4 +1,4 @@
-//! How often a shelf and an outlet are asked.
+//! The number of requests to a shelf and an outlet.
 ghost use Rattle.beeb_files.specs.Folder.{dir_shelf_state, dir_outlet_state};
 
 use super::scene::words_of;
@@ -7,7 +7,7 @@ use cmd_top::plain;
 use std::alloc::{AllocError, Global};
 use std::test::Fail;
 
-// Under each name the same bytes; how often it was asked.
+// A shelf with the same bytes under each name, and the number of requests to it.
 #[derive(Drop)]
 struct CountingShelf {
     bytes: Vec<u8>,
@@ -29,7 +29,7 @@ impl Shelf for CountingShelf {
     }
 }
 
-// How many bytes it took.
+// An outlet, and the number of bytes that it took.
 #[derive(Drop)]
 struct CountingOutlet {
     taken: u64,
@@ -49,7 +49,8 @@ impl Outlet for CountingOutlet {
     }
 }
 
-// The bytes under each name, the words, and then the status, how often the shelf was asked, and how many bytes the outlet took.
+// The bytes under each name, the words, and then the status, the number of requests to the shelf,
+// and the number of bytes that the outlet took.
 const ROWS: &str = "\
 -check t-0 1 5
 NOP-asm 6502 t out-0 1 1
@@ -58,7 +59,7 @@ NOP-run 7 demo-1 0 0
 -replay host --rom7 a t 7 o --os os --rom0 b-3 4 0
 ";
 
-// What words over these bytes come to.
+// Returns the counts of a command over these bytes.
 fn counts(alloc: Global, bytes: &str, words: &str) -> Result<String, AllocError> {
     let bytes = bytes.as_bytes().to_vec(alloc)?;
     let mut shelf = CountingShelf { bytes, asked: 0 };

@@ -1,4 +1,5 @@
-//! How many cycles the host's accesses take: the first and the last address of each area, from an even and from an odd cycle.
+//! The cycles of the host's accesses: the first and the last address of each area, from an even and
+//! from an odd cycle.
 use super::scene::all_hold;
 use std::test::Fail;
 

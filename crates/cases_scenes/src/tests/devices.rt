@@ -1,4 +1,5 @@
-//! Devices that are handed in: each is dropped once, whatever comes of the words, and an access is one call of one of them.
+//! Devices that are passed in: each is dropped once, for any result of the command, and an access
+//! is one call of one of them.
 use super::programs::program;
 use super::scene::{calls_of, words_of};
 use asm65::assemble;
@@ -13,7 +14,7 @@ use std::sync::{Arc, Wait};
 use std::test::Fail;
 use std::thread::Threads;
 
-// A device that owns no address, and counts when it is dropped.
+// A device that owns no address, and counts its drop.
 struct Counting {
     drops: Arc<AtomicU64>,
 }
@@ -55,7 +56,7 @@ impl BusDevice for Counting {
     }
 }
 
-// Two devices that count at the same place.
+// Makes two devices that share one count.
 fn two(alloc: Global, drops: &Arc<AtomicU64>) -> Result<Vec<Box<dyn BusDevice + Send>>, Fail> {
     let mut plugs: Vec<Box<dyn BusDevice + Send>> = Vec::new(alloc);
     for _ in 0..2 {
@@ -86,7 +87,7 @@ fn shelf(alloc: Global, os: &str) -> Result<MemShelf, Fail> {
     Ok(MemShelf::make(files, Vec::new(alloc)))
 }
 
-// The status, which call of the outlet fails, and the words.
+// The status, the call of the outlet that fails, and the words.
 const ROWS: &str = "\
 0 - solo 100 o --os os --tube tube --plugs 2
 0 - solo 100 o --os os --tube tube --plugs 1
@@ -113,7 +114,7 @@ const ROWS: &str = "\
 5 5 run 100 o --os os --tube tube --plugs 2
 ";
 
-// What words end with, and how often a device was dropped then.
+// Returns a command's status, and the number of drops of a device.
 fn counted<C: Crew, R: Threads + Wait + Sync>(
     rt: &R,
     alloc: Global,
@@ -130,7 +131,7 @@ fn counted<C: Crew, R: Threads + Wait + Sync>(
     Ok((status.number(), drops.load(Ordering::SeqCst)))
 }
 
-// The same of the call that has no crew.
+// Does the same by the call that has no crew.
 fn counted_alone(alloc: Global, words: &str) -> Result<(u8, u64), Fail> {
     let drops = Arc::new(alloc, AtomicU64::new(0))?;
     let plugs = two(alloc, &drops)?;

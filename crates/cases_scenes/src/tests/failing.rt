@@ -1,4 +1,5 @@
-//! Failing surroundings: calls that fail in ordinary use, images one byte short or long, and files that are cut.
+//! Failures: calls that fail in ordinary use, images one byte short or long, and files that are
+//! cut.
 use super::scene::all_hold;
 use std::test::Fail;
 

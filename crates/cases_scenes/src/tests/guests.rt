@@ -1,4 +1,4 @@
-//! Devices that scenes can hand in beside the program's own.
+//! Devices that scenes can pass in beside the program's own.
 ghost use Rattle.std.specs.Prelude.{true, [], ◌∷◌, ◌+◌, ◌%◌, slice_index};
 
 use beeb_bits::NoMemory;
@@ -6,7 +6,8 @@ use bus_plug::{BusDevice, PrinterLatch, RamCard};
 use std::alloc::Global;
 use std::test::Fail;
 
-/// A device that owns all of FRED and JIM. A read answers how many accesses there were before, modulo 256, and that number is what it spills.
+/// A device that owns all of FRED and JIM. A read gives the number of accesses before it, modulo
+/// 256, and the device spills that number.
 #[derive(Drop)]
 struct Counter {
     accesses: u8,
@@ -43,7 +44,7 @@ impl BusDevice for Counter {
     }
 }
 
-/// A device as a counter, of whose bytes there is never memory for.
+/// A device like a counter. There is never memory for its bytes.
 #[derive(Drop)]
 struct Mute {
     counter: Counter,
@@ -69,7 +70,7 @@ impl BusDevice for Mute {
     }
 }
 
-/// The devices of these names, parted by blanks.
+/// Makes the devices of these names, separated by blanks.
 pub(crate) fn devices(alloc: Global, names: &str) -> Result<Vec<Box<dyn BusDevice + Send>>, Fail> {
     let mut plugs: Vec<Box<dyn BusDevice + Send>> = Vec::new(alloc);
     for name in names.split(' ') {

@@ -1,5 +1,5 @@
-//! Hostile machines: hosts and second processors that stop or run what the Tube answers, a device in front of all others, no access kept, and a
-//! crew that starts no thread.
+//! Hostile machines: hosts and second processors that stop or run the Tube's answers, a device
+//! before all others, no access kept, and a crew that starts no thread.
 use super::scene::all_hold;
 use std::test::Fail;
 

@@ -1,4 +1,5 @@
-//! Key scripts: typed keys and interrupts of a timer, worked out by hand, and why a script is refused.
+//! Key scripts: typed keys and interrupts of a timer, worked out by hand, and the refusals of a
+//! script.
 use super::scene::all_hold;
 use std::test::Fail;
 

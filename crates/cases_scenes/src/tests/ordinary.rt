@@ -1,5 +1,5 @@
-//! Ordinary use: an operating system with a language, a filing system, a disc, a second processor, typed keys and pictures; and the
-//! demonstration.
+//! Ordinary use: an operating system with a language, a filing system, a disc, a second processor,
+//! typed keys and pictures; and the demonstration.
 use super::scene::all_hold;
 use std::test::Fail;
 

@@ -33,7 +33,7 @@ org &FFFC
 word start, 0
 ";
 
-// One jump over and over.
+// One jump to itself.
 const LOOP_OS: &str = "\
 org &C000
 here: JMP here
@@ -48,7 +48,8 @@ org &FFFC
 word loop, 0
 ";
 
-/// The source text of the program of this name in the operating system, or in the second processor's boot ROM. It is empty where there is none.
+/// Returns the source text of the program of this name in the operating system, or in the second
+/// processor's boot ROM. It is empty if there is none.
 pub(crate) fn program(file: &str, name: &str) -> &'static str {
     match (file, name) {
         ("os", "letters") => LETTERS_OS,

@@ -1,4 +1,4 @@
-//! Refusals: calls that fail, the order of causes, and what stands after each.
+//! Refusals: calls that fail, the order of causes, and the outputs after each.
 use super::scene::all_hold;
 use std::test::Fail;
 

@@ -1,4 +1,4 @@
-//! Both machines in two threads, beside one.
+//! Both machines in two threads, compared with one thread.
 ghost use Rattle.std.specs.Prelude.{false};
 
 use super::scene::all_hold;
@@ -241,7 +241,7 @@ fn runs_write_the_files_of_solo(rt: HostRuntime) -> Result<(), Fail> {
 pub(crate) struct SlowCrew {
     faults: u64,
     pairs: u64,
-    // Whether the first job had ended when the spinning was over: true until then.
+    // True until the spinning is over; then, true if the first job has ended.
     early: AtomicBool,
 }
 
@@ -254,7 +254,8 @@ impl SlowCrew {
         }
     }
 
-    // The second job was started, and the first had not ended when the spinning was over.
+    // Returns true if the second job was started, and the first had not ended when the spinning was
+    // over.
     pub(crate) fn waited(&self) -> bool {
         self.pairs == 1 && self.faults == 0 && !self.early.load(Ordering::SeqCst)
     }

@@ -1,32 +1,43 @@
-//! Scenes: texts that say which files lie on the shelf, which words are carried out, and what must come of them.
+//! Scenes: texts with the files on the shelf, the words to carry out, and the expected results.
 //!
-//! A line is a step. What it speaks of stands in the lines below it:
+//! A line is a step. The bytes that it names are in the lines below it:
 //!
 //! - `| TEXT` is the text and a line feed, and `+ TEXT` the text alone,
-//! - `x 4C 00..FF` are bytes, here 4C and all from 00 to FF, and `* N LINE` is one of these N times.
+//! - `x 4C 00..FF` are bytes, here 4C and all from 00 to FF, and `* N LINE` is one of these N
+//!   times.
 //!
-//! Lines that are done for each of a list are written out first (`sheet.rt`).
+//! Lines that are done for each item of a list are written out first (`sheet.rt`).
 //!
 //! The steps:
 //!
-//! - `# TITLE` begins a scene: nothing lies on the shelf, and no call fails. `## MORE` goes on with its title.
-//! - `t`: the files `t`, `t.dsd` and `game.ssd` have these bytes, and with `keys` the file `keys`. `os`, `lang` and `dfs`, and `tube`: the files of
-//!   these names are the images of these source texts, for the 6502 and the 65C02; with a name, as `os letters`, of the program of that name
-//!   (`programs.rt`). `ticks A, B`: the file `t` is a trace of these accesses, one at each tick from 0, or as `2A H R 0 40` each behind its tick.
-//! - `plugs NAME..`: these devices are handed in: `card` and `latch`, which are handed in where no others are named, a `counter`, a `mute`, or `none`.
-//! - `fails N,.. M,..`: these calls of the shelf and these of the outlet fail, where `-` is none.
-//! - `$ WORDS`: the words are carried out, where `''` is a word of no letters. `run ..`: these very words are carried out, in two threads. `top
-//!   WORDS`: so are these, in one, by the call that has a crew, `alone WORDS` by a crew that starts no thread, and `slow WORDS` by one that
-//!   begins its second job late. In words `%` is `--os os --tube tube`, or what a step `with WORDS` says in place of it.
-//! - `= STATUS`: they ended with this number and text, the kind of the offence where there is one, and what was said behind a
-//!   colon, or below. `! WORDS` carries out words that are outside the grammar.
-//! - `file NAME`: the file was written with these bytes. `none NAME..`: these were not written. `line NAME TEXT`: this is one of
-//!   its lines. `size NAME N` is its length, and `at NAME ADDRESS BYTES` are its bytes from an address on.
-//! - `trace`: the file `o.trace` becomes the file `t`, the chip gives all its answers, and the outputs are kept. `keep`: the outputs are
-//!   kept, and nothing else. `same NAME..`: these files are the same as in the outputs that were kept. `left N`: so are the first N of the
-//!   names `o.report o.host o.para o.trace w s`, or of those of a step `outputs NAME..`, and the others were not written. `take NAME`: the file
-//!   becomes the file `t`, and `back NAME` that of the outputs that were kept. `poke AT BYTE`: the byte at this place of `t` becomes another;
-//!   `cut N`: `t` has its first N bytes alone.
+//! - `# TITLE` begins a scene: the shelf is empty, and no call fails. `## MORE` continues the
+//!   scene; its text is not used.
+//! - `t`: the files `t`, `t.dsd` and `game.ssd` have these bytes, and with `keys` the file `keys`.
+//!   `os`, `lang` and `dfs`, and `tube`: the files of these names are the images of these source
+//!   texts, for the 6502 and the 65C02; with a name, as `os letters`, of the program of that name
+//!   (`programs.rt`). `ticks A, B`: the file `t` is a trace of these accesses, one at each tick
+//!   from 0, or as `2A H R 0 40` each after its tick.
+//! - `plugs NAME..`: these devices are passed in: `card`, `latch`, a `counter`, a `mute`, or
+//!   `none`. Without this step they are `card` and `latch`.
+//! - `fails N,.. M,..`: these calls of the shelf and these of the outlet fail; `-` is none.
+//! - `$ WORDS`: the words are carried out; `''` is an empty word. `run ..`: the step itself is
+//!   carried out, in two threads. `top WORDS`: the words are carried out in one thread, by the call
+//!   that has a crew; `alone WORDS` uses a crew that starts no thread, and `slow WORDS` one that
+//!   begins its second job late. In words `%` is `--os os --tube tube`, or the words of a step
+//!   `with WORDS`.
+//! - `= STATUS`: the words ended with this number and text, the kind of the offence if there is
+//!   one, and what was said, after a colon or below. `! WORDS` carries out words that are outside
+//!   the grammar.
+//! - `file NAME`: the file was written with these bytes. `none NAME..`: these were not written.
+//!   `line NAME TEXT`: this is one of its lines. `size NAME N` is its length, and `at NAME ADDRESS
+//!   BYTES` are its bytes from an address on.
+//! - `trace`: the file `o.trace` becomes the file `t`, the chip gives all its answers, and the
+//!   outputs are kept. `keep`: the outputs are kept, and nothing else happens. `same NAME..`: these
+//!   files are the same as in the kept outputs. `left N`: the first N of the names `o.report o.host
+//!   o.para o.trace w s`, or of those of a step `outputs NAME..`, are the same too, and the others
+//!   were not written. `take NAME`: the file becomes the file `t`, and `back NAME`: the file of the
+//!   kept outputs does. `poke AT BYTE`: the byte at this place of `t` is replaced; `cut N`: `t` has
+//!   only its first N bytes.
 ghost use Rattle.std.specs.Prelude.{◌≡◌, IfOk, string_bytes};
 
 use super::guests::devices;
@@ -44,7 +55,7 @@ use std::sync::Wait;
 use std::test::Fail;
 use std::thread::Threads;
 
-/// What lies on the shelf, which calls fail, and what the last words left.
+/// The files on the shelf, the calls that fail, and the result of the last words.
 #[derive(Drop)]
 struct Scene {
     alloc: Global,
@@ -65,7 +76,7 @@ struct Scene {
     kept: MemOutlet,
 }
 
-/// Stops the test where a step of the scenes does not hold.
+/// Stops the test at the first step of the scenes that does not hold.
 pub(crate) fn all_hold<R: Threads + Wait + Sync + Abort>(
     rt: &R,
     alloc: Global,
@@ -77,7 +88,8 @@ pub(crate) fn all_hold<R: Threads + Wait + Sync + Abort>(
     Ok(())
 }
 
-// The title of the first scene with a step that does not hold, the step's line in the scenes, the step, and what the last words ended with.
+// Returns the title of the first scene with a step that does not hold, the step's line in the
+// scenes, the step, and the result of the last words.
 fn first_wrong<R: Threads + Wait + Sync>(
     rt: &R,
     alloc: Global,
@@ -86,7 +98,7 @@ fn first_wrong<R: Threads + Wait + Sync>(
     let mut scene = Scene::empty(alloc);
     let mut step = "";
     let mut bytes = Vec::new(alloc);
-    // How many lines were read, and how many up to the step.
+    // The number of lines read, and the number of those up to the step.
     let mut read = 0u32;
     let mut at = 0u32;
     for line in scenes.lines() {
@@ -109,7 +121,7 @@ fn first_wrong<R: Threads + Wait + Sync>(
     }
 }
 
-// The line belongs to the step above it.
+// Returns true if the line belongs to the step above it.
 fn is_more(line: &str) -> bool {
     matches!(line.as_bytes().first(), Some(b'|' | b'+' | b'x' | b'*'))
 }
@@ -191,7 +203,7 @@ impl Scene {
         Ok(Some(format!(in self.alloc; "{title} Line {at}: {step} .. {told}")?))
     }
 
-    // Does a step with the bytes below it, and answers whether it holds.
+    // Does a step with the bytes below it. Returns true if it holds.
     fn holds<R: Threads + Wait + Sync>(
         &mut self,
         rt: &R,
@@ -235,7 +247,7 @@ impl Scene {
         }
     }
 
-    // What lies on the shelf, and which calls fail.
+    // Sets the shelf's files or the calls that fail.
     fn lay(&mut self, word: &str, rest: &str) -> Result<bool, Fail> {
         let alloc = self.alloc;
         match word {
@@ -263,7 +275,7 @@ impl Scene {
         Ok(true)
     }
 
-    // What is said of the steps to come.
+    // Notes a setting of the following steps.
     fn note(&mut self, word: &str, rest: &str) -> Result<bool, Fail> {
         let said = rest.as_bytes().to_vec(self.alloc)?;
         match word {
@@ -316,7 +328,7 @@ impl Scene {
         Ok(())
     }
 
-    // The words by the call that has a crew.
+    // Carries out the words by the call that has a crew.
     fn share<C: Crew, R: Threads + Wait + Sync>(
         &mut self,
         rt: &R,
@@ -340,7 +352,7 @@ impl Scene {
         words_of(self.alloc, row.as_str())
     }
 
-    // The devices that are handed in: the program's, where no others are named.
+    // Makes the devices that are passed in: the program's, if no others are named.
     fn devices(&self) -> Result<Vec<Box<dyn BusDevice + Send>>, Fail> {
         devices(self.alloc, said_or(&self.plugs, "card latch"))
     }
@@ -359,7 +371,8 @@ impl Scene {
         Ok(MemShelf::make(files, self.get_fails.to_vec(alloc)?))
     }
 
-    // The trace of a run is one that the chip gives, line by line; it and the other outputs are kept.
+    // Returns true if the chip gives the trace of a run, line by line. The trace and the other
+    // outputs are kept.
     fn follow(&mut self) -> Result<bool, Fail> {
         let alloc = self.alloc;
         let mut run = MemOutlet::make(alloc, Vec::new(alloc));
@@ -372,7 +385,7 @@ impl Scene {
         Ok(self.told.as_slice() == wanted.as_bytes())
     }
 
-    // The last words ended with this, and said this.
+    // Returns true if the last words ended with this status, and said this.
     fn is_told(&self, status: &str, said: &[u8]) -> bool {
         match self.told.strip_prefix(status.as_bytes()) {
             None => false,
@@ -381,7 +394,7 @@ impl Scene {
         }
     }
 
-    // Each of these files was not written, or is the same as in the outputs that were kept.
+    // Returns true if each of these files was not written, or is the same as in the kept outputs.
     fn are_left(&self, word: &str, names: &str) -> Result<bool, Fail> {
         for name in names.split(' ') {
             if !self.is_left(word, name, &[])? {
@@ -391,7 +404,8 @@ impl Scene {
         Ok(true)
     }
 
-    // The first of the outputs are the same as those that were kept, and the others were not written.
+    // Returns true if the first `count` outputs are the same as the kept ones, and the others were
+    // not written.
     fn first_are_left(&self, count: u32) -> Result<bool, Fail> {
         let names = said_or(&self.outputs, "o.report o.host o.para o.trace w s");
         for (i, name) in names.split(' ').enumerate() {
@@ -403,7 +417,7 @@ impl Scene {
         Ok(true)
     }
 
-    // What the last words ended with, and what they left.
+    // Returns true if the result and the outputs of the last words are as a step says.
     fn is_left(&self, word: &str, rest: &str, bytes: &[u8]) -> Result<bool, Fail> {
         if word == "=" {
             return Ok(self.is_told(rest, bytes));
@@ -423,25 +437,26 @@ impl Scene {
     }
 }
 
-// A file on the shelf.
+// Makes a file on the shelf.
 fn entry(alloc: Global, name: &str, bytes: &[u8]) -> Result<(String, Vec<u8>), AllocError>
     ensures { IfOk result (λ e. string_bytes e.0 ≡ name.now) }
 {
     Ok((String::from_str(alloc, name)?, bytes.to_vec(alloc)?))
 }
 
-// The file as a text, of no lines where it is none.
+// Returns the file as a text, or a text without lines if it is none.
 fn text_of(file: &[u8]) -> &str {
     std::str::from_utf8(file).unwrap_or("")
 }
 
-// What a step said, or this where none did.
+// Returns what a step said, or `usual` if none did.
 fn said_or<'a>(said: &'a [u8], usual: &'a str) -> &'a str {
     let said = text_of(said);
     if said.is_empty() { usual } else { said }
 }
 
-// How many lines of a trace are entries: all but the one that tells a second processor at 4 MHz.
+// Returns the number of a trace's lines that are entries: all but the line of a second processor at
+// 4 MHz.
 fn entries_in(trace: &str) -> u32 {
     let mut count = 0u32;
     for line in trace.lines() {
@@ -461,7 +476,7 @@ fn has_line(file: &[u8], line: &str) -> bool {
     false
 }
 
-// An address, and the bytes from there on.
+// Returns true if the file has the row's bytes from its address on.
 fn has_bytes(file: &[u8], row: &str) -> bool {
     let (address, bytes) = row.split_once(' ').unwrap_or((row, ""));
     let mut at = hex(address) as usize;
@@ -474,7 +489,8 @@ fn has_bytes(file: &[u8], row: &str) -> bool {
     true
 }
 
-// The text of a trace: accesses parted by commas, each behind its tick, or one at each tick from 0.
+// Returns the text of a trace: accesses separated by commas, each after its tick, or one at each
+// tick from 0.
 fn trace(alloc: Global, accesses: &str) -> Result<Vec<u8>, AllocError> {
     let mut text = Vec::new(alloc);
     for (tick, access) in accesses.split(", ").enumerate() {
@@ -488,7 +504,7 @@ fn trace(alloc: Global, accesses: &str) -> Result<Vec<u8>, AllocError> {
     Ok(text)
 }
 
-/// The numbers of a list, with commas between them.
+/// Returns the numbers of a list, with commas between them.
 pub(crate) fn calls_of(alloc: Global, list: &str) -> Result<Vec<u32>, AllocError> {
     let mut calls = Vec::new(alloc);
     for digits in list.split(',') {
@@ -499,7 +515,7 @@ pub(crate) fn calls_of(alloc: Global, list: &str) -> Result<Vec<u32>, AllocError
     Ok(calls)
 }
 
-/// The words of a row.
+/// Returns the words of a row.
 pub(crate) fn words_of(alloc: Global, row: &str) -> Result<Vec<String>, AllocError> {
     let mut words = Vec::new(alloc);
     if row.is_empty() {
@@ -512,7 +528,7 @@ pub(crate) fn words_of(alloc: Global, row: &str) -> Result<Vec<String>, AllocErr
     Ok(words)
 }
 
-/// The number and the text of a status, its kind, and what was said.
+/// Returns the number and the text of a status, its kind, and what was said.
 pub(crate) fn told(alloc: Global, status: &Status, said: &[u8]) -> Result<Vec<u8>, Fail> {
     let mut told = format!(in alloc; "{}", status.number())?.into_bytes();
     let text = status.text(alloc)?;

@@ -1,4 +1,4 @@
-//! A run that is saved, and goes on from its session file.
+//! A run that is saved, and continues from its session file.
 use super::scene::all_hold;
 use std::test::Fail;
 

@@ -1,20 +1,21 @@
-//! Lines of scenes that are done for each of a list, written out.
+//! Lines of scenes that are done for each item of a list, written out.
 //!
-//! - `each ITEM, ITEM, ..`: the lines from here to `end` are done for each of these, one after the other. In them `{}` is the item, `{1}`, `{2}`, ..
-//!   are its words, and `{2+}` is all from the second on.
-//! - `cuts TEXT`: so too, for each beginning of the text, from its first letter alone to all of it.
-//! - `part NAME`: the lines from here to `end` are done wherever a line `do NAME ITEM, ITEM, ..` stands, for each of these; with no item once. Within
-//!   lines that are open still it adds to them.
-//! - `again ITEM, ITEM, ..`: the lines that stood up to the last `end`, for each of these.
+//! - `each ITEM, ITEM, ..`: the lines from here to `end` are done for each of the items, one after
+//!   the other. In them `{}` is the item, `{1}`, `{2}`, .. are its words, and `{2+}` is all from
+//!   the second on.
+//! - `cuts TEXT`: the same for each beginning of the text, from its first letter to all of it.
+//! - `part NAME`: the lines from here to `end` are done at each line `do NAME ITEM, ITEM, ..`, for
+//!   each of the items, or once without an item. Within open lines, `do` adds to these lines.
+//! - `again ITEM, ITEM, ..`: the lines up to the last `end` are done for each of the items.
 //!
-//! Where an `end` or a part is wanting, a step that does not hold is written in place of the lines.
+//! If an `end` or a part is missing, a step that does not hold is written in place of the lines.
 use super::programs::PARTS;
 use std::alloc::{AllocError, Global};
 use std::mem;
 use std::test::Fail;
 
-/// What is written out so far, the parts, and the lines that are open, with their name, of no letters where they are none, and the items for which
-/// they are done.
+/// The lines that are written out already, the parts, and the open lines with their name and their
+/// items. The name is empty if they have none.
 #[derive(Drop)]
 struct Sheet {
     alloc: Global,
@@ -26,7 +27,7 @@ struct Sheet {
     is_open: bool,
 }
 
-/// The scenes with all such lines written out.
+/// Returns the scenes with all such lines written out.
 pub(crate) fn written_out(alloc: Global, scenes: &str) -> Result<String, AllocError> {
     let mut sheet = Sheet {
         alloc,
@@ -70,7 +71,7 @@ impl Sheet {
         }
     }
 
-    // Adds to the open lines, or where there are none to what is written out.
+    // Adds to the open lines, or to the lines written out if none are open.
     fn write(&mut self, text: &str) -> Result<(), AllocError> {
         if self.is_open {
             self.lines.push_str(text)
@@ -96,7 +97,7 @@ impl Sheet {
         self.repeat(name.as_str(), &items)
     }
 
-    // The last lines of the name, for each of the items.
+    // Adds the last lines of the name, for each of the items.
     fn repeat(&mut self, name: &str, items: &[String]) -> Result<(), AllocError> {
         let mut lines = String::from_str(self.alloc, "no part\n")?;
         for (it, text) in &self.parts {
@@ -112,7 +113,7 @@ impl Sheet {
     }
 }
 
-// The lines with an item in its places.
+// Returns the lines with an item in its places.
 fn filled(alloc: Global, lines: &str, item: &str) -> Result<String, AllocError> {
     let mut text = String::new(alloc);
     for piece in lines.split('{') {
@@ -127,7 +128,7 @@ fn filled(alloc: Global, lines: &str, item: &str) -> Result<String, AllocError> 
     Ok(text)
 }
 
-// What of an item stands in a place.
+// Returns the part of an item that a place names.
 fn words_at<'a>(item: &'a str, place: &str) -> &'a str {
     let (digits, is_more) = match place.split_once('+') {
         Some((digits, _)) => (digits, true),

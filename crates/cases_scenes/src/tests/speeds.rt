@@ -1,4 +1,5 @@
-//! The second processor at 4 MHz, beside one at 3 MHz: ticks of 1/12 and of 1/6 microsecond, and the form of a trace that tells which.
+//! The second processor at 4 MHz, compared with one at 3 MHz: ticks of 1/12 and of 1/6 microsecond,
+//! and the line of a trace that gives the speed.
 use super::scene::all_hold;
 use std::test::Fail;
 

@@ -1,4 +1,4 @@
-//! The statuses, and what no table of words shows.
+//! The statuses, and cases that no table of words has.
 use super::scene::words_of;
 use beeb_bits::{Side, Tick};
 use beeb_files::{MemOutlet, MemShelf};
@@ -106,7 +106,7 @@ fn each_status_has_its_number_and_text(rt: HostRuntime) -> Result<(), Fail> {
     Ok(())
 }
 
-// What a command over one file `in` ends with, and the file `out` that it leaves.
+// Returns the status of a command over one file `in`, and the file `out` that it leaves.
 fn made(alloc: Global, row: &str, bytes: &[u8]) -> Result<(u8, Vec<u8>), Fail> {
     let entry = (String::from_str(alloc, "in")?, bytes.to_vec(alloc)?);
     let mut shelf = MemShelf::make(vec![in alloc; entry]?, Vec::new(alloc));
@@ -117,7 +117,7 @@ fn made(alloc: Global, row: &str, bytes: &[u8]) -> Result<(u8, Vec<u8>), Fail> {
     Ok((status.number(), file))
 }
 
-// The bytes are one instruction or three bytes, and come back from their text.
+// Returns true if the bytes come back from their text. They are one instruction or three bytes.
 fn comes_back(alloc: Global, part: &str, bytes: &[u8]) -> Result<bool, Fail> {
     let asm = format!(in alloc; "asm {part} in out")?;
     let dis = format!(in alloc; "dis {part} in 8000 out")?;

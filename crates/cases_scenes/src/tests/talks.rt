@@ -1,5 +1,7 @@
-//! Two machines that talk: polls by the thousand, ends at each tick around an access, and accesses by every form. A host's cycle is 3 ticks, one of
-//! the second processor 2, at 4 MHz 6 and 3; their first instructions begin at ticks 21 and 14, and at equal ticks the host's access comes first.
+//! Two machines that talk: thousands of polls, ends at each tick near an access, and accesses in
+//! every form. A host's cycle is 3 ticks and one of the second processor 2; at 4 MHz they are 6 and
+//! 3. Their first instructions begin at ticks 21 and 14. At equal ticks the host's access comes
+//! first.
 use super::scene::all_hold;
 use std::test::Fail;
 

@@ -1,4 +1,5 @@
-//! Traces whose answers were worked out by hand from Application Note 004 and this project's profile.
+//! Traces. Their answers were worked out by hand from Application Note 004 and this project's
+//! profile.
 use super::scene::all_hold;
 use std::test::Fail;
 

@@ -1,4 +1,4 @@
-//! Little transfers by polling, by NMIs and by IRQs, whose ends were worked out by hand.
+//! Little transfers by polling, by NMIs and by IRQs. Their ends were worked out by hand.
 use super::scene::all_hold;
 use std::test::Fail;
 

@@ -157,8 +157,8 @@ fn the_first_place_that_differs_is_told(rt: HostRuntime) -> Result<(), Fail> {
 
 #[test]
 fn a_look_sees_the_entries_before_it(rt: HostRuntime) -> Result<(), Fail> {
-    // The side of the party, the trace, the line of its side's first entry, which the party has not
-    // made, and the resets and the host's IRQ line that the look at tick 5 sees.
+    // The side of the party, the trace, and the line of its side's first entry, which the party has
+    // not made. Then come the resets and the host's IRQ line that the look at tick 5 sees.
     let rows: [(Side, &str, Option<u64>, u32, bool); 10] = [
         (Side::Para, "", None, 0, false),
         // P is set and cleared again: one reset. An access of the host at the tick of the look

@@ -4,7 +4,7 @@ use Rattle.follow.specs.CodeNotes.{kept_of}
 use Rattle.follow.specs.CodeWatched.{order, watched_of, watched_transitions}
 use Rattle.follow.proofs.watcher.WatcherParty.advance_seeing.Given as goal
 
--- of the steps so far each asked nothing, or was a sure look
+-- each step done asked nothing, or was a safe look
 abbrev pub invariant-loop-tick : goal.invariant-loop-tick
 invariant-loop-tick g l =
     (k : ℕ) × Looks (watched_transitions g.M.Seen.steps g.M.Seen.sights) l.until.0 (shown_lines l.lines l.safe_until.0) k
