@@ -72,6 +72,9 @@ use Rattle.cmd_replayed.specs.Made.{host_of, para_of}
 use Rattle.cmd_replayed.specs.Replay.{verdict_of_place, unless_wrong}
 use Rattle.cmd_replay.specs.Replay.{side_count, replayed, replay_after}
 use Rattle.cmd_follow.specs.Follow.{listed_verdict, listed_by, follow_after, points_read, with_points, chosen_with}
+use Rattle.demo_gen.specs.Demo.{HasFittingImages}
+use Rattle.demo_gen.proofs.Fitting as fitting
+use Rattle.cmd_pair.specs.Gen.{gen_after, gen_setup, gen_ticks, gen_verdict, pair_inputs}
 use Rattle.cmd_pair.specs.Solo.{solo_after}
 use Rattle.cmd_session.specs.Session.{state_of, state_refusal, session_ended, session_after}
 use Rattle.cmd_tools.specs.Asm as tools
@@ -259,6 +262,15 @@ module _ (lengths : LengthsComeFirst) where
   unfolding session_after state_of
   session_told plugs ticks keep names i = session_told_by plugs ticks keep names (sessions.file i.state)
 
+  -- the images of every seed fit
+  gen_told : (seed : ℕ) → Says (gen_after seed) []
+  unfolding gen_after
+  gen_told seed =
+      let fit : HasFittingImages seed = fitting.all_fit seed in
+      let told = both_told gen_setup (pair_inputs fit.os fit.tube)
+      (λ m. Ok (gen_verdict seed (reference host_transitions para_transitions m.0 m.1 gen_ticks).host)) [] refl in
+      rw (fit.os_is, fit.tube_is) (rw (fit.os_fits, fit.tube_fits) at told)
+
 checked : (entries : List Entry) (w : Option (ℕ × ℕ)) → Says (Ok (tools_check.check_verdict entries w)) (wrong_by w ∷ [])
 checked entries None = refl
 checked entries (Some w) = refl
@@ -279,24 +291,24 @@ dis_told_by true v n done = refl
 dis_told_by false v n done = rw done
 
 -- the result of a command, by what it read
-read_told : LengthsComeFirst → (plugs : List Plug) (c : Command) (i : Inputs) → ((seed : ℕ) → Some c ≡ Some (gen seed) → ⊥) → Says (after plugs c i) (read_causes plugs c i)
+read_told : LengthsComeFirst → (plugs : List Plug) (c : Command) (i : Inputs) → Says (after plugs c i) (read_causes plugs c i)
 unfolding check_after trace_of tools.asm_after tools.dis_after
-read_told lengths plugs (check name) i alone = check_told_by (trace i.trace)
-read_told lengths plugs (asm part text out) i alone = asm_told_by out (source part i.source)
-read_told lengths plugs (dis part image origin out) i alone = dis_told_by (nat_lt 65536 (origin + length i.image)) (file_verdict out (decode part i.image origin)) (length i.image) refl
-read_told lengths plugs (replay side name ticks out given) i alone = replay_told lengths (setup_of given plugs) side ticks (names_of out given) i
-read_told lengths plugs (solo ticks out keep given) i alone = solo_told lengths (setup_of given plugs) ticks keep (names_of out given) i
-read_told lengths plugs (run ticks out keep given) i alone = solo_told lengths (setup_of given plugs) ticks keep (names_of out given) i
-read_told lengths plugs (resume state ticks out keep given) i alone = session_told lengths plugs ticks keep (names_of out given) i
-read_told lengths plugs (follow side name ticks out given) i alone = follow_told lengths (setup_of given plugs) side ticks (choice_of given) out i
-read_told lengths plugs (gen seed) i alone = absurd (alone seed refl)
+read_told lengths plugs (check name) i = check_told_by (trace i.trace)
+read_told lengths plugs (asm part text out) i = asm_told_by out (source part i.source)
+read_told lengths plugs (dis part image origin out) i = dis_told_by (nat_lt 65536 (origin + length i.image)) (file_verdict out (decode part i.image origin)) (length i.image) refl
+read_told lengths plugs (replay side name ticks out given) i = replay_told lengths (setup_of given plugs) side ticks (names_of out given) i
+read_told lengths plugs (solo ticks out keep given) i = solo_told lengths (setup_of given plugs) ticks keep (names_of out given) i
+read_told lengths plugs (run ticks out keep given) i = solo_told lengths (setup_of given plugs) ticks keep (names_of out given) i
+read_told lengths plugs (resume state ticks out keep given) i = session_told lengths plugs ticks keep (names_of out given) i
+read_told lengths plugs (follow side name ticks out given) i = follow_told lengths (setup_of given plugs) side ticks (choice_of given) out i
+read_told lengths plugs (gen seed) i = gen_told lengths seed
 
 -- the result of a command on the files that the shelf holds
-verdict_told : LengthsComeFirst → (plugs : List Plug) (c : Command) (files : Files) → ((seed : ℕ) → Some c ≡ Some (gen seed) → ⊥) →
+verdict_told : LengthsComeFirst → (plugs : List Plug) (c : Command) (files : Files) →
     Tells (verdict (plan plugs c) files) (causes plugs files (Some c))
-verdict_told lengths plugs c files alone =
+verdict_told lengths plugs c files =
     all_read files (reads c) (λ list. or_stop (after plugs c (inputs_of list))) (read_causes plugs c (inputs_of (held files (reads c))))
-    (read_told lengths plugs c (inputs_of (held files (reads c))) alone)
+    (read_told lengths plugs c (inputs_of (held files (reads c))))
 
 -- ---- from the result of a command to its status
 
@@ -356,8 +368,7 @@ none_unread files front inputs read =
     (ap (λ xs. end_of (first_of xs)) (sym (append-nil (map (unread files) front))) ∙ tells
     ∙ ap (λ (r : Result (plans.Inputs InputKind) (Stop Cause)). Some (ending_of (r >>= λ _. Ok done))) read)
 
-module _ (lengths : LengthsComeFirst) (plugs : List Plug) (files : Files) (c : Command) (old new : World) (told : old.shelf.files ≡ Some files)
-    (alone : (seed : ℕ) → Some c ≡ Some (gen seed) → ⊥) where
+module _ (lengths : LengthsComeFirst) (plugs : List Plug) (files : Files) (c : Command) (old new : World) (told : old.shelf.files ≡ Some files) where
   abbrev the_plan : Plan InputKind Ending Cause
   the_plan = plan plugs c
 
@@ -369,7 +380,7 @@ module _ (lengths : LengthsComeFirst) (plugs : List Plug) (files : Files) (c : C
 
   lands : (status : Status) (r : Result (Verdict Ending) (Stop Cause)) → verdict the_plan files ≡ r → end_of status ≡ Some (ending_of r) → status ≡ first_of the_causes
   lands status r is end =
-      same_end status (first_of the_causes) (end ∙ sym (verdict_told lengths plugs c files alone ∙ ap (λ (x : Result (Verdict Ending) (Stop Cause)). Some (ending_of x)) is))
+      same_end status (first_of the_causes) (end ∙ sym (verdict_told lengths plugs c files ∙ ap (λ (x : Result (Verdict Ending) (Stop Cause)). Some (ending_of x)) is))
 
   stopped : (r : Result (plans.Inputs InputKind) (Stop Cause)) → read_all {C = Cause} files (reads c) ≡ r → verdict the_plan files ≡ (r >>= λ inputs. or_stop (the_plan.after inputs))
   stopped r is = ap (λ (x : Result (plans.Inputs InputKind) (Stop Cause)). x >>= λ inputs. or_stop (the_plan.after inputs)) is
@@ -410,7 +421,7 @@ module _ (lengths : LengthsComeFirst) (plugs : List Plug) (files : Files) (c : C
   -- it reached a verdict
   written_behind : (v : Verdict Ending) → ComesTo the_plan old.shelf.files (Ok v) → ComesToWriting the_causes
   written_behind v comes =
-      comes_to (first_of the_causes) v.ending (verdict_told lengths plugs c files alone ∙ ap (λ (x : Result (Verdict Ending) (Stop Cause)). Some (ending_of x)) (verdict_is (Ok v) comes))
+      comes_to (first_of the_causes) v.ending (verdict_told lengths plugs c files ∙ ap (λ (x : Result (Verdict Ending) (Stop Cause)). Some (ending_of x)) (verdict_is (Ok v) comes))
 
   carried_in_order : (status : Status) → EndsWith plugs c old new status → RefusesInOrder plugs files (Some c) old new status
   unfolding EndsWith
@@ -433,5 +444,5 @@ no_words plugs files old new status is = record {
 }
 
 pub refusals_in_order : LengthsComeFirst → RefusalsInOrder
-refusals_in_order lengths plugs files None old new status told alone answer = no_words plugs files old new status (answer.usage.1 refl)
-refusals_in_order lengths plugs files (Some c) old new status told alone answer = carried_in_order lengths plugs files c old new told alone status answer.ran
+refusals_in_order lengths plugs files None old new status told answer = no_words plugs files old new status (answer.usage.1 refl)
+refusals_in_order lengths plugs files (Some c) old new status told answer = carried_in_order lengths plugs files c old new told status answer.ran

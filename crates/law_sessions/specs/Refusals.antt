@@ -280,11 +280,10 @@ pub record RefusesInOrder (plugs : List Plug) (files : Files) (spelt : Option Co
   pub starting : status ≡ NoThread → ComesToWriting (causes plugs files spelt)
   pub writing : (name : List ℕ) → status ≡ WriteFault name → ComesToWriting (causes plugs files spelt)
 
--- The shelf has the files, and the words do not spell `gen`, which reads no file.
+-- The status of each top call has its cause, if the shelf has the files.
 abbrev pub RefusalsInOrder : Type 0
 RefusalsInOrder =
     (plugs : List Plug) (files : Files) (spelt : Option Command) (old new : World) (status : Status) →
     old.shelf.files ≡ Some files →
-    ((seed : ℕ) → spelt ≡ Some (gen seed) → ⊥) →
     IsAnswer plugs spelt old new status →
     RefusesInOrder plugs files spelt old new status
