@@ -1,15 +1,20 @@
 #!/usr/bin/env python3
-"""surroundings.py [--all] [--page]: has the program meet what folders and systems hold: files that are missing, empty, unreadable, too long or no
-files at all, disks that are full, outputs that cannot be written, and more. Each case has its words, the exit status and text that are wanted by
-the table of docs/COMMANDS.md, and what has to stand on disk afterwards; every other file has to be as it was.
+"""surroundings.py [--all] [--page]: tries the program with what folders and systems hold: files that
+are missing, empty, unreadable or too long, things that are no files, full disks, outputs that
+cannot be written, and more. Each case has its arguments, the exit status and text by the table of
+docs/COMMANDS.md, and the files that must be on disk afterwards. Every other file must be
+unchanged.
 
-Then it saves a session over itself and ends the program at a hundred moments of it: fifty times by a signal while the file is written, once so many
-bytes of it are there (SIGXFSZ of a file's longest length), and fifty times by SIGKILL at times spread over the run. It tells how often the session
-was as before, was the new one, and was neither; the last differs.
+Then it saves a session over itself and ends the program at a hundred moments of it. Fifty times
+SIGXFSZ ends it when the written file has reached a given length, and fifty times SIGKILL at times
+spread over the run. It prints how often the session was the old one, the new one, and neither;
+the last is a fault.
 
-Prints a line for each case that differs, one for each that is known to, one for each that was skipped, and the counts; --all prints every case,
-and --page the tables of docs/FILES-CASES.md. The exit status is 1 where a case differs. As root it calls the program as another user too (setpriv) and mounts a small disk; else
-those cases are skipped."""
+It prints a line for each case that differs, for each that is known to differ and for each that
+was skipped, and the counts. --all prints every case, and --page the tables of
+docs/FILES-CASES.md. The status is 1 if a case differs. As root it also calls the program as
+another user (setpriv) and mounts a small disk; otherwise it skips those cases.
+"""
 import os
 import re
 import resource
@@ -63,7 +68,7 @@ def text_of(name):
 
 
 def put(name, text=b"", length=None, mode=None):
-    """A file of these bytes, or of so many that are 00 and take no room."""
+    """A file of these bytes, or of this many zeros, which take no room."""
     def prepare():
         with open(name, "wb") as file:
             file.write(text)
@@ -115,7 +120,7 @@ def outputs(out, like="good", ends=ENDS):
 
 
 def script_of(length):
-    """A good key script of exactly so many bytes."""
+    """A good key script of exactly this length."""
     long, short = b"at 0 down 00\n", b"at 0 up 00\n"
     for shorts in range(13):
         if (length - 11 * shorts) % 13 == 0:
@@ -468,7 +473,7 @@ def fresh(folder):
 
 
 def stand():
-    """Each file of the folder, with what tells whether it was changed."""
+    """Each file of the folder, with what shows whether it was changed."""
     found = {}
     for folder, _, names in os.walk(b"."):
         for name in names:
@@ -531,7 +536,7 @@ def run(case, path):
     for number in opened:
         os.close(number)
     for helper in helpers:
-        # What stands at the other end of a FIFO ends by itself; a program that runs does not.
+        # The process at the other end of a FIFO ends by itself; a program that runs does not.
         try:
             helper.wait(timeout=0.5)
         except subprocess.TimeoutExpired:
@@ -571,7 +576,7 @@ MOMENTS = 50
 
 
 class Moments:
-    """What stands of a session that is saved over itself where the program is ended in the midst of it."""
+    """What is left of a session that is saved over itself if the program is ended meanwhile."""
 
     def __init__(self, path, folder):
         self.path, self.folder = path, folder
