@@ -1,10 +1,10 @@
 #!/usr/bin/env python3
 """system_mame.py [NAME ..]: runs the images of system/built in MAME's `bbcb` and in the program.
 
-Both print the same codes and press the same keys. The script compares memory from 0000 to 7FFF, and
-in modes 0, 1, 2, 4 and 5 each pixel; a line for each run has the number that differ. It leaves out
-cells that hold times, or what an interrupt left: TIMING names them. The status is 1 if anything else
-differs. It needs MAME (Debian package mame).
+Both print the same codes and press the same keys. The script compares memory from 0000 to 7FFF,
+and in modes 0, 1, 2, 4 and 5 each pixel; a line for each run has the number that differ. It
+leaves out cells that hold times, or what an interrupt left: TIMING names them. The status is 1 if
+anything else differs. It needs MAME (Debian package mame).
 """
 import os
 import shutil
