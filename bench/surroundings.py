@@ -229,7 +229,7 @@ def tell_cases():
     over = outputs("out", ends=(".report", ".host"))
     add(group, "a file may have 40,000 bytes (`ulimit -f`), and the signal of that is ignored", solo("out"), 5, "cannot write out.para",
         changed=over, command=("bash", "-c", "ulimit -f 40; trap '' XFSZ; exec \"$@\"", "bash"))
-    add(group, "the same, where the signal is not ignored", solo("out"), -signal.SIGXFSZ, changed={**over, "out.para.new0": lambda text: wanted["good.para"].startswith(text)}, command=("bash", "-c", "ulimit -f 40; exec \"$@\"", "bash"),
+    add(group, "the same, if the signal is not ignored", solo("out"), -signal.SIGXFSZ, changed={**over, "out.para.new0": lambda text: wanted["good.para"].startswith(text)}, command=("bash", "-c", "ulimit -f 40; exec \"$@\"", "bash"),
         known="5 `cannot write out.para`")
     add(group, "the working folder is gone", ["asm", "6502", "../small.asm", "image"], 5, "cannot write image", command=("sh", "-c", "mkdir gone && cd gone && rmdir ../gone && exec \"$@\"", "sh"))
 
@@ -257,10 +257,10 @@ def tell_cases():
     group = "Standard output, standard error and standard input"
     add(group, "standard output closed", ["check", "nmi.trace"], 5, "cannot write -", **closed(1))
     add(group, "standard output closed, of `gen`", ["gen", "1"], 5, "cannot write -", **closed(1))
-    add(group, "standard output closed, where nothing is said", solo("out"), 0, changed=outputs("out"), **closed(1))
+    add(group, "standard output closed, if nothing is printed", solo("out"), 0, changed=outputs("out"), **closed(1))
     add(group, "standard output a full device", ["check", "nmi.trace"], 5, "cannot write -", how={"stdout": "/dev/full"})
     add(group, "the same, a wrong trace", ["check", "wrong.trace"], 5, "cannot write -", how={"stdout": "/dev/full"})
-    add(group, "the same, where nothing is said", solo("out"), 0, changed=outputs("out"), how={"stdout": "/dev/full"})
+    add(group, "the same, if nothing is printed", solo("out"), 0, changed=outputs("out"), how={"stdout": "/dev/full"})
     add(group, "standard output a pipe without a reader", ["check", "nmi.trace"], 5, "cannot write -", how={"stdout": "broken"})
     add(group, "standard error closed", ["check", "missing"], 2, **closed(2))
     add(group, "standard error a full device", ["check", "missing"], 2, how={"stderr": "/dev/full"})
@@ -333,8 +333,8 @@ def tell_session_cases():
     add(group, "a FIFO with a reader", solo("out", "--save", "fifo"), 0, changed={**back, "read": "state"}, before=fifo("fifo", "cat fifo >read"))
     add(group, "a FIFO whose reader goes", solo("out", "--save", "fifo", "--disc0", "large"), 5, "cannot write fifo", changed={**back, "out.d0": None},
         before=both(put("large", length=204800), fifo("fifo", "head -c 1 fifo >/dev/null")))
-    add(group, "standard output closed, where nothing is said", resume("state"), 0, changed=back, **closed(1))
-    add(group, "standard output closed, where an access is wrong", resume("other"), 5, "cannot write -", before=lambda: put("other", wanted["state"][:-1] + b"\x48")(), **closed(1))
+    add(group, "standard output closed, if nothing is printed", resume("state"), 0, changed=back, **closed(1))
+    add(group, "standard output closed, if an access is wrong", resume("other"), 5, "cannot write -", before=lambda: put("other", wanted["state"][:-1] + b"\x48")(), **closed(1))
     add(group, "no thread may be started", resume("state", out="open/out"), 0, changed=outputs("open/out"), before=an_open_folder, command=AS_OTHER + ("prlimit", "--nproc=1"), needs="another user")
 
     group = "Listings"
@@ -343,7 +343,7 @@ def tell_session_cases():
     add(group, "as any output", follow("good.trace"), 0, out=told, changed=listed)
     for title, how in (("closed", closed(1)), ("a full device", {"how": {"stdout": "/dev/full"}}), ("a pipe without a reader", {"how": {"stdout": "broken"}})):
         add(group, "standard output %s" % title, follow("good.trace"), 5, "cannot write -", changed=listed, **how)
-    add(group, "standard output closed, where the host differs", follow("empty"), 5, "cannot write -", **closed(1))
+    add(group, "standard output closed, if the host differs", follow("empty"), 5, "cannot write -", **closed(1))
     add(group, "the host differs", follow("empty"), 8, out="differs 1 0000000024 H R 0 --\n")
     add(group, "all three closed", follow("good.trace"), 5, changed=listed, command=("sh", "-c", "exec \"$@\" <&- >&- 2>&-", "sh"))
     add(group, "over its trace", follow("out.list"), 0, out=told, changed=listed, before=put("out.list", wanted["good.trace"]))
@@ -364,7 +364,7 @@ def tell_session_cases():
         changed={"out.list": lambda text: text.count(b"\n") == 1048576 and text.endswith(b"\n0000600008 F800 A=00 X=00 Y=00 S=FD P=24 JMP &F800\n")}, memory=600)
     add(group, "what is counted, over a longer file", follow("good.trace", "--counts"), 0, out=told, changed={**listed, "out.counts": is_counted},
         before=put("out.counts", b"\xaa" * 100000))
-    add(group, "what is counted, where that is a folder", follow("good.trace", "--counts"), 5, "cannot write out.counts", changed=listed,
+    add(group, "what is counted, if that is a folder", follow("good.trace", "--counts"), 5, "cannot write out.counts", changed=listed,
         before=lambda: os.mkdir("out.counts"))
     add(group, "all addresses", follow("good.trace", "--points", "points"), 0, out=told, changed=listed, before=put("points", ALL_POINTS))
     add(group, "one byte more", follow("good.trace", "--points", "points"), 2, "too long points", before=put("points", ALL_POINTS + b"0"))
@@ -709,7 +709,7 @@ def main():
         moments = try_moments(path, work)
         counts["differ" if moments.counts["neither"] else "as wanted"] += 1
         if page:
-            print("\n### Ended in the midst of it\n\nA session that is saved over itself, %s." % moments.told())
+            print("\n### Ended while it writes\n\nA session that is saved over itself, %s." % moments.told())
         elif moments.counts["neither"] or show:
             print("%s: a session that is saved over itself, %s" % ("differs" if moments.counts["neither"] else "as wanted", moments.told().replace("\n", " ")))
     finally:
