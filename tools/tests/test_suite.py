@@ -901,7 +901,7 @@ class Crates(Suite):
         os.mkdir(self.at("own"))
         put(self.at("own/ro-crate-metadata.json"), b"{}")
         put(self.at("own/m"), self.tool("manifest", "gen", "1").out.encode())
-        self.assertIn("is not overwritten", self.tool("manifest", "--crate", "own/m", status=1).err)
+        self.assertIn("is not written over", self.tool("manifest", "--crate", "own/m", status=1).err)
 
 
 class Elsewhere(Suite):
