@@ -1,7 +1,8 @@
 #!/usr/bin/env bash
-# Times `asm` on a source text of 4,194,304 bytes, with 60,000 labels, 20,000 instructions that name them and comments, against
-# `sha256sum` of the same file. Then the peak memory for two texts of as many bytes that are one line: a comment, and a `byte` with
-# more values than the memory has bytes, which is refused.
+# Times `asm` on a source text of 4,194,304 bytes, beside `sha256sum` of the same file. The text has
+# 60,000 labels, 20,000 instructions that name them, and comments. Then it prints the peak memory
+# for two texts of the same length with one line each: a comment, and a `byte` with more values than
+# the memory has bytes, which `asm` refuses.
 . "$(dirname "$0")/common.sh"
 
 python3 - <<'PY'

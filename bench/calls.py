@@ -1,6 +1,9 @@
-"""Calls the program again and again without loading it anew each time: a library that is put before the C library (LD_PRELOAD) stops it where its
-`main` would begin, and goes on from there in a copy (`fork`) with the words of a call. A call that is made `besides` goes on in the copy of the one
-before, which begins its `main` once more. Without a C compiler, and where `anew` asks for it, the program is started as a shell starts it."""
+"""Calls the program again and again, and loads it only once. A library that is loaded before the C
+library (LD_PRELOAD) stops the program before its `main`. For each call it goes on from there in a
+copy (`fork`) with the call's arguments. A call `besides` goes on in the copy of the call before,
+which begins its `main` once more. Without a C compiler, and if `anew` asks for it, the program
+starts as a shell starts it.
+"""
 import fcntl
 import os
 import select
@@ -11,10 +14,11 @@ import subprocess
 
 LIMIT = 20  # seconds of a call
 MOST_WORDS, MOST_BYTES = 256, 65536  # of a call that is made by a copy
-TO, OF = 198, 199  # the numbers of the files by which the library is told of calls, and tells how they ended
+TO, OF = 198, 199  # the files by which the library gets calls, and reports how they ended
 
-# A call is the number of its words, their bytes, whether it needs a copy of its own, and the words with a zero behind each; its end is what `waitpid`
-# says. A copy reads the calls behind its first one itself, and ends with one that needs another copy.
+# A call is the number of its arguments, their bytes, whether it needs a copy of its own, and the
+# arguments with a zero after each; its end is the answer of `waitpid`. A copy reads the calls after
+# its first one itself, and ends at one that needs another copy.
 LIBRARY = r"""
 #define _GNU_SOURCE
 #include <dlfcn.h>
@@ -104,7 +108,7 @@ class Calls:
 
     def __init__(self, path, preload):
         self.path = path
-        # What is said goes into files in memory, behind what stands there, of which there is nothing.
+        # The outputs go into files in memory, after what is there; nothing is there.
         self.said = [os.memfd_create(name) for name in ("out", "err")]
         for number in self.said:
             fcntl.fcntl(number, fcntl.F_SETFL, os.O_APPEND)

@@ -1,7 +1,9 @@
 #!/usr/bin/env bash
-# Times accesses through the cell that both sides share: 4,000,000 on one thread, by both sides in turn, and 2,000,000 of each
-# side on two threads, on two processors and then on one, where a side that is not admitted rests. Every access waits for the other
-# side's horizon, and each try has one load. The program that is timed is made, proved and built here, in a folder of its own, on the crates that it needs.
+# Times accesses through the cell that both sides share. One thread makes 4,000,000 accesses, by
+# both sides in turn. Then each side makes 2,000,000 on a thread of its own, on two processors and
+# on one; a side that is not admitted rests. Every access waits for the other side's horizon, and
+# each try has one load. The script makes, proves and builds the timed program in a folder of its
+# own, on the crates that it needs.
 . "$(dirname "$0")/common.sh"
 
 needed='digits beeb_bits tube_chip tube_trace tube_cell'
@@ -30,7 +32,7 @@ use tube_chip::Op;
 
 const ACCESSES: u64 = 2_000_000;
 
-// A side that is not admitted after so many tries gives up.
+// The tries after which a side that is not admitted gives up.
 const TRIES: u64 = 1_000_000_000;
 
 // The own horizon past all ticks, so that the other side gets on.

@@ -1,5 +1,6 @@
 #!/usr/bin/env bash
-# Times `check` on the largest trace that the product writes, 4,194,304 lines of 20 bytes, against `sha256sum` of the same file.
+# Times `check` on the largest trace that the program writes, 4,194,304 lines of 20 bytes, beside
+# `sha256sum` of the same file.
 . "$(dirname "$0")/common.sh"
 
 # Bytes both ways through registers 1 and 2, with the status reads around them.

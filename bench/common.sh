@@ -1,5 +1,6 @@
-# What the measurements share: the program, a working folder of their own, the pairs of programs that are timed, and a command timed against
-# sha256sum of its file. BEEBTUBE=PROGRAM runs that program in place of the one of this checkout, and then nothing is proved or built for it.
+# What the measurements share: the program, a working folder of their own, the pairs of programs that
+# are timed, and a command timed beside sha256sum of its file. BEEBTUBE=PROGRAM runs that program in
+# place of the one of this checkout; then nothing is proved or built.
 set -eu
 if [ "${1:-}" = --help ]; then sed -n '2,/^[^#]/s/^# //p' "$0"; exit; fi
 top=$(cd "$(dirname "$0")/.." && pwd)
@@ -16,8 +17,9 @@ work=$(mktemp -d)
 trap 'rm -rf "$work"' EXIT
 cd "$work"
 
-# The pairs that `run` is timed on: the name, the host's program, the second processor's, and a key script, or `disc` for an empty one in
-# drive 0. A number after the name is the microseconds between two interrupts of the host's timer, in place of the 1,000 of its program.
+# The pairs for `run`: the name, the host's program, the second processor's, and a key script, or
+# `disc` for an empty disc in drive 0. A number after the name is the microseconds between two
+# interrupts of the host's timer, in place of the 1,000 of its program.
 pairs='talk bench/pairs/talk-os bench/pairs/talk-tube
 busy bench/busy-os bench/busy-tube
 demo examples/demo-os examples/demo-tube
@@ -40,8 +42,8 @@ pushes bench/busy-os bench/pairs/pushes-tube
 screen bench/pairs/screen-os bench/busy-tube
 disc bench/pairs/disc-os bench/busy-tube disc'
 
-# assemble_pair NAME: assembles the pair as NAME-os and NAME-tube, and leaves the arguments that run it in `words`, those for its keys or its disc in
-# `more`
+# assemble_pair NAME: assembles the pair as NAME-os and NAME-tube, and leaves the arguments that run
+# it in `words`, those for its keys or its disc in `more`
 assemble_pair() {
     local name os tube input
     read -r name os tube input <<<"$(grep "^$1 " <<<"$pairs")"
@@ -58,8 +60,9 @@ assemble_pair() {
     words="--os $name-os --tube $name-tube $more"
 }
 
-# move_thread PID NUMBER PROCESSORS: once the process has two threads, moves the first or the second (0 or 1) to these processors. A process that
-# has ended keeps its folder until this shell waits for it, but no program.
+# move_thread PID NUMBER PROCESSORS: once the process has two threads, moves the first or the second
+# (0 or 1) to these processors. A process that has ended keeps its folder until this shell waits for
+# it, but no program.
 move_thread() {
     local threads=()
     while [ "${#threads[@]}" -lt 2 ] && [ -e "/proc/$1/exe" ]; do
@@ -70,8 +73,8 @@ move_thread() {
 
 median() { sort -n | sed -n 3p; }
 
-# against_sha256sum FILE ARGUMENT..: runs the program with these arguments five times, and sha256sum of the file as often. Prints the
-# median times, their ratio, and the peak memory.
+# against_sha256sum FILE ARGUMENT..: runs the program with these arguments five times, and sha256sum
+# of the file as often. Prints the median times, their ratio, and the peak memory.
 against_sha256sum() {
     file=$1
     shift

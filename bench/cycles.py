@@ -1,12 +1,13 @@
 #!/usr/bin/env python3
-"""Counts the cycles of small programs by tools/execute --time, and by cc65's simulator, beside what the data sheets say. No part of the
-gate; it wants cc65 (Debian has it as a package).
+"""Counts the cycles of small programs by tools/execute --time and by cc65's simulator, beside those
+of the data sheets. It is no part of the gate, and needs cc65 (a package of Debian).
 
   bench/cycles.py
 
-Each program is the same bytes at 0200 for both, but for its last JMP: to sim65's exit at FFF9, or to the boot ROM's at F803,
-which takes three cycles more there. What is looked for is what sim65 2.19 counts in another way: a taken branch across a page,
-JMP (abs) of a 65C02, and its last JMP.
+Each program is the same bytes at 0200 for both, except its last JMP. That goes to sim65's exit at
+FFF9, or to the boot ROM's exit at F803, which takes three cycles more. The programs show what
+sim65 2.19 counts differently: a taken branch across a page, JMP (abs) of a 65C02, and its last
+JMP.
 """
 import os
 import re
@@ -23,7 +24,7 @@ TOP = os.path.dirname(os.path.dirname(os.path.realpath(__file__)))
 PROGRAMS = [
     ("two loops, 65,536 times", "A2 00 A0 00 C8 D0 FD E8 D0 F8", [2 + 256 * (2 + 256 * 5 - 1 + 2 + 3) - 1 + 5] * 2),
     ("a branch within its page", "A2 05 CA D0 FD", [2 + 5 * 5 - 1 + 5] * 2),
-    # The BNE lies in the last two bytes of a page, so that what is behind it and its target lie in the next.
+    # The BNE lies in the last two bytes of a page, so that its target and the byte after it lie in the next.
     ("a branch in the last bytes of a page, on", "4C FC 02" + " EA" * 249 + " A2 01 D0 01 EA", [3 + 2 + 3 + 5] * 2),
     ("a branch back into the page before", "4C 00 03" + " EA" * 250 + " 4C 06 03 A2 00 F0 F9", [3 + 2 + 4 + 3 + 3] * 2),  # (the LDA is passed over)
     ("JMP (abs), ten times", "A2 0A 6C 05 02 07 02 CA D0 F8", [2 + 10 * (jump + 2 + 3) - 1 + 5 for jump in (5, 6)]),
@@ -49,7 +50,7 @@ def main():
                     file.write(data + (b"\x03\xf8" if cpu else b"\x03\xc0"))
                 words = [sys.executable, "-B", TOP + "/tools/execute", "--time", "--at", "0200"] + ([] if cpu else ["--host"]) + ["raw"]
                 ours, theirs = run(words, folder), run(["sim65", "-c", "sim"], folder)
-                # (the boot ROM goes on by a JMP of its own, and the host's by the one that is behind an RTS too)
+                # (the boot ROM goes on by a JMP of its own, and the host's by the one after an RTS too)
                 if cpu and ours is not None:
                     ours -= 3
                 same = same and ours == wanted[cpu]

@@ -1,16 +1,22 @@
 #!/usr/bin/env bash
-# engines.sh [--runs N] [--ticks N] [--small N] [--batch N] [--said] [ENGINE ..]: does one collection by `tools/suite` alone and by engines that other people made, and compares the tables.
-# The engines are `parallel` (GNU parallel over ssh, to two machines which are both this one), `slurm` (an array, with one controller and two nodes, all
-# on this machine) and `snakemake`; all three where none is named. What an engine needs (sshd, munged, slurmctld, slurmd) is started here, in a folder of
-# its own and on ports of its own, and ended by its number. Where an engine is not installed that is said, and it is passed over; Debian's packages are
-# parallel, openssh-server; slurm-wlm, munge; snakemake.
+# engines.sh [--runs N] [--ticks N] [--small N] [--batch N] [--said] [ENGINE ..]: does one
+# collection by `tools/suite` alone and by engines of other people, and compares the tables.
 #
-# The collection has N runs (16 where none is said) of the typed text, each of some ticks of its own, one with signs in its name that shells and pages
-# take for others, and one that is refused. A line for each tells the processor's seconds: of the runs themselves, of the tool around them (Python, sums,
-# frames, pages), of the engine; and of the clock. With --said what an engine said is printed. The status is 1 where a table is another one.
+# The engines are `parallel` (GNU parallel over ssh, to two machines that are both this one),
+# `slurm` (an array, with one controller and two nodes, all on this machine) and `snakemake`;
+# without ENGINE all three. The script starts what an engine needs (sshd, munged, slurmctld, slurmd)
+# in a folder of its own and on ports of its own, and ends it by its number. If an engine is not
+# installed, the script says so and goes on. Debian's packages are parallel, openssh-server;
+# slurm-wlm, munge; snakemake.
 #
-# With --small N the collection is a folder of N discs with a file of 256 bytes each. A run of such a disc has 100,000 ticks, 1/60 s
-# of machine time, and a shot. With --batch N a job has N runs.
+# The collection has N runs (16 by default) of the typed text, each with a length of its own. One
+# more has a name with signs that are special for shells and pages, and one more is refused. A line
+# for each engine has the CPU seconds of the runs themselves, of the tool around them (Python,
+# checksums, frames, pages) and of the engine, and the seconds by the clock. --said prints the
+# engine's output. The status is 1 if a table differs.
+#
+# With --small N the collection is a folder of N discs with a file of 256 bytes each. A run of such
+# a disc has 100,000 ticks, 1/60 s of machine time, and a shot. With --batch N a job has N runs.
 . "$(dirname "$0")/common.sh"
 runs=16 ticks=12000000 is_heard='' small='' batch=1
 while [ $# -gt 0 ]; do
@@ -81,7 +87,7 @@ sum_of() { # RESULTS COLUMN
 print("%.2f" % sum(float(row[sys.argv[2]] or 0) for row in csv.DictReader(open(sys.argv[1] + "/results.csv"))))' "$1" "$2"
 }
 added() { awk '{ for (at = 1; at <= NF; at++) all += $at } END { printf "%.2f", all }' "$@"; }
-# The seconds of a processor that processes took, and their children that have ended.
+# The CPU seconds that processes took, and their children that have ended.
 taken() { # PID ..
     local pid
     for pid; do
@@ -101,7 +107,7 @@ echo "$(nproc) processors; $((runs + 2)) runs of $ticks ticks and more"
 tail -n 2 said
 tell 'tools/suite alone' "$(sum_of alone processor)" "$(cut -d' ' -f1,2 times | added)" 0 "$(cut -d' ' -f3 times)"
 
-# Each job as a command that leaves its processor's seconds in a file of its own, too.
+# Each job as a command that leaves its CPU seconds in a file of its own, too.
 make_jobs() { # ENGINE
     mkdir "times.$1"
     "$top/tools/suite" --jobs --batch "$batch" "${more[@]}" "$list" "$1" -- "${words[@]}" >"plain.$1"

@@ -1,6 +1,8 @@
 #!/usr/bin/env bash
-# Times `follow` of both sides of the demonstration pair against its trace of 1,000,000 ticks, with all instructions listed, and with an address that is never
-# reached, beside the same `replay`, five times each. Prints the fastest of each in milliseconds, and how many lines a listing has.
+# Times `follow` of both sides of the demonstration pair against its trace of 1,000,000 ticks,
+# beside the same `replay`, five times each. It lists all instructions, and those at an address that
+# the program never reaches. It prints the fastest of each in milliseconds, and how many lines a
+# listing has.
 . "$(dirname "$0")/common.sh"
 
 "$launcher" asm 6502 "$top/examples/demo-os.asm" os

@@ -1,20 +1,37 @@
 #!/usr/bin/env python3
-"""fuzz.py [--seed S] [--from N] [--count N] [--seconds T] [-j N] [--only KIND] [--finds FOLDER]: calls the program with made-up words and files,
-and says where it does not what the pages promise. Input N of seed S is always the same one, save with --only, which makes all of one kind; with
-another state of this script, of the examples or of the program, whose runs are changed, it may be another. --count is 1,000 where neither it nor
---seconds, how long to go on, is said; -j is the number of processes. The files of an input stand in memory (/dev/shm), or under TMPDIR.
+"""fuzz.py [--seed S] [--from N] [--count N] [--seconds T] [-j N] [--only KIND] [--finds FOLDER]:
+calls the program with made-up arguments and files, and reports where it differs from what the
+pages promise. Input N of seed S is always the same, except with --only, which makes all inputs of
+one kind. It may differ with another version of this script, of the examples or of the program,
+whose runs the script changes. --count is 1,000 without --count and --seconds, the time for which
+it goes on. -j is the number of processes. The files of an input are in memory (/dev/shm), or
+below TMPDIR.
 
-The words, the forms of traces and key scripts and the lengths of images are written here once more, in a few lines each, from docs/COMMANDS.md:
-they say which status and text has to come, and which files have to stand; session_file.py has the form of session files, and listing.py that of
-listings. Besides: no signal, no call above 20 seconds, nothing written with the statuses 1 to 4, 6 and 8; `check` of what `solo` wrote says `ok` and
-its number of accesses; both replays of it do the same; `run` writes the same files; a session that was saved has the bytes that it has to, and is
-taken up again below, at and above its moment, and once more from there; `resume` says what `check` and both replays say of the entries (where `solo`
-makes just these, they are asked of a share only), and writes what `solo` writes; `follow` says what the replay says, its lines are what replays
-that end there tell, and its counts are those of the whole listing; `asm` of what `dis` wrote gives its bytes; the same words twice give the same bytes. The program is loaded once and goes on in
-copies (calls.py), but for the second time of the same words, which loads it anew; what is asked besides an input goes on in the copy of that input.
+The script has its own short form of docs/COMMANDS.md: the arguments, the forms of traces and key
+scripts, and the lengths of images. From these it knows which status, text and files a call must
+give. session_file.py has the form of session files, and listing.py that of listings. Besides,
+these hold:
 
-What differs is printed with its number, made smaller, and put into a folder of --finds (./finds) with its files and a script `again` that calls
-the program so. The exit status is 1 where anything differs."""
+ - no call ends by a signal or takes more than 20 seconds
+ - with the statuses 1 to 4, 6 and 8 no file is written
+ - `check` of a trace of `solo` prints `ok` and its number of accesses, both replays of it do the
+   same, and `run` writes the same files
+ - a saved session has the right bytes; `resume` takes it up below, at and above its moment, and
+   once more from there
+ - `resume` reports of the accesses what `check` and both replays report, and writes what `solo`
+   writes (if `solo` makes just these accesses, only a share of the sessions is tried)
+ - `follow` ends as the replay does, its lines agree with replays that end there, and its counts
+   are those of the whole listing
+ - `asm` of a text of `dis` gives its bytes
+ - the same arguments twice give the same bytes
+
+The program is loaded once and goes on in copies (calls.py). Only the second call with the same
+arguments loads it again. Questions about an input go on in the copy of that input.
+
+The script prints each input that differs with its number, makes it smaller, and puts it into a
+folder of --finds (./finds), with its files and a script `again` that repeats the call. The status
+is 1 if anything differs.
+"""
 import argparse
 import collections
 import functools
@@ -45,7 +62,7 @@ RUNS = PAIRS + ("resume",)
 HEARD = ("replay host",) + RUNS
 ALONE = ("replay host", "follow host")
 
-# Each command: its words that stand alone. What they are is told by `Words.word`.
+# Each command: its arguments that are no options. `Words.word` says what they are.
 COMMANDS = {
     "check": "trace",
     "asm": "part source out",
@@ -315,7 +332,7 @@ def made_of(words, files):
 
 
 def expected(words, laid):
-    """What has to come of these words where these files stand."""
+    """The right outcome of these arguments with these files."""
     if not words.good:
         return Expected((1, b"usage"))
     files = {}
@@ -456,7 +473,7 @@ class Judge:
         return found | missing
 
     def judge(self, case):
-        """The status, where all is as promised."""
+        """The status, if all is as promised."""
         self.lay(case.files)
         words = Words(case.words)
         wanted = expected(words, case.files)
@@ -603,7 +620,8 @@ class Judge:
                 os.rename(b"back/o.save", b"back/first")
 
     def made(self, session, side=None):
-        """Lays what the machines of a session are made of into a folder of its own, once, and tells the options of a run of both, or of one side."""
+        """Puts the parts of a session's machines into a folder of its own, once, and gives the options
+        of a run of both, or of one side."""
         names = {option: b"made/" + option[2:].encode() + (b".dsd" if option in session.dsd else b"") for option in session.parts}
         if self.made_of is not session:
             os.makedirs(b"made", exist_ok=True)
@@ -750,8 +768,8 @@ class Judge:
                     raise Differs("choice: at %010X the byte was %02X and is %02X" % (every[place][0], before, here))
 
     def look_at_starts(self, every, played, host):
-        """Some lines are what a replay that ends there tells: registers, and bytes of memory as they are disassembled. The first two, which stand right
-        behind the reset, are looked at of one listing of eight."""
+        """Some lines must agree with a replay that ends there: registers, and bytes of memory as they are
+        disassembled. It looks at the first two, right after the reset, in one listing of eight."""
         for place in sorted({len(every) // 3, len(every) - 1} | (set() if len(every) % 8 else {0, 1})):
             if not 0 <= place < len(every):
                 continue
@@ -772,7 +790,7 @@ class Judge:
         if len(place) != 1:
             return
         again[place[0]] = name
-        # An output with a name of its own is written under another one too.
+        # An output with a name of its own is written under a second name too.
         others = {}
         for option in NAMED:
             if option in words.values:
@@ -1047,7 +1065,7 @@ def some_ticks(r):
 
 
 def put_options(r, words, options):
-    """The options stand in any place behind the command's word, or behind all."""
+    """The options come anywhere after the command's name, or after all arguments."""
     for option in options:
         place = len(words)
         if r.random() < 0.1:
@@ -1235,7 +1253,7 @@ def of_session(r, base):
     text = session_file.encode(session)
     how = r.random()
     if how < 0.15:
-        # A field, one of those that stand before an image more often than not.
+        # A field, mostly one of those before an image.
         small = [field for field in session_file.places(text) if 0 < field[1] < 8]
         begin, length = r.choice(small[:40] if r.random() < 0.6 else small)
         value = r.choice((0, 1, 3, 4, 255, 2 ** (8 * length) - 1, session_file.number(text[begin : begin + length]) + r.choice((-1, 1)), 8192, 16384, 204801, 409601, 1048577, 4194305, MOST_TICKS + 1))
@@ -1397,7 +1415,7 @@ def begin(path, work, library, base, options):
 
 def work_on(places):
     if "judge" not in worker:
-        # What goes wrong here is told; a process that does not begin would be begun again and again.
+        # A fault here is reported; a process that does not begin would be begun again and again.
         worker["judge"] = Judge(worker["path"], tempfile.mkdtemp(dir=worker["work"]), worker["library"])
     judge, options = worker["judge"], worker["options"]
     counts, finds = collections.Counter(), []
@@ -1433,7 +1451,7 @@ def main():
     begun = time.time()
     options.until = begun + options.seconds if options.seconds else None
     counts = collections.Counter()
-    # The files of inputs stand in memory, where there is such a folder.
+    # The files of inputs are in memory, if there is such a folder.
     with tempfile.TemporaryDirectory(dir="/dev/shm" if os.access("/dev/shm", os.W_OK) and not os.environ.get("TMPDIR") else None) as work:
         path = program()
         library = calls.library(work)

@@ -77,7 +77,7 @@ class Sandbox:
             self.mounted = False
 
     def fresh(self, made, room=None):
-        """Makes the folders anew; with `room` the tool's folder has room for so many pages beside its files."""
+        """Makes the folders again; `room` is how many pages the tool's folder has beside its files."""
         self.clear()
         for folder in (self.at, self.outside, self.tmp):
             if os.path.isdir(folder):
@@ -112,7 +112,7 @@ class Sandbox:
             os.chmod(place, 0o666)
 
     def stand(self):
-        """Each file of all folders, with what tells whether it was changed."""
+        """Each file of all folders, with what shows whether it was changed."""
         found = {}
         for top in (self.at, self.outside, self.tmp):
             for folder, folders, names in os.walk(top):

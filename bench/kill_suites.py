@@ -1,7 +1,8 @@
 #!/usr/bin/env python3
-"""Kills suites at random moments and begins them again: each must end in the table of an undisturbed one, and leave nothing.
+"""Kills suites at random moments and begins them again. Each must end with the table of an
+undisturbed suite, and leave no other files.
 
-  bench/kill_suites.py [ROUNDS [SEED]]   50 rounds with seed 7 where nothing is said
+bench/kill_suites.py [ROUNDS [SEED]]   50 rounds with seed 7 by default
 """
 import csv
 import os

@@ -1,5 +1,7 @@
-"""Listings of `follow`, looked at without the machine: the form of their lines, and what stands between two instructions that follow each other: how
-long the first takes, where it goes, and what it loads."""
+"""Knows listings of `follow` without the machine: the form of their lines, and what may come between
+two instructions that follow each other. For the first it knows how long it takes, where it goes,
+and what it loads.
+"""
 import collections
 import functools
 import operator
@@ -22,7 +24,7 @@ Start = collections.namedtuple("Start", "pc registers text")
 
 @functools.lru_cache(65536)
 def start_of(text):
-    """What stands behind a tick, or nothing where it is not in its form."""
+    """What follows a tick, or nothing if it is not in its form."""
     found = REST.fullmatch(text)
     return found and Start(int(found.group(1), 16), found.group(2), found.group(3).decode())
 
@@ -47,7 +49,7 @@ CONDITIONS = {**{name: flag[1:] for name, flag in BRANCHES.items()}, **{"byte &%
 
 
 def counts_text(lines, ticks, early):
-    """What `--counts` counts of the starts of a whole listing from a tick on, in a run of so many ticks."""
+    """What `--counts` counts of the starts of a whole listing from tick `early` on, in a run of `ticks`."""
     found = {}
     for (tick, start), after in zip(lines, [tick for tick, _ in lines[1:]] + [ticks]):
         if tick < early:
@@ -74,7 +76,8 @@ def form_fault(lines, ticks):
 
 @functools.lru_cache(65536)
 def steps(text):
-    """An instruction's form, its bytes, its fewest cycles, and where it may go: a list of places, `next` for the one behind it, or nothing for any."""
+    """An instruction's form, its bytes, its fewest cycles, and where it may go: a list of places,
+    `next` for the one after it, or nothing for any."""
     name, _, operand = text.partition(" ")
     form = re.sub(r"&([0-9A-F]+)", lambda found: str(len(found.group(1))), operand)
     if name in ("byte", "?") or form not in BYTES:
@@ -95,7 +98,7 @@ def steps(text):
 
 
 def is_plain(form, text, host):
-    """No access of the instruction is one that the host's bus stretches, so far as its text tells."""
+    """No access of the instruction is one that the host's bus stretches, by its text."""
     if not host:
         return True
     if form in ("4", "4,X", "4,Y"):
@@ -110,7 +113,7 @@ def pair_fault(start, gap, after, cycle, host):
     if gap % cycle:
         return "a start is within a cycle"
     known = steps(text)
-    # What stands in the stack may change while it is carried out.
+    # The stack's contents may change during the instruction.
     if known is None or 0x00FD < pc < 0x0200:
         return None
     form, length, least, ways = known
@@ -118,7 +121,7 @@ def pair_fault(start, gap, after, cycle, host):
     if cycles < least:
         return "it takes %d cycles" % cycles
     if cycles > least + 2:
-        # A reset, an interrupt or accesses that are stretched stand between them, or a start is missing.
+        # A reset, an interrupt or stretched accesses come between them, or a start is missing.
         between = cycles >= least + SEQUENCE or not is_plain(form, text, host) or 0xFB00 <= pc <= 0xFEFF
         return None if between else "it takes %d cycles, or a start is missing" % cycles
     if ways and after.pc not in [(pc + length) % 65536 if way == "next" else way for way in ways]:

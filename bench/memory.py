@@ -1,12 +1,16 @@
 #!/usr/bin/env python3
-"""memory.py [WORDS OF COMMANDS ..]: refuses the program memory, and looks at what it says and leaves. Each command below (or those whose first
-word is given) is called with its first request for memory refused, then with its second, and so on up to its last; then the same with all requests
-from that one on. Then with less and less memory for the whole program (`ulimit -v`), down to where the system cannot load it.
+"""memory.py [COMMAND ..]: refuses the program memory, and looks at its messages and files. It calls
+each command below (or those with this first argument) with its first request for memory refused,
+then with its second, and so on up to its last. Then it refuses each request and all that follow
+it. Then it gives less and less memory to the whole program (`ulimit -v`), until the system cannot
+load it.
 
-Wanted is the exit status of the call with ample memory and its files, or `no memory` with 7, or `no thread` with 6 of `run`; with 6 no file is
-changed, and with 7 the files up to one are whole, of that one there is a part or what it was before, and those behind it are as they were. Requests
-are refused by a library that is put before the C library (LD_PRELOAD); without a C compiler that part is skipped. The exit status is 1 where
-anything differs."""
+Each call must give the status and files that it gives with ample memory, or `no memory` with 7,
+or, for `run`, `no thread` with 6. With 6 no file may change. With 7 the files before one are
+whole, that one holds a part or its old contents, and those after it are unchanged. A library that
+is loaded before the C library (LD_PRELOAD) refuses the requests; without a C compiler that part
+is skipped. The status is 1 if anything differs.
+"""
 import collections
 import os
 import resource
@@ -21,8 +25,8 @@ from program import TOP, program  # noqa: E402
 
 EXAMPLES = TOP + "/examples/"
 
-# The library counts the requests for memory from the time that the program begins, and refuses number REFUSE, and with REFUSE_ON all behind it. It
-# tells by a byte to the file of number REFUSED_TO that it did.
+# The library counts the requests for memory from the time that the program begins, and refuses number REFUSE, and with REFUSE_ON all after it. It
+# writes a byte to the file of number REFUSED_TO if it did.
 LIBRARY = r"""
 #include <errno.h>
 #include <stdlib.h>
@@ -139,7 +143,7 @@ def fault(words, good, ended):
 
 
 class Told:
-    """Counts how calls ended, and tells what differs."""
+    """Counts how calls ended, and prints what differs."""
 
     def __init__(self):
         self.differ = 0

@@ -1,5 +1,6 @@
-"""What the scripts in python share: the program, and the form of what it says with each exit status. BEEBTUBE=PROGRAM runs that program in place
-of the one that ./beebtube runs."""
+"""What the scripts in Python share: the program, and the form of its message for each exit status.
+BEEBTUBE=PROGRAM runs that program in place of the one that ./beebtube runs.
+"""
 import os
 import re
 import subprocess

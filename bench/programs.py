@@ -1,12 +1,15 @@
 #!/usr/bin/env python3
-"""Runs each C program of some folders by tools/execute, and by cc65's own simulator, and compares what they write on standard
-output and their exit status. No part of the gate; it wants cc65 (Debian has it as a package).
+"""Runs each C program of some folders by tools/execute and by cc65's own simulator, and compares
+their standard output and exit status. It is no part of the gate, and needs cc65 (a package of
+Debian).
 
   bench/programs.py [--jobs N] [--options O,Osir] [--ways WAY,WAY] FOLDER ..
 
-cc65's own tests are in Debian's source package: `apt-get source cc65`, and there test/val and test/ref.
+cc65's own tests are in Debian's source package: `apt-get source cc65`, and there test/val and
+test/ref.
 
-Ways: each program is compiled for sim65 by `cl65 -t sim6502` and `-t sim65c02`, which gives what is to come; and is run
+Ways: `cl65 -t sim6502` and `-t sim65c02` compile each program for sim65, whose results are the
+expected ones. Then it runs as
   sim65c02   that very file, for a 65C02, on the second processor
   sim6502    that very file, for a 6502, on the second processor
   host       that very file, for a 6502, on the host alone
@@ -14,8 +17,9 @@ Ways: each program is compiled for sim65 by `cl65 -t sim6502` and `-t sim65c02`,
   c6502      made by examples/c/build for a 6502, on the second processor
   chost      made by examples/c/build --host, on the host alone
 
-A line is said for each that differs, or that was passed over: what cc65 refuses, what sim65 does not end within 200,000,000
-cycles (as cc65's own tests have it), what is larger than memory. The status is 0 where none differs.
+A line reports each program that differs or is skipped: what cc65 refuses, what sim65 does not end
+within 200,000,000 cycles (as cc65's own tests have it), what is larger than memory. The status is 0
+if none differs.
 """
 import argparse
 import concurrent.futures
@@ -83,7 +87,7 @@ class Case:
         return self.known[target]
 
     def run(self, way):
-        """Which of the three counts rises: 0 the same, 1 differing, 2 passed over; and the line that tells it."""
+        """Which of the three counts rises: 0 the same, 1 differing, 2 passed over; and the line that reports it."""
         name = "%s %s %s" % (os.path.basename(self.source), self.option, way)
         target, words = WAYS[way]
         try:

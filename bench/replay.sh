@@ -1,8 +1,10 @@
 #!/usr/bin/env bash
-# Times `replay` of each machine against an empty trace: a loop for 1,073,741,824 ticks, about 179 s of machine time, and a busy program
-# for 100,000,000, five times each. The host's busy program also runs with both timers of the system's 6522 asking for interrupts, with a screen of 80 characters a
-# line, with a page of teletext, and with a disc that turns while the controller looks for a sector. Prints how many times faster than the machine the fastest and
-# the slowest run were, and what such a device costs: how many per cent longer the busy program took than without it.
+# Times `replay` of each machine against an empty trace, five times each: a loop for 1,073,741,824
+# ticks, about 179 s of machine time, and a busy program for 100,000,000. The host's busy program
+# also runs with one device at work: both timers of the system's 6522 that request interrupts, a
+# screen of 80 characters a line, a page of teletext, or a disc that turns while the controller
+# looks for a sector. It prints how many times faster than the machine the fastest and the slowest
+# run were, and by how many per cent each device makes the busy program slower.
 . "$(dirname "$0")/common.sh"
 
 : >empty.trace

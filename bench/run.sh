@@ -1,9 +1,12 @@
 #!/usr/bin/env bash
-# run.sh [--ticks N] [--on A,B] [--apart] [PAIR..]: times `solo`, both replays, `run` on two processors and `run` on one, in turn, five times
-# each, over N ticks (30,000,000, 5 s of machine time, without --ticks), for these pairs, or for all of common.sh. Prints the fastest,
-# the middle and the slowest of each by the clock, and compares what each `run` writes with what `solo` wrote. A and B are the
-# processors, the first and the last without --on, and all but `run` on two is on A. --apart puts a thread on each; else the system does
-# as it likes. Two threads that wait for each other need processors of their own: beside other work they are timed with it.
+# run.sh [--ticks N] [--on A,B] [--apart] [PAIR..]: times `solo`, both replays, `run` on two
+# processors and `run` on one, in turn, five times each, for these pairs, or for all of common.sh. A
+# run has N ticks (30,000,000, 5 s of machine time, by default). It prints the fastest, the middle
+# and the slowest of each by the clock, and compares what each `run` writes with what `solo` wrote.
+#
+# A and B are the processors, by default the first and the last; all but `run` on two is on A.
+# --apart puts each thread on one of them; otherwise the system chooses. Two threads that wait for
+# each other need processors of their own: other work on the computer changes their times.
 . "$(dirname "$0")/common.sh"
 
 ticks=30000000
@@ -47,7 +50,7 @@ echo "processors $a and $b of $(nproc); fastest, middle and slowest of five"
 for pair; do
     assemble_pair "$pair"
     rm -f times.*
-    # The machine's state may change between runs, so all are run in turn. A file that stands is replaced, which costs more than a new one.
+    # The machine's state may change between runs, so all are run in turn. Replacing a file costs more than a new one.
     for _ in 1 2 3 4 5; do
         rm -f solo.* replayed* two.* one.*
         timed times.solo on_one solo "$ticks" solo $words --keep 4194304

@@ -1,12 +1,15 @@
 #!/usr/bin/env bash
-# schedules.sh [--tiny] [N [SEED]]: N runs (1000 if none is said) of `run` on random pairs of programs, each beside `solo` of the same words: with
-# no load, with both threads on one processor, and with loads that delay one thread or the other. The programs compute, poll, transfer, take
-# interrupts of the Tube and of a timer, set its control flags, and reset the second processor in the course of it. Prints how many runs were done
-# with each load, in how many there were interrupts and resets, how many accesses to the Tube they made and how many differed in a byte of what
-# they wrote, and ends with 0 where none did. The same seed makes the same programs.
+# schedules.sh [--tiny] [N [SEED]]: runs N random pairs of programs (1000 by default) by `run`, each
+# beside `solo` with the same arguments. It does so without load, with both threads on one
+# processor, and with loads that delay one thread or the other. The programs compute, poll,
+# transfer, take interrupts of the Tube and of a timer, set its control flags, and reset the second
+# processor on the way. It prints for each load how many runs were done, how many had interrupts and
+# resets, how many accesses to the Tube they made, and how many differed in a byte of their files.
+# The status is 0 if none differed. The same seed makes the same programs.
 #
-# --tiny proves and builds a copy of this checkout whose second processor goes ahead by a few ticks at a time, and runs that: it is taken back, or
-# waits, in the middle of everything. BEEBTUBE=PROGRAM (see common.sh) runs a program that was built by other means.
+# --tiny proves, builds and runs a copy of this checkout whose second processor goes ahead by a few
+# ticks at a time. So it is taken back, or waits, in the middle of everything. BEEBTUBE=PROGRAM (see
+# common.sh) runs a program that was built by other means.
 . "$(dirname "$0")/common.sh"
 
 # Sets the number of this name in the copy's file of strides.
@@ -23,7 +26,7 @@ if [ "${1:-}" = --tiny ]; then
     strides=tiny/crates/session/src/stride.rt
     constant FIRST 3
     constant FEWEST 1
-    # A span from one mark has several strides, where the program has such spans.
+    # A span from one mark has several strides, if the program has such spans.
     if grep -q 'const SPAN' "$strides"; then
         constant MOST 9
         constant SPAN 40
@@ -209,7 +212,7 @@ limited() {
     exec "$@"
 }
 
-# work_with LOAD WORD..: the program with these words, where a load delays its threads.
+# work_with LOAD WORD..: the program with these arguments, while a load delays its threads.
 work_with() {
     local load=$1
     shift

@@ -1,6 +1,7 @@
 #!/usr/bin/env bash
-# Times `resume` of the demonstration pair saved at 1,000,000 ticks: to the saved tick beside both replays of its trace, and to 10,000,000 ticks beside `solo` of as
-# many, five times each and in turn. Prints the fastest of each in milliseconds.
+# Times `resume` of the demonstration pair, saved at 1,000,000 ticks. It resumes to the saved tick,
+# beside both replays of its trace, and to 10,000,000 ticks, beside `solo` of the same length, five
+# times each and in turn. It prints the fastest of each in milliseconds.
 . "$(dirname "$0")/common.sh"
 
 "$launcher" asm 6502 "$top/examples/demo-os.asm" os

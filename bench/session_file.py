@@ -1,5 +1,6 @@
-"""Session files, described once more, from docs/COMMANDS.md: the bytes of a session, the session of some bytes, and of others the place of the first
-field that is at fault."""
+"""Session files, written a second time from docs/COMMANDS.md: the bytes of a session, the session of
+some bytes, and for other bytes the place of the first field that is wrong.
+"""
 import collections
 import functools
 
@@ -27,7 +28,7 @@ Session = collections.namedtuple("Session", "clock ticks plugs parts dsd entries
 
 
 class BadField(Exception):
-    """No session file: `at` is the place that is told."""
+    """No session file: `at` is the place of the fault."""
 
     def __init__(self, at):
         super().__init__("%d" % at)
@@ -61,7 +62,7 @@ class Reader:
         self.text, self.at, self.places = text, 0, []
 
     def field(self, length, fits, of=bytes):
-        """The next field, or what it says, where that fits."""
+        """The next field, or what it says, if that fits."""
         begin, end = self.at, self.at + length
         if end > len(self.text):
             raise BadField(len(self.text))

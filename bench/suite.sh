@@ -1,9 +1,13 @@
 #!/usr/bin/env bash
-# suite.sh [--runs N] [--seconds S] [--machine] [WORD ..]: what `tools/suite` takes around its runs. It makes N runs (200 where none is said), each of which
-# takes about S seconds of a processor (1 where none is said), or with --machine S seconds of machine time, of the typed text: `solo`, a disc and ticks of
-# its own, a last frame, a page. WORD .. are further words of tools/suite. Prints the processor's seconds of all (the tool with all that it starts), those
-# of the runs themselves as the table has them, their ratio, and the clock beside what all runs take over the processors there are; and then what the same
-# command takes once all is there. The goal is a ratio of 1.1. Other work on the machine changes the clock and not the ratio.
+# suite.sh [--runs N] [--seconds S] [--machine] [WORD ..]: measures what `tools/suite` takes around
+# its runs. It makes N runs (200 by default) of the typed text: `solo`, a disc and a length of its
+# own, a last frame, a page. Each takes about S CPU seconds (1 by default), or with --machine S
+# seconds of machine time. WORD .. are further arguments of tools/suite.
+#
+# It prints the CPU seconds of all (the tool with all that it starts), those of the runs themselves
+# by the table, and their ratio. It also prints the seconds by the clock beside the time of all runs
+# on the processors of this computer, and what the same command takes once all results are there.
+# The goal is a ratio of 1.1. Other work on the computer changes the clock and not the ratio.
 . "$(dirname "$0")/common.sh"
 runs=200 seconds=1 is_machine=
 while [ $# -gt 0 ]; do

@@ -1,15 +1,20 @@
 #!/usr/bin/env python3
-"""surroundings.py [--all] [--page]: has the program meet what folders and systems hold: files that are missing, empty, unreadable, too long or no
-files at all, disks that are full, outputs that cannot be written, and more. Each case has its words, the exit status and text that are wanted by
-the table of docs/COMMANDS.md, and what has to stand on disk afterwards; every other file has to be as it was.
+"""surroundings.py [--all] [--page]: tries the program with what folders and systems hold: files that
+are missing, empty, unreadable or too long, things that are no files, full disks, outputs that
+cannot be written, and more. Each case has its arguments, the exit status and text by the table of
+docs/COMMANDS.md, and the files that must be on disk afterwards. Every other file must be
+unchanged.
 
-Then it saves a session over itself and ends the program at a hundred moments of it: fifty times by a signal while the file is written, once so many
-bytes of it are there (SIGXFSZ of a file's longest length), and fifty times by SIGKILL at times spread over the run. It tells how often the session
-was as before, was the new one, and was neither; the last differs.
+Then it saves a session over itself and ends the program at a hundred moments of it. Fifty times
+SIGXFSZ ends it when the written file has reached a given length, and fifty times SIGKILL at times
+spread over the run. It prints how often the session was the old one, the new one, and neither;
+the last is a fault.
 
-Prints a line for each case that differs, one for each that is known to, one for each that was skipped, and the counts; --all prints every case,
-and --page the tables of docs/FILES-CASES.md. The exit status is 1 where a case differs. As root it calls the program as another user too (setpriv) and mounts a small disk; else
-those cases are skipped."""
+It prints a line for each case that differs, for each that is known to differ and for each that
+was skipped, and the counts. --all prints every case, and --page the tables of
+docs/FILES-CASES.md. The status is 1 if a case differs. As root it also calls the program as
+another user (setpriv) and mounts a small disk; otherwise it skips those cases.
+"""
 import os
 import re
 import resource
@@ -63,7 +68,7 @@ def text_of(name):
 
 
 def put(name, text=b"", length=None, mode=None):
-    """A file of these bytes, or of so many that are 00 and take no room."""
+    """A file of these bytes, or of this many zeros, which take no room."""
     def prepare():
         with open(name, "wb") as file:
             file.write(text)
@@ -115,7 +120,7 @@ def outputs(out, like="good", ends=ENDS):
 
 
 def script_of(length):
-    """A good key script of exactly so many bytes."""
+    """A good key script of exactly this length."""
     long, short = b"at 0 down 00\n", b"at 0 up 00\n"
     for shorts in range(13):
         if (length - 11 * shorts) % 13 == 0:
@@ -224,7 +229,7 @@ def tell_cases():
     over = outputs("out", ends=(".report", ".host"))
     add(group, "a file may have 40,000 bytes (`ulimit -f`), and the signal of that is ignored", solo("out"), 5, "cannot write out.para",
         changed=over, command=("bash", "-c", "ulimit -f 40; trap '' XFSZ; exec \"$@\"", "bash"))
-    add(group, "the same, where the signal is not ignored", solo("out"), -signal.SIGXFSZ, changed={**over, "out.para.new0": lambda text: wanted["good.para"].startswith(text)}, command=("bash", "-c", "ulimit -f 40; exec \"$@\"", "bash"),
+    add(group, "the same, if the signal is not ignored", solo("out"), -signal.SIGXFSZ, changed={**over, "out.para.new0": lambda text: wanted["good.para"].startswith(text)}, command=("bash", "-c", "ulimit -f 40; exec \"$@\"", "bash"),
         known="5 `cannot write out.para`")
     add(group, "the working folder is gone", ["asm", "6502", "../small.asm", "image"], 5, "cannot write image", command=("sh", "-c", "mkdir gone && cd gone && rmdir ../gone && exec \"$@\"", "sh"))
 
@@ -252,10 +257,10 @@ def tell_cases():
     group = "Standard output, standard error and standard input"
     add(group, "standard output closed", ["check", "nmi.trace"], 5, "cannot write -", **closed(1))
     add(group, "standard output closed, of `gen`", ["gen", "1"], 5, "cannot write -", **closed(1))
-    add(group, "standard output closed, where nothing is said", solo("out"), 0, changed=outputs("out"), **closed(1))
+    add(group, "standard output closed, if nothing is printed", solo("out"), 0, changed=outputs("out"), **closed(1))
     add(group, "standard output a full device", ["check", "nmi.trace"], 5, "cannot write -", how={"stdout": "/dev/full"})
     add(group, "the same, a wrong trace", ["check", "wrong.trace"], 5, "cannot write -", how={"stdout": "/dev/full"})
-    add(group, "the same, where nothing is said", solo("out"), 0, changed=outputs("out"), how={"stdout": "/dev/full"})
+    add(group, "the same, if nothing is printed", solo("out"), 0, changed=outputs("out"), how={"stdout": "/dev/full"})
     add(group, "standard output a pipe without a reader", ["check", "nmi.trace"], 5, "cannot write -", how={"stdout": "broken"})
     add(group, "standard error closed", ["check", "missing"], 2, **closed(2))
     add(group, "standard error a full device", ["check", "missing"], 2, how={"stderr": "/dev/full"})
@@ -328,8 +333,8 @@ def tell_session_cases():
     add(group, "a FIFO with a reader", solo("out", "--save", "fifo"), 0, changed={**back, "read": "state"}, before=fifo("fifo", "cat fifo >read"))
     add(group, "a FIFO whose reader goes", solo("out", "--save", "fifo", "--disc0", "large"), 5, "cannot write fifo", changed={**back, "out.d0": None},
         before=both(put("large", length=204800), fifo("fifo", "head -c 1 fifo >/dev/null")))
-    add(group, "standard output closed, where nothing is said", resume("state"), 0, changed=back, **closed(1))
-    add(group, "standard output closed, where an access is wrong", resume("other"), 5, "cannot write -", before=lambda: put("other", wanted["state"][:-1] + b"\x48")(), **closed(1))
+    add(group, "standard output closed, if nothing is printed", resume("state"), 0, changed=back, **closed(1))
+    add(group, "standard output closed, if an access is wrong", resume("other"), 5, "cannot write -", before=lambda: put("other", wanted["state"][:-1] + b"\x48")(), **closed(1))
     add(group, "no thread may be started", resume("state", out="open/out"), 0, changed=outputs("open/out"), before=an_open_folder, command=AS_OTHER + ("prlimit", "--nproc=1"), needs="another user")
 
     group = "Listings"
@@ -338,7 +343,7 @@ def tell_session_cases():
     add(group, "as any output", follow("good.trace"), 0, out=told, changed=listed)
     for title, how in (("closed", closed(1)), ("a full device", {"how": {"stdout": "/dev/full"}}), ("a pipe without a reader", {"how": {"stdout": "broken"}})):
         add(group, "standard output %s" % title, follow("good.trace"), 5, "cannot write -", changed=listed, **how)
-    add(group, "standard output closed, where the host differs", follow("empty"), 5, "cannot write -", **closed(1))
+    add(group, "standard output closed, if the host differs", follow("empty"), 5, "cannot write -", **closed(1))
     add(group, "the host differs", follow("empty"), 8, out="differs 1 0000000024 H R 0 --\n")
     add(group, "all three closed", follow("good.trace"), 5, changed=listed, command=("sh", "-c", "exec \"$@\" <&- >&- 2>&-", "sh"))
     add(group, "over its trace", follow("out.list"), 0, out=told, changed=listed, before=put("out.list", wanted["good.trace"]))
@@ -359,7 +364,7 @@ def tell_session_cases():
         changed={"out.list": lambda text: text.count(b"\n") == 1048576 and text.endswith(b"\n0000600008 F800 A=00 X=00 Y=00 S=FD P=24 JMP &F800\n")}, memory=600)
     add(group, "what is counted, over a longer file", follow("good.trace", "--counts"), 0, out=told, changed={**listed, "out.counts": is_counted},
         before=put("out.counts", b"\xaa" * 100000))
-    add(group, "what is counted, where that is a folder", follow("good.trace", "--counts"), 5, "cannot write out.counts", changed=listed,
+    add(group, "what is counted, if that is a folder", follow("good.trace", "--counts"), 5, "cannot write out.counts", changed=listed,
         before=lambda: os.mkdir("out.counts"))
     add(group, "all addresses", follow("good.trace", "--points", "points"), 0, out=told, changed=listed, before=put("points", ALL_POINTS))
     add(group, "one byte more", follow("good.trace", "--points", "points"), 2, "too long points", before=put("points", ALL_POINTS + b"0"))
@@ -468,7 +473,7 @@ def fresh(folder):
 
 
 def stand():
-    """Each file of the folder, with what tells whether it was changed."""
+    """Each file of the folder, with what shows whether it was changed."""
     found = {}
     for folder, _, names in os.walk(b"."):
         for name in names:
@@ -531,7 +536,7 @@ def run(case, path):
     for number in opened:
         os.close(number)
     for helper in helpers:
-        # What stands at the other end of a FIFO ends by itself; a program that runs does not.
+        # The process at the other end of a FIFO ends by itself; a program that runs does not.
         try:
             helper.wait(timeout=0.5)
         except subprocess.TimeoutExpired:
@@ -571,7 +576,7 @@ MOMENTS = 50
 
 
 class Moments:
-    """What stands of a session that is saved over itself where the program is ended in the midst of it."""
+    """What is left of a session that is saved over itself if the program is ended meanwhile."""
 
     def __init__(self, path, folder):
         self.path, self.folder = path, folder
@@ -704,7 +709,7 @@ def main():
         moments = try_moments(path, work)
         counts["differ" if moments.counts["neither"] else "as wanted"] += 1
         if page:
-            print("\n### Ended in the midst of it\n\nA session that is saved over itself, %s." % moments.told())
+            print("\n### Ended while it writes\n\nA session that is saved over itself, %s." % moments.told())
         elif moments.counts["neither"] or show:
             print("%s: a session that is saved over itself, %s" % ("differs" if moments.counts["neither"] else "as wanted", moments.told().replace("\n", " ")))
     finally:

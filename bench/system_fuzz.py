@@ -103,7 +103,7 @@ def codes(chance):
 
 
 def commands(chance):
-    """Lines of commands with odd words behind them; an error goes on with the next line."""
+    """Lines of commands with odd words after them; an error goes on with the next line."""
     data = b""
     for _ in range(60):
         rest = "".join(chance.choice(PIECES) for _ in range(chance.randrange(8)))

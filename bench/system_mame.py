@@ -1,10 +1,10 @@
 #!/usr/bin/env python3
 """system_mame.py [NAME ..]: runs the images of system/built in MAME's `bbcb` and in the program.
 
-The same codes are printed and the same keys pressed. Memory from 0000 to 7FFF is compared, and in
-modes 0, 1, 2, 4 and 5 each pixel: a line for each run tells how many are others. Cells that hold
-times, or what an interrupt left, are left out: TIMING names them. The status is 1 if anything else
-differs. It needs MAME (Debian package mame).
+Both print the same codes and press the same keys. The script compares memory from 0000 to 7FFF,
+and in modes 0, 1, 2, 4 and 5 each pixel; a line for each run has the number that differ. It
+leaves out cells that hold times, or what an interrupt left: TIMING names them. The status is 1 if
+anything else differs. It needs MAME (Debian package mame).
 """
 import os
 import shutil
@@ -139,7 +139,7 @@ def scenarios():
         window = bytes([28, 5, 20, 18, 10, 12]) + lines + bytes([30, 11, 11]) + b"up"
         seconds = 9 if mode == 2 else 5
         yield "window %d" % mode, system.rom(bytes([22, mode]) + off + window), nothing, seconds
-    # Codes 1 to 3 are the printer's: it stands at another place in each.
+    # Codes 1 to 3 are the printer's, at another place in each.
     codes = bytes(code for code in range(32) if not 1 <= code <= 3 for code in [code]
         + [code * number & 255 for number in (3, 5, 7, 11, 2, 9, 13, 6, 1)])
     yield "all codes", system.rom(codes + b"\x06\x04\x16\x07" + off + b"end"), nothing, 3

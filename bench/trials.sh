@@ -1,10 +1,13 @@
 #!/usr/bin/env bash
-# trials.sh [N [SEED]]: N trials (1,000,000 if none is said) of each kind of crates/trials, on all processors: random programs of the second processor
-# and of the host, and single instructions of both at edges, each by whole instructions and cycle by cycle, and random acts on the host's bus, whose
-# devices lag behind, beside one that is closed at each tick. Prints how many were done, in how many seconds, and the first seed of each processor
-# that differs, and ends with 0 where none does. The same seed (1 if none is said) makes the same trials.
+# trials.sh [N [SEED]]: makes N trials (1,000,000 by default) of each kind of crates/trials, on all
+# processors. Random programs of the second processor and of the host, and single instructions of
+# both at edges, run by whole instructions and cycle by cycle. Random acts on the host's bus run
+# with devices that lag, and beside a bus that steps them at each tick. It prints how many trials
+# were done, in how many seconds, and for each processor the first seed that differs. The status is
+# 0 if none differs. The same seed (1 by default) makes the same trials.
 #
-# `rt run` in crates/trials proves the program and builds it, in crates/trials/out. TRIALS=PROGRAM runs one that was built by other means.
+# `rt run` in crates/trials proves the program and builds it, in crates/trials/out. TRIALS=PROGRAM
+# runs one that was built by other means.
 . "$(dirname "$0")/common.sh"
 
 trials=$top/crates/trials/out/trials

@@ -933,7 +933,7 @@ QUESTIONS = {
 
 
 def compare(answers, seed, ticks, each=60, verbose=False):
-    """Asks so many questions, some of each of random runs; gives how many were asked, and how many
+    """Asks this many questions, some of each of random runs; gives how many were asked, and how many
     answers differ."""
     asked = wrong = number = 0
     program = Program()

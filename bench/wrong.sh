@@ -1,7 +1,9 @@
 #!/usr/bin/env bash
-# wrong.sh [CRATE..]: puts wrong bodies back one by one, in a copy of this checkout, and shows that the check of their crate refuses each for its
-# contract's sake: those of bench/wrong.edits, or of these crates alone. The gate tries edits of its own (must-fail/), which are told in docs/GATE.md;
-# these are of the same kinds, and went from it since each costs a check. Prints what is not refused and how many were, and ends with 0 where all were.
+# wrong.sh [CRATE..]: applies the edits of bench/wrong.edits one by one in a copy of this checkout,
+# or those of these crates alone. It shows that the check of their crate refuses each because of its
+# contract. The gate tries edits of its own (must-fail/, docs/GATE.md). These here are of the same
+# kinds, and not in the gate since each costs a check. It prints which edits are not refused, and
+# how many are. The status is 0 if all are refused.
 . "$(dirname "$0")/common.sh"
 
 mkdir copy

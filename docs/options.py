@@ -1,7 +1,8 @@
 #!/usr/bin/env python3
-"""Makes the pages of beebtube's arguments from the program's own table of options, crates/cmd_words/src/keys.rt:
-the man page docs/beebtube.1, the completion tools/completion.bash, the text of --help docs/help.txt, and the list of options in
-docs/COMMANDS.md; and compares the table of tools/beebtube/words.py.
+"""Makes the pages of beebtube's arguments from the program's own table of options,
+crates/cmd_words/src/keys.rt: the man page docs/beebtube.1, the completion tools/completion.bash,
+the text of --help docs/help.txt, and the list of options in docs/COMMANDS.md. It also compares the
+table of tools/beebtube/words.py.
 
   docs/options.py make     writes them
   docs/options.py check    says which of them is not what it would write, with status 1
@@ -28,26 +29,26 @@ TEXTS = {
     "--disc0": ("IMAGE", "the disc in drive 0: a DSD if the name ends in .dsd, else an SSD"),
     "--disc1": ("IMAGE", "the disc in drive 1"),
     "--keys": ("SCRIPT", "the key script: keys, shots, BREAK and the converter's levels"),
-    "--points": ("FILE", "only instructions at the addresses of this file: on each line four upper-case hexadecimal digits, rising"),
-    "--plugs": ("N", "the first N devices on the 1 MHz bus: with 1 a RAM card, with 2 a printer's latch too"),
-    "--keep": ("K", "how many accesses to the Tube the trace has at most; 1,048,576 without it"),
-    "--speed": ("MHZ", "the second processor's clock; 3 without it"),
-    "--wav": ("FILE", "what is heard of the sound chip, as a sound file"),
+    "--points": ("FILE", "only instructions at the addresses of this file. A line has four upper-case hexadecimal digits, and addresses rise"),
+    "--plugs": ("N", "the first N devices on the 1 MHz bus. The first is a RAM card, the second a printer's latch"),
+    "--keep": ("K", "how many accesses to the Tube the trace has at most (1,048,576)"),
+    "--speed": ("MHZ", "the second processor's clock (3)"),
+    "--wav": ("FILE", "the output of the sound chip, as a sound file"),
     "--save": ("FILE", "the run as a session file, from which resume goes on"),
     "--at": ("AAAA", "only instructions at this address"),
     "--watch": ("AAAA", "only instructions before which the byte at this address changed"),
-    "--from": ("TICK", "only starts at this tick or later are listed; --watch compares with the preceding instruction even if that is "
+    "--from": ("TICK", "lists only starts at this tick or later. --watch compares with the preceding instruction even if that is "
                        "not listed"),
-    "--no-tube": (None, "nothing answers at FEE0 to FEFF: a read there gives FE, a write does nothing, BREAK makes no access; the trace "
-                        "must be empty (bad trace 1 otherwise): a Model B alone"),
-    "--counts": (None, "writes OUT.counts too: for each address how many instructions start there, their ticks, and how often the condition "
-                       "of a branch holds"),
+    "--no-tube": (None, "a Model B alone: nothing answers at FEE0 to FEFF. A read there gives FE, a write does nothing, and BREAK makes "
+                        "no access. The trace must be empty (otherwise bad trace 1)"),
+    "--counts": (None, "writes OUT.counts too. It has for each address how many instructions start there, their ticks, and how often "
+                       "the condition of a branch holds"),
 }
 
 COMMANDS = [
-    ("check TRACE", "says whether the chip would give the answers of a Tube trace"),
+    ("check TRACE", "checks whether the chip would give the answers of a Tube trace"),
     ("asm PART SOURCE OUT", "assembles a source text for PART, 6502 or 65c02"),
-    ("dis PART IMAGE ORIGIN OUT", "writes the source text of an image's bytes, the first of which is at ORIGIN"),
+    ("dis PART IMAGE ORIGIN OUT", "writes a source text of an image whose first byte is at ORIGIN"),
     ("replay host TRACE TICKS OUT [OPTION ..]", "runs the BBC Micro alone against a trace"),
     ("replay para TRACE TICKS OUT [OPTION ..]", "runs the second processor alone against a trace"),
     ("solo TICKS OUT [OPTION ..]", "runs both machines on one thread"),
@@ -55,7 +56,7 @@ COMMANDS = [
     ("resume STATE TICKS OUT [OPTION ..]", "goes on with the run that a session file holds"),
     ("follow host TRACE TICKS OUT [OPTION ..]", "lists the instructions that the BBC Micro carries out against a trace"),
     ("follow para TRACE TICKS OUT [OPTION ..]", "lists the instructions of the second processor"),
-    ("gen SEED", "makes and runs a demonstration of a seed, a number below 2^64"),
+    ("gen SEED", "makes and runs a demonstration from a seed, a number below 2^64"),
 ]
 
 EXAMPLES = [
@@ -64,10 +65,10 @@ EXAMPLES = [
     "./beebtube replay host /dev/null 6000000 alone --no-tube --os os --font font",
 ]
 
-LAUNCHED = [("--help", "prints this text"), ("--version", "prints which program is run, its checksum, and what proved it")]
+LAUNCHED = [("--help", "prints this text"), ("--version", "prints which program runs, its checksum, and what proved it")]
 
 OUTPUTS = [
-    ("OUT.report", "registers, and how many accesses and frames there were"),
+    ("OUT.report", "the registers, and how many accesses and frames there were"),
     ("OUT.host, OUT.para", "the memories, 32,768 and 65,536 bytes"),
     ("OUT.d0, OUT.d1", "the discs, if drives have any"),
     ("OUT.000.ppm ..", "the frames that the shots of the key script took, 640 by 256"),
@@ -84,7 +85,7 @@ STATUSES = [
     (1, "usage: the command line is not valid"),
     (2, "a file could not be read, or is too long"),
     (3, "an image has a wrong length"),
-    (4, "a trace, script, source, session file or file of addresses is not in its form; the line, or the byte, is named"),
+    (4, "a trace, script, source, session or file of addresses has a line or a byte outside its form"),
     (5, "a file could not be written"),
     (6, "no thread could be started"),
     (7, "no memory"),
@@ -112,8 +113,8 @@ class Option:
         return ""
 
     def text(self):
-        text = TEXTS[self.word][1]
-        return text + ("; it is " + self.value_text() if self.value_text() else "")
+        value, text = TEXTS[self.word]
+        return text + (". %s is %s" % (value, self.value_text()) if self.value_text() else "")
 
     # The words that name it among others.
     def shown(self):

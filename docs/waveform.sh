@@ -31,7 +31,7 @@ def part(name, data):
     return struct.pack(">I", len(data)) + name + data + struct.pack(">I", zlib.crc32(name + data))
 
 
-# One strip of so many samples, each column from its least to its greatest, joined to the column before it.
+# One strip of this many samples, each column from its least to its greatest, joined to the column before it.
 def strip(samples):
     rows = [bytearray(WIDTH) for _ in range(HEIGHT)]
     before = samples[0]

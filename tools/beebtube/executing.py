@@ -170,7 +170,7 @@ def _execute(words: List[str]) -> int:
             what = "a folder" if os.path.isdir(name) else "in no folder"
             raise Fault(f"cannot write {name}: it is {what}")
         if any(same_file(name, it) for it in read):
-            raise Fault(f"{name} is read too, and is not written over")
+            raise Fault(f"{name} is read too, and is not overwritten")
     arguments = [os.fsencode(word) for word in rest]
     kind = DiscRunner if given.os else Runner
     runner = kind(Program(), images, arguments, speed, given.keys, given.font)

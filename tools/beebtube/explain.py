@@ -143,7 +143,7 @@ def _of_trace(name: str, number: int, speed: str, no_tube: bool) -> List[str]:
                 break
             at += 1
     if number == 1 and fast != (speed == "4") and (not line or _trace_fault(line, before, 1) is None):
-        return ["the trace is of a second processor at %s MHz, and the words say %s: `--speed %s`"
+        return ["the trace is of a second processor at %s MHz, and the arguments say %s: `--speed %s`"
                 % (("4", speed, "4") if fast else ("3", speed, "3"))]
     lines = ["line %d of the trace%s: %s" % (number, ", not counting `T2`" if fast else "", _shown(line.rstrip(b"\n")))]
     fault = _trace_fault(line, before, number)

@@ -213,7 +213,7 @@ def write_beside(name: Name, data: Union[bytes, str, Iterable[bytes]], reads: It
     shown = os.fspath(name)
     for read in reads:
         if same_file(name, read):
-            raise Fault("%s is read too, and is not written over" % shown)
+            raise Fault("%s is read too, and is not overwritten" % shown)
     if isinstance(data, str):
         data = data.encode("utf-8", "surrogateescape")
     blocks = [data] if isinstance(data, bytes) else data

@@ -158,7 +158,7 @@ def look_at_place(name: Name) -> None:
             found = file.read(len(begin) + 20 + len(palette))
         # The part `acTL` of a moving picture, 20 bytes, may come before its colours.
         if found and not (found.startswith(begin) and found[len(begin) :].startswith((palette, b"\0\0\0\10acTL"))):
-            raise Fault("%s is there, and is no picture that was made here: it is not written over" % os.fspath(name))
+            raise Fault("%s is there, and is no picture that was made here: it is not overwritten" % os.fspath(name))
 
 
 # The parts of a picture, by their names; Fault where it ends inside one, or a part has another sum.

@@ -122,7 +122,7 @@ class Player:
             _look_at_sound(self.out + ".wav")
         for name in pictures + [self.out + ".wav"] * sound:
             if any(same_file(name, read) for read in reads):
-                raise Fault("%s is read too, and is not written over" % name)
+                raise Fault("%s is read too, and is not overwritten" % name)
         options: Dict[str, Any] = {option[2:]: value for option, value in self.options.items() if self.both or option != "--tube"}
         program = Program()
         machine: Callable[..., Run] = program.host
@@ -152,7 +152,7 @@ def _look_at_sound(name: str) -> None:
     if is_plain(name):
         with open_file(name) as file:
             if file.read(4) not in (b"", b"RIFF"):
-                raise Fault("%s is there, and is no sound: it is not written over" % name)
+                raise Fault("%s is there, and is no sound: it is not overwritten" % name)
 
 
 __all__ = ["Player", "sort_names"]

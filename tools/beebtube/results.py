@@ -353,22 +353,22 @@ def _look_at_kept(place: str, inputs: Iterable[Input]) -> None:
     if not os.path.lexists(place):
         return
     if os.path.islink(place) or not os.path.isdir(place):
-        raise Fault("%s is there, and is no folder: it is not written over" % place)
+        raise Fault("%s is there, and is no folder: it is not overwritten" % place)
     try:
         lines = read_text(os.path.join(place, "out.manifest"), plain=True).splitlines()
     except Fault:
         lines = []
     if lines[:1] != [HEAD]:
-        raise Fault("%s is there, and no run was kept in it: it is not written over" % place)
+        raise Fault("%s is there, and no run was kept in it: it is not overwritten" % place)
     known = {name: told for _, name, told in files_in(lines) if OWN_NAME.fullmatch(name)}
     for name in _all_below(place):
         file = os.path.join(place, name)
         if name != "out.manifest" and (name not in known or not is_plain(file) or os.path.islink(file) or str(sum_of(file, None)) != known[name]):
-            raise Fault("%s has %s, which is no file that a run left there: it is not written over" % (place, name))
+            raise Fault("%s has %s, which is no file that a run left there: it is not overwritten" % (place, name))
     real = os.path.realpath(place) + "/"
     for it in inputs:
         if it.path is not None and os.path.realpath(it.path).startswith(real):
-            raise Fault("%s has %s, which is read too: it is not written over" % (place, os.path.basename(it.path)))
+            raise Fault("%s has %s, which is read too: it is not overwritten" % (place, os.path.basename(it.path)))
 
 
 def _all_below(folder: str) -> List[str]:

@@ -435,7 +435,7 @@ class Ends(Execute):
                 (["--limit", "179", three], "at most 178 seconds"), (["--speed", "4", "--limit", "100", three], "at most 89 seconds"),
                 (["--host", "--both", host, host], "--host runs one program"), (["--host", "--trace", "s", host], "no list of its accesses"),
                 (["--shots", "s", three], "--keys names none"), (["--host-labels", "s", three], "are of the program of --both"),
-                (["--save", three, three], "is not written over"), (["--save", "s", "--trace", "./s", three], "name one file"),
+                (["--save", three, three], "is not overwritten"), (["--save", "s", "--trace", "./s", three], "name one file"),
                 (["--listing", "nowhere/s", three], "in no folder"), ([three, "x" * 600], "the arguments are too long"), (["--nothing", three], "--nothing")):
             self.assertIn(told, self.tool("execute", *words, status=125).err, words)
         self.assertEqual(sorted(self.names()), ["cut", "none", "text"])
@@ -850,7 +850,7 @@ class Building(Execute):
         os.link(self.at("util.c"), self.at("other"))
         for words in (["util.c", "main.c"], ["new.c", "main.c"], ["main.c", "main.c"], ["--labels", "main.c", "out", "main.c"],
                       ["./other", "util.c", "main.c"], ["other", "main.c"]):
-            self.assertIn("it is not written over", self.build(*words, status=2).err)
+            self.assertIn("it is not overwritten", self.build(*words, status=2).err)
             self.assertEqual({name: text_of(self.at(name)) for name in files}, files)
         self.assertIn("one file", self.build("--labels", "./out", "out", "main.c", status=2).err)
         self.build("--labels", "labels", "out", "main.c", "util.c")

@@ -199,9 +199,9 @@ class Told(Case):
     def test_the_clock_of_a_trace(self):
         self.pair()
         put(self.at("fast"), b"T2\n")
-        self.told("replay para fast 9 o --tube tube", 4, "the trace is of a second processor at 4 MHz, and the words say 3: `--speed 4`")
+        self.told("replay para fast 9 o --tube tube", 4, "the trace is of a second processor at 4 MHz, and the arguments say 3: `--speed 4`")
         put(self.at("slow"), b"")
-        self.told("replay para slow 9 o --tube tube --speed 4", 4, "the trace is of a second processor at 3 MHz, and the words say 4: `--speed 3`")
+        self.told("replay para slow 9 o --tube tube --speed 4", 4, "the trace is of a second processor at 3 MHz, and the arguments say 4: `--speed 3`")
 
     def test_without_python(self):
         """The same program and status, and shorter lines."""

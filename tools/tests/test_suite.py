@@ -124,7 +124,7 @@ class Running(Suite):
         os.makedirs(self.at("kept/a.ssd"))
         put(self.at("kept/a.ssd/own"), b"own")
         done = self.suite("--keep", "kept", status=1)
-        self.assertIn("it is not written over", self.lines(done)[0])
+        self.assertIn("it is not overwritten", self.lines(done)[0])
         self.assertEqual(self.lines(done)[1], "done b.ssd")
         self.assertEqual(text_of(self.at("kept/a.ssd/own")), b"own")
         self.assertEqual(sorted(os.listdir(self.at("kept"))), ["a.ssd", "b.ssd"])
@@ -139,7 +139,7 @@ class Running(Suite):
         def refused(words=WORDS):
             before = {name: text_of(self.at("kept/a.ssd/" + name)) for name in os.listdir(self.at("kept/a.ssd"))}
             told = self.suite("--keep", "kept", status=1, words=words).out
-            self.assertIn("it is not written over", told)
+            self.assertIn("it is not overwritten", told)
             self.assertEqual({name: text_of(self.at("kept/a.ssd/" + name)) for name in os.listdir(self.at("kept/a.ssd"))}, before)
             self.assertEqual(os.listdir(self.at("kept")), ["a.ssd"])
             return told
@@ -820,7 +820,7 @@ class Reports(Suite):
         put(self.at("list.csv"), b"name,disc0\na,discs/good.ssd\n")
         for option in ("--junit", "--tap"):
             done = self.suite(option, "list.csv", name="list.csv", status=1)
-            self.assertIn("list.csv is read too, and is not written over", done.err)
+            self.assertIn("list.csv is read too, and is not overwritten", done.err)
             self.assertIn("results/results.csv is read too", self.suite(option, "results/results.csv", status=1).err)
         self.assertEqual(text_of(self.at("list.csv")), b"name,disc0\na,discs/good.ssd\n")
         self.assertEqual(len(self.table()), 1)

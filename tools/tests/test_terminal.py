@@ -126,7 +126,7 @@ class Sessions(Terminal):
         self.assertEqual(self.leaves("\x04"), 0)
 
     def test_other_words_of_a_terminal(self):
-        """A file of another kind is not written over from here either, and a picture is."""
+        """A file of another kind is not overwritten from here either, and a picture is."""
         put(self.at("mine"), b"mine")
         self.assertIn("is no picture", self.types("frame mine\r", "host 2000> "))
         self.types("frame new.png; go 7\r", "host 7> ")
