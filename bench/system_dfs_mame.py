@@ -6,33 +6,16 @@ that are left are compared byte for byte, and memory from 0000 to 7FFF but for t
 system_mame.py leaves out, the slots and NMI's holder. The status is 1 if anything differs. It needs
 MAME (Debian package mame).
 """
-import os
-import subprocess
 import sys
 import tempfile
 
 sys.dont_write_bytecode = True
 import system_mame  # noqa: E402
+import beebtube  # noqa: E402
 import test_system_dfs as dfs  # noqa: E402
 from beebtube.disc import LARGEST, Disc, with_file  # noqa: E402
 
 SECONDS = 25
-LUA = """
-local done = false
-emu.register_frame_done(function()
-    local now = manager.machine.time:as_double()
-    for name, field in pairs(manager.machine.ioport.ports[":COL0"].fields) do
-        if field.mask == 1 then field:set_value(now < 3 and 1 or 0) end
-    end
-    if done or now < %d then return end
-    done = true
-    local space = manager.machine.devices[":maincpu"].spaces["program"]
-    local file = io.open("memory", "wb")
-    for place = 0, 32767 do file:write(string.char(space:read_u8(place))) end
-    file:close()
-    manager.machine:exit()
-end)
-"""
 LINES = ("*CAT", "*DRIVE 1", "*SAVE NEW C000 +300", "*SAVE OLD3 C100 +600", "*DELETE GONE",
     "*COMPACT", "*LOAD OLD2 3000", "*COPY 1 0 N*", "*INFO *", "*DRIVE 0", "*SAVE T 3000 +700")
 
@@ -47,39 +30,11 @@ def discs():
     return [Disc(disc.image.ljust(LARGEST[False], b"\0")) for disc in (dfs.script(*LINES), other)]
 
 
-def mame(folder):
-    """Memory and both discs as MAME leaves them."""
-    images = {"bbcb/os12.rom": dfs.OS, "bbcb/basic2.rom": dfs.MON * 2,
-        "bbcb/phroma.bin": bytes(16384), "bbcb/saa5050": dfs.FONT, "saa5050/saa5050": dfs.FONT,
-        "bbc_acorn1770/dfs v2.23,acorn.rom": dfs.DFS}
-    for name, data in images.items():
-        place = os.path.join(folder, "roms", name)
-        os.makedirs(os.path.dirname(place), exist_ok=True)
-        put(place, data)
-    for name, disc in zip(("a.ssd", "b.ssd"), discs()):
-        put(os.path.join(folder, name), disc.image)
-    put(os.path.join(folder, "look.lua"), (LUA % SECONDS).encode())
-    drive = "-fdc:acorn1770:wd1770:%d"
-    done = subprocess.run([system_mame.MAME, "bbcb", "-rompath", "roms", "-cfg_directory", "cfg",
-        "-nvram_directory", "nvram", "-fdc", "acorn1770", drive % 0, "525qd", drive % 1, "525qd",
-        "-flop1", "a.ssd", "-flop2", "b.ssd", "-video", "none", "-sound", "none", "-nothrottle",
-        "-skip_gameinfo", "-seconds_to_run", str(SECONDS + 5), "-autoboot_script", "look.lua",
-        "-autoboot_delay", "0"], cwd=folder, env={**os.environ, "SDL_VIDEODRIVER": "dummy"},
-        stdout=subprocess.PIPE, stderr=subprocess.STDOUT, timeout=600)
-    if not os.path.exists(os.path.join(folder, "memory")):
-        raise SystemExit("system_dfs_mame: MAME left no memory:\n"
-            + done.stdout.decode("utf-8", "replace"))
-    return [dfs.text_of(os.path.join(folder, name)) for name in ("memory", "a.ssd", "b.ssd")]
-
-
-def put(name, data):
-    with open(name, "wb") as file:
-        file.write(data)
-
-
 def main():
     with tempfile.TemporaryDirectory(prefix="beebtube-mame-") as folder:
-        memory, *images = mame(folder)
+        left = system_mame.mame(folder, beebtube.pressed((0, "SHIFT", 3 * dfs.SECOND)), SECONDS,
+            dfs.MON, discs())
+    memory = left["memory"]
     first, second = discs()
     run = dfs.started(SECONDS, disc0=first, disc1=second)
     slots = {at + 2 for at in range(0xD9F, 0xDF0, 3)} | set(range(0xDF0, 0xE00))
@@ -87,7 +42,8 @@ def main():
         and memory[at] != run.host[at]]
     print("memory: %d cells differ %s" % (len(cells), " ".join("%04X" % at for at in cells[:20])))
     same = not cells
-    for drive, image in enumerate(images):
+    for drive in range(2):
+        image = left["%d.ssd" % drive]
         sectors = [at // 256 for at in range(0, len(image), 256)
             if image[at : at + 256] != run.discs[drive].image[at : at + 256].ljust(256, b"\0")]
         print("disc %d: %d sectors differ %s" % (drive, len(sectors), sectors[:20]))

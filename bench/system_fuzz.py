@@ -174,8 +174,10 @@ def discs(chance):
             "*DUMP " + name, "*COPY 0 1 " + name, "*OPT4,2", "*DIR " + name, "*SPOOL " + name,
             "*ENABLE", "*BACKUP 0 1", "*DESTROY " + name, "*EXEC " + name)))
     text = "".join(line + "{RETURN}{WAIT %.1f}" % chance.choice((0.3, 1, 2)) for line in lines)
-    typed = beebtube.typed(text + "{WAIT 4}{ESCAPE}{WAIT 3}{ESCAPE}{WAIT 0.5}*SPOOL{RETURN}{WAIT 1}"
-        "S 2000 5A{RETURN}{WAIT 3}{RETURN}S 2000 5A{RETURN}{WAIT 0.5}", start=1)
+    # ESCAPE does not end *COPY and *BACKUP, which take up to a minute and a half.
+    wait = 90 if "*COPY" in text or "*BACKUP" in text else 4
+    typed = beebtube.typed(text + "{WAIT %d}{ESCAPE}{WAIT 3}{ESCAPE}{WAIT 0.5}*SPOOL{RETURN}{WAIT 1}"
+        "S 2000 5A{RETURN}{WAIT 3}{RETURN}S 2000 5A{RETURN}{WAIT 0.5}" % wait, start=1)
     return dfs.started(typed.ticks / SECOND, typed, disc0=made[0], disc1=made[1])
 
 

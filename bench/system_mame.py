@@ -18,6 +18,7 @@ for part in ("tools", os.path.join("tools", "tests")):
     sys.path.insert(0, os.path.join(TOP, part))
 import beebtube  # noqa: E402
 import test_system as system  # noqa: E402
+import test_system_dfs as dfs  # noqa: E402
 
 MAME = shutil.which("mame") or "/usr/games/mame"
 SECOND = system.SECOND
@@ -34,9 +35,16 @@ SKIPPED = {at for cells in TIMING for at in cells}
 
 LUA = """
 local events, last, done, at = {}, %f, false, 1
-for line in io.lines(os.getenv("SCHEDULE")) do
+for line in io.lines("schedule") do
     local time, port, mask, value = line:match("(%%S+) (%%S+) (%%d+) (%%d)")
     events[#events + 1] = {tonumber(time), port, tonumber(mask), tonumber(value)}
+end
+local function keep(name, device, last)
+    if not manager.machine.devices[device] then return end
+    local space = manager.machine.devices[device].spaces["program"]
+    local file = io.open(name, "wb")
+    for place = 0, last do file:write(string.char(space:read_u8(place))) end
+    file:close()
 end
 local function look()
     local now = manager.machine.time:as_double()
@@ -49,13 +57,11 @@ local function look()
     end
     if done or now < last then return end
     done = true
-    local space = manager.machine.devices[":maincpu"].spaces["program"]
-    local file = io.open("memory", "wb")
-    for place = 0, 32767 do file:write(string.char(space:read_u8(place))) end
-    file:close()
+    keep("memory", ":maincpu", 0x7FFF)
+    keep("second", ":tube:6502:maincpu", 0xF7FF)
     local screen = manager.machine.screens[":screen"]
     local pixels, width, height = screen:pixels()
-    file = io.open("pixels", "wb")
+    local file = io.open("pixels", "wb")
     file:write(string.format("%%d %%d\\n", width or screen.width, height or screen.height), pixels)
     file:close()
     manager.machine:exit()
@@ -64,38 +70,49 @@ emu.register_frame_done(look)
 """
 
 
-def mame(folder, language, keys, seconds):
-    """The memory and the screen (width, height, pixels) that MAME leaves."""
-    roms = os.path.join(folder, "roms")
-    for machine in ("bbcb", "saa5050"):
-        os.makedirs(os.path.join(roms, machine))
+def mame(folder, keys, seconds, language, discs=(), tube=None):
+    """What MAME leaves after so many seconds: files of a folder, among them `memory` and `pixels`.
+
+    Images of discs are left as `0.ssd` and `1.ssd`, and with a boot ROM for the Tube the memory of
+    the second processor as `second`.
+    """
     images = {"bbcb/os12.rom": system.OS, "bbcb/basic2.rom": (language * 2)[:16384],
-        "bbcb/phroma.bin": bytes(16384),
-              "bbcb/saa5050": system.FONT, "saa5050/saa5050": system.FONT}
+        "bbcb/phroma.bin": bytes(16384), "bbcb/saa5050": system.FONT,
+        "saa5050/saa5050": system.FONT, "bbc_acorn1770/dfs v2.23,acorn.rom": dfs.DFS}
+    words = ["-fdc", "acorn1770" if discs else ""]
+    for drive, disc in enumerate(discs):
+        put(os.path.join(folder, "%d.ssd" % drive), disc.image)
+        words += ["-fdc:acorn1770:wd1770:%d" % drive, "525qd", "-flop%d" % (drive + 1),
+            "%d.ssd" % drive]
+    if tube:
+        images["bbc_tube_6502/6502tube_110.rom"] = tube * 2
+        words += ["-tube", "6502"]
     for name, data in images.items():
-        with open(os.path.join(roms, name), "wb") as file:
-            file.write(data)
-    with open(os.path.join(folder, "schedule"), "w") as file:
-        for line in keys.text().splitlines():
-            _, tick, what, number = line.split()
-            row, column = int(number, 16) >> 4, int(number, 16) & 15
-            file.write("%f :COL%d %d %d\n" % (int(tick) / SECOND, column, 1 << row, what == "down"))
-    with open(os.path.join(folder, "look.lua"), "w") as file:
-        file.write(LUA % seconds)
-    words = [MAME, "bbcb", "-rompath", "roms", "-cfg_directory", "cfg", "-nvram_directory",
-        "nvram", "-fdc", "",
-             "-video", "none", "-sound", "none", "-nothrottle", "-skip_gameinfo",
-             "-seconds_to_run", str(int(seconds) + 5),
-             "-autoboot_script", "look.lua", "-autoboot_delay", "0"]
-    done = subprocess.run(words, cwd=folder, env={**os.environ, "SCHEDULE": "schedule",
-        "SDL_VIDEODRIVER": "dummy"},
-                          stdout=subprocess.PIPE, stderr=subprocess.STDOUT, timeout=600)
+        place = os.path.join(folder, "roms", name)
+        os.makedirs(os.path.dirname(place), exist_ok=True)
+        put(place, data)
+    lines = ""
+    for line in keys.text().splitlines():
+        _, tick, what, number = line.split()
+        row, column = int(number, 16) >> 4, int(number, 16) & 15
+        lines += "%f :COL%d %d %d\n" % (int(tick) / SECOND, column, 1 << row, what == "down")
+    put(os.path.join(folder, "schedule"), lines.encode())
+    put(os.path.join(folder, "look.lua"), (LUA % seconds).encode())
+    done = subprocess.run([MAME, "bbcb", "-rompath", "roms", "-cfg_directory", "cfg",
+        "-nvram_directory", "nvram", *words, "-video", "none", "-sound", "none", "-nothrottle",
+        "-skip_gameinfo", "-seconds_to_run", str(int(seconds) + 5), "-autoboot_script", "look.lua",
+        "-autoboot_delay", "0"], cwd=folder, env={**os.environ, "SDL_VIDEODRIVER": "dummy"},
+        stdout=subprocess.PIPE, stderr=subprocess.STDOUT, timeout=600)
     if not os.path.exists(os.path.join(folder, "memory")):
         raise SystemExit("system_mame: MAME left no memory:\n"
             + done.stdout.decode("utf-8", "replace"))
-    size, pixels = system.text_of(os.path.join(folder, "pixels")).split(b"\n", 1)
-    width, height = map(int, size.split())
-    return system.text_of(os.path.join(folder, "memory")), (width, height, pixels)
+    return {name: system.text_of(os.path.join(folder, name)) for name in os.listdir(folder)
+        if os.path.isfile(os.path.join(folder, name))}
+
+
+def put(name, data):
+    with open(name, "wb") as file:
+        file.write(data)
 
 
 def colours_of(frame):
@@ -162,11 +179,14 @@ def main(names):
         run = beebtube.host(ticks, os=system.OS, rom15=language, font=system.FONT,
                             keys=(shot.text() + "at %d shot\n" % (ticks - 1)).encode())
         with tempfile.TemporaryDirectory() as folder:
-            memory, (width, height, pixels) = mame(folder, language, keys, seconds)
+            left = mame(folder, keys, seconds, language)
+        memory = left["memory"]
         cells = [at for at in range(32768) if memory[at] != run.host[at] and at not in SKIPPED]
         others = 0
         if run.host[0x355] != 7:
-            ours, theirs = colours_of(run.frames[0]), colours_of_mame(width, height, pixels)
+            size, pixels = left["pixels"].split(b"\n", 1)
+            ours = colours_of(run.frames[0])
+            theirs = colours_of_mame(*map(int, size.split()), pixels)
             others = sum(one != other for one, other in zip(ours, theirs))
         print("%s: bytes %d, pixels %d%s" % (name, len(cells), others,
             "; first %04X: %02X, MAME %02X" % (

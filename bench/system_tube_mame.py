@@ -7,39 +7,17 @@ entered once more. The disc that is left is compared byte for byte, and so are b
 for the cells that system_mame.py leaves out, the slots, and the second processor's stack and cells
 EE to FF. The status is 1 if anything differs. It needs MAME (Debian package mame).
 """
-import os
-import subprocess
 import sys
 import tempfile
 
 sys.dont_write_bytecode = True
 import system_mame  # noqa: E402
+import beebtube  # noqa: E402
 import test_system_dfs as dfs  # noqa: E402
 import test_system_tube as tube  # noqa: E402
 from beebtube.disc import LARGEST, Disc  # noqa: E402
-from system_dfs_mame import put  # noqa: E402
 
 SECONDS = 20
-LUA = """
-local done = false
-emu.register_frame_done(function()
-    local now = manager.machine.time:as_double()
-    for name, field in pairs(manager.machine.ioport.ports[":COL0"].fields) do
-        if field.mask == 1 then field:set_value(now < 3 and 1 or 0) end
-    end
-    if done or now < %d then return end
-    done = true
-    for name, device in pairs({memory = ":maincpu", second = ":tube:6502:maincpu"}) do
-        local space = manager.machine.devices[device].spaces["program"]
-        local file = io.open(name, "wb")
-        for place = 0, name == "memory" and 0x7FFF or 0xF7FF do
-            file:write(string.char(space:read_u8(place)))
-        end
-        file:close()
-    end
-    manager.machine:exit()
-end)
-"""
 LINES = ("*CAT", "*PROG", "*RUN HOST", "*SAVE PARA 2000 +800", "*SAVE OS FFFFC000 +800",
     "*LOAD OS 5000", "*LOAD PARA FFFF5000", "*RUN NONE", "*DELETE OS", "*SAVE BACK 4F80 +900",
     "*GO 3000", "*MON", "S 2100 12 34", "*INFO *")
@@ -56,33 +34,11 @@ def disc():
     return Disc(made.image.ljust(LARGEST[False], b"\0"))
 
 
-def mame(folder):
-    """Both memories and the disc as MAME leaves them."""
-    images = {"bbcb/os12.rom": dfs.OS, "bbcb/basic2.rom": dfs.MON * 2,
-        "bbcb/phroma.bin": bytes(16384), "bbcb/saa5050": dfs.FONT, "saa5050/saa5050": dfs.FONT,
-        "bbc_acorn1770/dfs v2.23,acorn.rom": dfs.DFS,
-        "bbc_tube_6502/6502tube_110.rom": tube.TUBE * 2}
-    for name, data in images.items():
-        place = os.path.join(folder, "roms", name)
-        os.makedirs(os.path.dirname(place), exist_ok=True)
-        put(place, data)
-    put(os.path.join(folder, "a.ssd"), disc().image)
-    put(os.path.join(folder, "look.lua"), (LUA % SECONDS).encode())
-    done = subprocess.run([system_mame.MAME, "bbcb", "-rompath", "roms", "-cfg_directory", "cfg",
-        "-nvram_directory", "nvram", "-tube", "6502", "-fdc", "acorn1770",
-        "-fdc:acorn1770:wd1770:0", "525qd", "-flop1", "a.ssd", "-video", "none", "-sound", "none",
-        "-nothrottle", "-skip_gameinfo", "-seconds_to_run", str(SECONDS + 5), "-autoboot_script",
-        "look.lua", "-autoboot_delay", "0"], cwd=folder, env={**os.environ,
-        "SDL_VIDEODRIVER": "dummy"}, stdout=subprocess.PIPE, stderr=subprocess.STDOUT, timeout=600)
-    if not os.path.exists(os.path.join(folder, "memory")):
-        raise SystemExit("system_tube_mame: MAME left no memory:\n"
-            + done.stdout.decode("utf-8", "replace"))
-    return [dfs.text_of(os.path.join(folder, name)) for name in ("memory", "second", "a.ssd")]
-
-
 def main():
     with tempfile.TemporaryDirectory(prefix="beebtube-mame-") as folder:
-        memory, second, image = mame(folder)
+        left = system_mame.mame(folder, beebtube.pressed((0, "SHIFT", 3 * dfs.SECOND)), SECONDS,
+            dfs.MON, [disc()], tube.TUBE)
+    memory, second, image = left["memory"], left["second"], left["0.ssd"]
     run = tube.started(SECONDS, dfs.SHIFT + b"at 17000000 up 00\n", disc0=disc())
     slots = {at + 2 for at in range(0xD9F, 0xDF0, 3)} | set(range(0xDF0, 0xE00)) | {0x24A}
     cells = [at for at in range(0x8000) if at not in system_mame.SKIPPED | slots

@@ -60,7 +60,7 @@ complete -o filenames -F _beebtube_differs differs tools/differs
 _beebtube_execute() {
     local word=${COMP_WORDS[COMP_CWORD]}
     if [ "${word:0:1}" = - ]; then
-        mapfile -t COMPREPLY < <(compgen -W '--help --at --start --host --both --host-at --host-start --host-labels --os --tube --labels --cpu --speed --limit --time --keys --font --shots --save --trace --listing' -- "$word")
+        mapfile -t COMPREPLY < <(compgen -W '--help --at --start --host --both --host-at --host-start --host-labels --os --tube --disc --labels --cpu --speed --limit --time --keys --font --shots --save --trace --listing' -- "$word")
     else
         mapfile -t COMPREPLY < <(compgen -f -- "$word")
     fi

@@ -61,10 +61,13 @@ int main(int argc, char* argv[])
     check("OSGBPB 1 writes at a place", !gbpb(1, file, data, 50, 200));
     os(0xFFD4, 'x', 0, file);
     check("OSBPUT keeps A", r.a == 'x');
+    osbyte(157, 'y', file);
+    os(0xFFDA, 2, 0x70, file);
+    check("OSBYTE 157: a byte to a file", *(unsigned long*)0x70 == 252);
     os(0xFFCE, 0, 0, file);
     *(unsigned*)block = (unsigned)name;
     with(0xFFDD, 5, block);
-    check("the file has grown", *(unsigned long*)(block + 10) == 251);
+    check("the file has grown", *(unsigned long*)(block + 10) == 252);
     with(0xFFDD, 6, block);
     check("OSFILE 6 deletes", r.a == 1);
     with(0xFFDD, 5, block);

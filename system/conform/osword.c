@@ -1,6 +1,6 @@
 #include "conform.h"
 
-static unsigned char block[20], line[8];
+static unsigned char block[20], line[8], changed, first;
 
 static unsigned long clock_of(unsigned char a)
 {
@@ -51,6 +51,22 @@ int main(void)
     block[4] = 'z';
     osword(0, block);
     check("0: a line of at most five letters", r.y == 5 && !carry && !memcmp(line, "acdef\r", 6));
+    codes("\x16\x04\x19\x04\x64\0\x34\0\x19\x04\xC8\0\xC8\0", 14);
+    block[0] = 1;
+    block[1] = 6;
+    osword(12, block);
+    block[1] = 0;
+    osword(11, block);
+    changed = block[1];
+    codes("\x14", 1);
+    osword(11, block);
+    first = block[1];
+    osword(13, block);
+    codes("\x16\x07", 2);
+    check("12: another colour, as VDU 19", changed == 6);
+    check("VDU 20: the first colours", first == 7);
+    check("13: the last two points", *(int*)block == 100 && *(int*)(block + 2) == 52 && *(int*)(block + 4) == 200
+        && *(int*)(block + 6) == 200);
     memset(block, 0, 8);
     block[0] = 0x10;
     block[4] = 200;

@@ -1,6 +1,6 @@
 #include "conform.h"
 
-static unsigned char point[5];
+static unsigned char point[5], palette[5], status;
 
 static unsigned char colour_at(int x, int y)
 {
@@ -20,11 +20,6 @@ static void plot(unsigned char code, int x, int y)
     *(int*)(codes + 4) = y;
     for (at = 0; at < 6; ++at)
         os(0xFFEE, codes[at], 0, 0);
-}
-static void codes(const char* those, unsigned char count)
-{
-    while (count--)
-        os(0xFFEE, *those++, 0, 0);
 }
 
 int main(void)
@@ -47,6 +42,40 @@ int main(void)
     codes("\x06", 1);
     osbyte(117, 0, 0);
     check("6: it is on", !(r.x & 0x80));
+    clrscr();
+    codes("\x0B\x0A\x09\x09\x08", 5);
+    check("8 to 11: the cursor moves, and 11 scrolls", wherex() == 1 && wherey() == 1);
+    codes("\x0D", 1);
+    check("13: the start of the line", wherex() == 0 && wherey() == 1);
+    codes("\x1F\x03\x04\x1E", 4);
+    check("30: home", wherex() == 0 && wherey() == 0);
+    codes("ab\x7F", 3);
+    osbyte(135, 0, 0);
+    check("127 deletes", wherex() == 1 && r.x == ' ');
+    codes("\x01" "a", 2);
+    check("1: the next one goes to no screen", wherex() == 1);
+    codes("\x1B\0", 2);
+    check("0 and 27 do nothing", wherex() == 1);
+    codes("\x02", 1);
+    osbyte(117, 0, 0);
+    status = r.x;
+    codes("\x03", 1);
+    check("2, OSBYTE 117: the printer is on", status & 1);
+    osbyte(117, 0, 0);
+    check("3: it is off", !(r.x & 1));
+    codes("\x0E", 1);
+    osbyte(117, 0, 0);
+    status = r.x;
+    codes("\x0F", 1);
+    check("14: paged mode", status & 4);
+    codes("\x1C\x02\x0A\x0A\x05", 5);
+    osbyte(160, 8, 0);
+    check("28, OSBYTE 160: the window's left and bottom", r.x == 2 && r.y == 10);
+    osbyte(117, 0, 0);
+    check("28, OSBYTE 117: it scrolls by software", r.x & 8);
+    codes("\x1A", 1);
+    osbyte(117, 0, 0);
+    check("26: no window", !(r.x & 8));
     codes("\x16\x05", 2);
     osbyte(135, 0, 0);
     check("22: mode 5", r.y == 5);
@@ -68,6 +97,31 @@ int main(void)
     check("outside of the screen", colour_at(2000, 100) == 255);
     codes("\x10", 1);
     check("16 clears", colour_at(760, 660) == 0);
+    codes("\x05", 1);
+    osbyte(117, 0, 0);
+    status = r.x;
+    codes("\x04", 1);
+    check("5: text at the graphics cursor", status & 0x20);
+    osbyte(117, 0, 0);
+    check("4: text at the text cursor", !(r.x & 0x20));
+    codes("\x18\0\0\0\0\x64\0\x64\0\x12\0\x81\x10\x1A", 14);
+    check("24, 16 and 26: the graphics window alone is cleared", colour_at(50, 50) == 1 && colour_at(300, 300) == 0);
+    codes("\x1D\x64\0\x64\0\x12\0\x03", 8);
+    plot(69, 100, 100);
+    check("29: the origin", colour_at(100, 100) == 3);
+    codes("\x1D\0\0\0\0", 5);
+    check("29: as it was", colour_at(200, 200) == 3);
+    plot(4, 400, 400);
+    plot(0, 20, 0);
+    plot(65, 8, 8);
+    check("25: points beside the last", colour_at(428, 408) == 3);
+    codes("\x13\x01\x06\0\0\0", 6);
+    palette[0] = 1;
+    osword(11, palette);
+    check("19, OSWORD 11: the palette", palette[1] == 6);
+    codes("\x14", 1);
+    osword(11, palette);
+    check("20: the first palette", palette[1] == 1);
     codes("\x16\x07", 2);
     ended("VDU");
     return 0;

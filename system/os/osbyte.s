@@ -256,9 +256,19 @@ osbyte_121:
         RTS
 osbyte_122:
         LDA #$10
+; SHIFT, CTRL and the links, below 10, give no interrupt: each is looked at.
 scan_from:
+        TAX
+@low:   CPX #$10
+        BCS @scan
+        JSR key_read
+        BMI @end
+        INX
+        BNE @low
+@scan:  TXA
         CLC
         JMP key_scan
+@end:   RTS
 
 osbyte_123:
         LDA #0
@@ -335,8 +345,8 @@ osbyte_129:
         LDX input_source
         JSR take_char
         BCC @got
-        LDA inkey
-        ORA inkey+1
+        LDA inkey+1             ; the high byte first: an interrupt between these may borrow from it
+        ORA inkey
         BNE @wait
         LDX #$FF
         LDY #$FF

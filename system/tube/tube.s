@@ -394,6 +394,7 @@ osword: JSR block_at
         JSR out
         TXA
         JSR out
+        TXA
         BPL @known
         LDY #1                  ; 80 and up: the block has both lengths
         LDA (blk),Y
@@ -410,12 +411,13 @@ osword: JSR block_at
 @lengths:
         TAY
         JSR out
-        BEQ :+
         TYA
+        BEQ :+
         JSR out_block
 :       TXA
         TAY
         JSR out
+        TYA
         BEQ :+
         JSR in_block
 :       PLA
@@ -638,9 +640,7 @@ r4:     LDA R4
         JSR in
         STA line,Y
         BNE :-
-        LDX #$FF
-        TXS
-        CLI
+        CLI                     ; BRKV has the stack as it is, as on the host
         JMP line
 transfer:
         PHX

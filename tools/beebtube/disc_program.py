@@ -1,14 +1,15 @@
 """A program with the ROMs of system/, which it calls: `execute --os`.
 
-The program is a file of a disc, and its input an *EXEC file. A language, examples/c/language.asm,
-runs it, and has what it writes in the printer's latch. All else is execution.py's.
+The program is a file of the disc in drive 1, and its input an *EXEC file there; drive 0 has the
+user's disc, or an empty one. A language, examples/c/language.asm, runs it, and has what it writes
+in the printer's latch. All else is execution.py's.
 """
 from __future__ import annotations
 
 import os
 from typing import Dict, List, Optional, Tuple
 
-from .disc import NewFile, empty_disc, with_file
+from .disc import Disc, NewFile, empty_disc, is_double, with_file
 from .execution import SOURCES, Image, Left, Runner
 from .faults import Fault
 from .files import IMAGE_CAP, read_file
@@ -34,10 +35,30 @@ class DiscImage(Image):
         super().__init__(name, data, machine, AT if at is None else at, start, cpu)
 
 
+def disc_of(name: Optional[str]) -> Disc:
+    """The disc of a file for drive 0; an empty one without a file. Fault if the file is none."""
+    if name is None or not os.path.exists(name):
+        return empty_disc(is_double(name or ""), 80, "")
+    disc = Disc.read(name)
+    try:
+        is_long = disc.catalogue().is_long
+    except Fault as fault:
+        raise Fault(f"{name} is no disc: {fault}")
+    if is_long:
+        raise Fault(f"{name} has a catalogue of Watford's DFS, which the disc filing system lacks")
+    return disc
+
+
 class DiscRunner(Runner):
     """Runs of such a program."""
 
     given: Optional[bytes] = None
+    drive0 = "drive0.ssd"
+
+    def insert(self, disc: Disc) -> None:
+        """The disc in drive 0, before `give`."""
+        self.drive0 = "drive0.dsd" if disc.double else "drive0.ssd"
+        self._put(self.drive0, disc.image)
 
     def _make_roms(self, arguments: List[bytes]) -> None:
         for option, name in read_set(OWN):
@@ -45,12 +66,15 @@ class DiscRunner(Runner):
             self._put(option[2:], data)
             if option not in ("--os", "--tube"):
                 self.more += [option, option[2:]]
-        self.more += ["--rom15", "rom15", "--disc0", "disc.ssd"]
+        self.more += ["--rom15", "rom15", "--disc1", "drive1.ssd"]
         text = b" ".join(arguments)
         if len(text) > MOST_TEXT or b"\r" in text:
             raise Fault("the arguments are no text of a command: it has at most "
                         f"{MOST_TEXT} bytes, and no carriage return")
-        self.command = b"RUN PROG " + text + b"\r"
+        self.command = b"RUN :1.PROG " + text + b"\r"
+
+    def _host_words(self) -> List[str]:
+        return super()._host_words() + ["--disc0", self.drive0]
 
     def give(self, given: Optional[bytes]) -> None:
         """The input for the runs to come; None where it is still to be read."""
@@ -64,11 +88,11 @@ class DiscRunner(Runner):
         before = b"\r"
         if given:
             disc = with_file(disc, NewFile("$", "INPUT", False, 0, 0, given.replace(b"\n", b"\r")))
-            before = b"EXEC INPUT\r"
+            before = b"EXEC :1.INPUT\r"
         for at, text in ((BEFORE, before), (COMMAND, self.command)):
             rom[at : at + len(text)] = text
         self._put("rom15", bytes(rom))
-        self._put("disc.ssd", disc.image)
+        self._put("drive1.ssd", disc.image)
 
     def _left(self, ticks: int) -> Left:
         left, card = super()._left(ticks), self.output("plug0")

@@ -10,7 +10,7 @@ import sys
 from typing import Callable, Dict, List, Optional, Tuple
 
 from .command import Reader, Usage, read_standard_input, tell
-from .disc_program import DiscImage, DiscRunner
+from .disc_program import DiscImage, DiscRunner, disc_of
 from .execution import CPUS, DECK, KEPT, NOT_RUN, SLOT, Executed, Image, Runner
 from .execution import images_of, labels_of, ticks_of
 from .faults import Fault, Refused
@@ -49,7 +49,7 @@ def _reader(doc: str) -> Reader:
     for option in FLAGS:
         reader.add_argument(option, action="store_true")
     for option in ("--both", "--keys", "--font", "--shots", "--labels", "--host-labels", "--save",
-                   "--trace", "--listing"):
+                   "--trace", "--listing", "--disc"):
         reader.add_argument(option)
     reader.add_argument("--cpu", type=str.lower, choices=[str(cpu) for cpu in CPUS])
     reader.add_argument("--speed", choices=("3", "4"), default="3")
@@ -60,7 +60,8 @@ def _reader(doc: str) -> Reader:
 
 # The files that are left.
 def _kept(given: argparse.Namespace) -> List[str]:
-    return [name for name in (given.save, given.trace, given.listing) if name is not None]
+    return [name for name in (given.save, given.trace, given.listing, given.disc)
+            if name is not None]
 
 
 # The words of the tool, and those of the program after its name.
@@ -75,6 +76,8 @@ def _parted(words: List[str]) -> Tuple[List[str], List[str]]:
 def _fault_of(given: argparse.Namespace) -> Optional[str]:
     if given.tube and not given.os:
         return "--tube goes with --os: without it the second processor runs the program"
+    if given.disc and not given.os:
+        return "--disc goes with --os, whose programs have files"
     if given.os:
         for name in ("host", "both", "time", "save", "trace", "listing", "host_at", "host_start",
                      "host_labels"):
@@ -173,8 +176,11 @@ def _execute(words: List[str]) -> int:
             raise Fault(f"{name} is read too, and is not overwritten")
     arguments = [os.fsencode(word) for word in rest]
     kind = DiscRunner if given.os else Runner
+    disc = disc_of(given.disc)
     runner = kind(Program(), images, arguments, speed, given.keys, given.font)
     try:
+        if isinstance(runner, DiscRunner):
+            runner.insert(disc)
         # (with --os keys of a script come in place of the input)
         at_hand = b"" if given.os and given.keys else _at_hand()
         runner.give(at_hand)
@@ -185,12 +191,15 @@ def _execute(words: List[str]) -> int:
         elif at_hand:
             # What the program did not take is there for others.
             os.lseek(0, runner.taken(left), os.SEEK_CUR)
+        image = runner.output("d0") if given.disc else b""
         done = Executed(runner, left, limit, names)
         _write(1, done.out)
         _write(2, done.err)
         if done.text:
             _tell(done.text)
         _leave(done, given, read)
+        if given.disc and (image != disc.image or not os.path.exists(given.disc)):
+            write_beside(given.disc, image, read)
     finally:
         runner.close()
     return done.status

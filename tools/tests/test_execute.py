@@ -8,6 +8,8 @@ import sys
 
 from common import EXAMPLES, TOP, Case, beebtube, call, put, text_of, unittest, wait_until
 
+from beebtube.disc import Disc
+
 BUILT = os.path.join(EXAMPLES, "c", "built")
 EXECUTE = os.path.join(TOP, "tools", "execute")
 
@@ -815,6 +817,43 @@ show:   byte 68, 85, 77, 80, 32, 70, 13
         self.assertIn("is no program of a disc", self.tool("execute", "--os",
             os.path.join(BUILT, "three"), status=125).err)
         self.assertEqual(self.names(), before)
+
+    def test_the_disc(self):
+        """--disc: what a program leaves on it, beside what was there, whatever its end is."""
+        save = """LDA #88\nJSR &FFEE\nLDX #<text\nLDY #>text\nJSR &FFF7\nLDA #1\nLDX #3\nJSR &FFF4\n%s
+        org &2040\ntext: byte 83, 65, 86, 69, 32, 77, 65, 68, 69, 32, 50, 48, 48, 48, 32, 43, 54, 13
+"""  # SAVE MADE 2000 +6
+        put(self.at("old"), b"before")
+        self.tool("catalogue", "--make", "some.ssd", "old")
+        for name, more, end, status in (("some.ssd", (), "RTS\n", 3), ("new.ssd", ("--tube",),
+                "BRK\n", 134), ("new.dsd", (), "here: JMP here\n", 124)):
+            self.asm("prog", "org &2000\n" + save % end)
+            self.tool("execute", "--os", *more, "--disc", name, "--limit", "8", "--at", "2000",
+                "prog", status=status)
+            disc = Disc.read(self.at(name))
+            files = {file.name: disc.catalogue().bytes_of(file) for file in disc.catalogue().files}
+            wanted = {"MADE": text_of(self.at("prog"))[:6]}
+            if name == "some.ssd":
+                wanted["old"] = b"before"
+            self.assertEqual((files, disc.double), (wanted, name == "new.dsd"))
+
+    def test_a_disc_that_is_none(self):
+        """A file that is no disc, or a program's, stays as it is; so does a disc that is read."""
+        self.asm("prog", "org &2000\nRTS\n")
+        put(self.at("text"), b"no disc, but a text that is longer than the header of one" * 20)
+        for name, told in (("text", "text is no disc"), ("prog", "is read too"),
+                ("away/x.ssd", "it is in no folder"), (".", "it is a folder")):
+            before = self.names()
+            self.assertIn(told, self.tool("execute", "--os", "--disc", name, "--at", "2000", "prog",
+                status=125).err)
+            self.assertEqual(self.names(), before)
+        self.assertIn("--disc goes with --os", self.tool("execute", "--disc", "x", "--at", "2000",
+            "prog", status=125).err)
+        put(self.at("old"), b"before")
+        self.tool("catalogue", "--make", "some.ssd", "old")
+        found = os.stat(self.at("some.ssd")).st_mtime_ns
+        self.tool("execute", "--os", "--disc", "some.ssd", "--at", "2000", "prog", status=0)
+        self.assertEqual(os.stat(self.at("some.ssd")).st_mtime_ns, found)
 
     @unittest.skipUnless(shutil.which("cc65"), "cc65 is not there")
     def test_a_program_in_c(self):

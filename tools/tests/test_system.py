@@ -315,6 +315,29 @@ class Calls(unittest.TestCase):
         self.assertEqual(self.x_of(byte(129, 0xBE, 255), byte(121, 0xC1), byte(122),
             byte(129, 0, 255), keys=held, seconds=1.5), [255, 0xC1, 0x41, 255])
 
+    def test_a_time_that_is_counted_while_it_is_looked_at(self):
+        # OSBYTE 129 with 257 hundredths of a second, while a key comes each 8: none times out.
+        source = """
+        LDA #0
+        STA &2080
+        STA &70
+next:   LDX &70
+delay:  DEX
+        BNE delay
+        LDA #129
+        LDX #1
+        LDY #1
+        JSR &FFF4
+        BCC came
+        INC &2080
+came:   INC &70
+        LDA &70
+        CMP #100
+        BNE next
+"""
+        run = started(10, beebtube.pressed((SECOND, "A", 9 * SECOND)), rom(b"", source))
+        self.assertEqual((run.host[0x2000], run.host[0x2080]), (0x5A, 0))
+
     def test_a_held_key_repeats(self):
         # The first after 50 hundredths of a second, the others after 8 each: 1 + 1 + 6 in a second.
         run = started(3.5, beebtube.pressed((2 * SECOND, "A", int(1.0 * SECOND))))

@@ -150,6 +150,39 @@ class OnBoth(unittest.TestCase):
         self.assertEqual(theirs[0x200 + 16 * 4 + 4], 5)
         self.assertEqual(self.runs[1].host[0x7B70], 0x41)
 
+    def test_osword_with_lengths_of_its_own(self):
+        """From 80 on the block's first bytes have how many go over and come back."""
+        serve = beebtube.asm("6502", b"""
+        org &8000
+        byte 0, 0, 0
+        JMP serve
+        byte &82, &0C, 1, 70, 0, 0
+        org &800C
+        byte 0, 40, 67, 41, 0
+serve:  CMP #8
+        BNE no
+        LDA &EF
+        CMP #&90
+        BNE back
+        LDY #15
+turn:   LDA (&F0),Y
+        EOR #&FF
+        STA (&F0),Y
+        DEY
+        CPY #2
+        BCS turn
+        LDA #0
+        RTS
+back:   LDA #8
+no:     RTS
+""")
+        source = poke(0x2200, [5, 7, 1, 2, 3] + [9] * 11) + \
+            "        LDA #&90\n        LDX #<&2200\n        LDY #>&2200\n        JMP &FFF1\n"
+        run = started(2.5, SHIFT, rom15=serve.ljust(8192, b"\xff"), disc0=disc_of(new("P",
+            program(source), AT, AT), new(BOOT, b"*P\r"), option=EXEC))
+        found = run.para[0x2200:0x2210]
+        self.assertEqual((found[:5], found[7:]), (bytes([5, 7, 254, 253, 252]), b"\t" * 9))
+
     def test_a_line_and_keys(self):
         line = poke(0x2200, word(0x2300) + bytes([5, 32, 126]))
         ask = "        LDX #<&2200\n        LDY #>&2200\n        LDA #0\n        JSR &FFF1\n" + \
