@@ -27,7 +27,7 @@ _65C02 = {
     0x9C: "STZ &{2}", 0x9E: "STZ &{2},X", 0xB2: "LDA (&{1})", 0xD2: "CMP (&{1})", 0xDA: "PHX",
     0xF2: "SBC (&{1})", 0xFA: "PLX",
 }
-# For each opcode of each part its form, with {1} a byte after it, {2} two, and {r} where a branch goes.
+# For each opcode of each part: its form, with {1} a byte after it, {2} two, and {r} where a branch goes.
 _FORMS = _6502.replace("\n", "|").split("|")
-INSTRUCTIONS = {part: [more.get(code) or form or "byte &%02X" % code for code, form in enumerate(_FORMS)]
-                for part, more in (("6502", {}), ("65c02", _65C02))}
+_NMOS = [form or "byte &%02X" % code for code, form in enumerate(_FORMS)]
+INSTRUCTIONS = {"6502": _NMOS, "65c02": [_65C02.get(code, form) for code, form in enumerate(_NMOS)]}

@@ -1,8 +1,7 @@
-"""The tool `tools/suite`: what it is asked for, a suite that runs, and the jobs that other engines run."""
+"""The tool `tools/suite`: what it is asked for, and a suite that runs."""
 from __future__ import annotations
 
 import argparse
-import json
 import os
 import shlex
 import sys
@@ -10,27 +9,19 @@ import tempfile
 import time
 from typing import TYPE_CHECKING, Callable, Dict, List, Optional, Sequence, Set, Tuple
 
-from .collection import Entry, Order, Plan, Sums, listing_of, name_fault, order_of, packed, plan_of, program_sum, unpacked, words_for_job
-from .command import Reader, Usage, seconds
+from .collection import Entry, Order, Plan, Sums, listing_of, order_of, plan_of, program_sum
+from .command import Usage
 from .disc import note_of
 from .faults import Fault, NoRoom
 from .files import clear_left, is_plain, own_folder, same_file, write_beside
-from .program import Version, know, version
+from .jobs import job_of
+from .reading import Reader, seconds, whole_number
 from .results import PAGES, Fixed, Result, Store, Wanted, carry_out
 from .table import GOOD, STATES, Row, Stored, gone_row, read_table, row_of, shown_line, table_text
 from .words import MOST_TICKS, number_of, shown, told
 
 if TYPE_CHECKING:
     from .workers import Forecast
-
-
-def whole_number(least: int, most: int) -> Callable[[str], int]:
-    def of(word: str) -> int:
-        number = number_of(word)
-        if number is None or not least <= number <= most:
-            raise argparse.ArgumentTypeError("%s: it is a whole number from %d to %s" % (shown(word), least, "{:,}".format(most)))
-        return number
-    return of
 
 
 def states(word: str) -> List[str]:
@@ -60,11 +51,6 @@ def reader_of() -> Reader:
     reader.add_argument("--tap", metavar="FILE")
     reader.add_argument("--pages", choices=PAGES, default="plain")
     reader.add_argument("-j", type=whole_number(1, 999), default=len(os.sched_getaffinity(0)))
-    # A job of its own, which `--jobs` prints.
-    reader.add_argument("--one", metavar="RESULTS")
-    reader.add_argument("--key")
-    reader.add_argument("--name")
-    reader.add_argument("--program")
     reader.add_argument("rest", nargs="*")
     return reader
 
@@ -74,10 +60,7 @@ def asked_of(words: List[str]) -> argparse.Namespace:
     at = words.index("--") if "--" in words else len(words)
     asked = reader_of().parse_args(words[:at])
     asked.words = words[at + 1 :]
-    if asked.one is not None:
-        if asked.rest or asked.key is None or asked.name is None or asked.jobs or asked.gather or asked.clear:
-            raise Usage("a job has --one, --key, --name and the arguments of its run")
-    elif len(asked.rest) != 2:
+    if len(asked.rest) != 2:
         raise Usage("it needs a list and the folder of results; arguments of ./beebtube follow --")
     return asked
 
@@ -348,77 +331,8 @@ def jobs(asked: argparse.Namespace) -> int:
             begun.add(plan.key)
             found.append((plan.key, entry))
     for at in range(0, len(found), asked.batch):
-        print(shlex.join(job_of(found[at : at + asked.batch], asked)))
+        print(shlex.join(job_of(found[at : at + asked.batch], asked.rest[1], suite.wanted, asked.shot)))
     return status
-
-
-NEXT = "++"  # stands between the runs of a command
-
-
-# The command of runs: what it needs is named by whole paths. It is one line, in which no shell finds more than words.
-def job_of(runs: Sequence[Tuple[str, Entry]], asked: argparse.Namespace) -> List[str]:
-    here = os.path.realpath(sys.argv[0])
-    if not here.isprintable():
-        raise Fault("%s: the path of the clone has a letter that cannot be shown" % shown(here))
-    (key, entry), *others = runs
-    words = [here, "--one=" + packed(os.path.abspath(asked.rest[1])), "--key=" + key, "--name=" + packed(entry.name)]
-    if asked.keep is not None:
-        words.append("--keep=" + packed(os.path.abspath(asked.keep)))
-    words += ["--pages=" + asked.pages] + ["--shot"] * asked.shot
-    if not os.environ.get("BEEBTUBE"):
-        words.append("--program=" + packed(json.dumps(version())))
-    words += ["--"] + words_for_job(entry.order)
-    for key, entry in others:
-        words += [NEXT, key, packed(entry.name)] + words_for_job(entry.order)
-    return words
-
-
-def one(asked: argparse.Namespace) -> int:
-    runs = [[asked.key, asked.name]]
-    for word in asked.words:
-        if word == NEXT:
-            runs.append([])
-        else:
-            runs[-1].append(unpacked(word) if len(runs[-1]) > 1 else word)
-    store, keep = Store(unpacked(asked.one)), unpacked(asked.keep) if asked.keep is not None else None
-    if asked.program is not None:
-        know_program(unpacked(asked.program))
-    program, status = Fixed(), 0
-    store.make()
-    clear_left(tempfile.gettempdir())
-    for key, name, *words in runs:
-        try:
-            row = carry_out_one(key, unpacked(name), words, (program, store, Wanted(asked.pages, keep)), asked.shot)
-            print(row.line(), flush=True)
-            status = max(status, int(not row.cells["status"] or row.state == "done" and not row.is_good))
-        except Fault as fault:
-            if isinstance(fault, NoRoom) or len(runs) == 1:
-                raise
-            print("suite: %s: %s" % (told(unpacked(name)), shown_line(str(fault))), file=sys.stderr)
-            status = 1
-    return status
-
-
-# Takes what the launcher told when the job was made. `Fixed` looks at the program's own sum.
-def know_program(text: str) -> None:
-    try:
-        sources, kits, path, own = json.loads(text)
-    except (TypeError, ValueError):
-        raise Fault("%s is no program of a job" % shown(text)) from None
-    if isinstance(path, str) and os.path.exists(path):
-        know(Version(sources, kits, path, own))
-
-
-def carry_out_one(key: str, name: str, words: Sequence[str], where: Tuple[Fixed, Store, Wanted], shot: bool) -> Row:
-    program, store, wanted = where
-    entry = Entry(name, order_of(words, ""), name_fault(name))
-    plan = plan_of(entry, program.sum, shot, Sums())
-    if plan.key != key:
-        raise Fault("%s: the program, or a file that it reads, differs from the one for which the job was made" % told(name))
-    result, note = store.load(plan.key), ""
-    if result is None or not store.has(result, name, wanted):
-        result, note = carry_out(plan, name, program, store, wanted)
-    return row_of(entry, result, note, None)
 
 
 def gather(asked: argparse.Namespace) -> int:
@@ -445,6 +359,6 @@ def clear(asked: argparse.Namespace) -> int:
 def suite(words: List[str]) -> int:
     """The tool."""
     asked = asked_of(words)
-    how = one if asked.one is not None else jobs if asked.jobs else gather if asked.gather else clear if asked.clear else run
+    how = jobs if asked.jobs else gather if asked.gather else clear if asked.clear else run
     return how(asked)
 
