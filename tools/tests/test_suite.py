@@ -392,7 +392,7 @@ class Running(Suite):
     def test_words_that_are_wrong(self):
         self.discs("a.ssd")
         for words in ((), ("discs",), ("discs", "results", "more"), ("-j", "0", "discs", "results"), ("-j", "x", "discs", "results"), ("--ticks", "x", "discs", "results"), ("--pages", "all", "discs", "results"),
-                      ("--jobs", "--gather", "discs", "results"), ("--one", "results"), ("--nothing", "discs", "results")):
+                      ("--jobs", "--gather", "discs", "results"), ("--one", "results"), ("--one=results",), ("--nothing", "discs", "results")):
             self.tool("suite", *words, status=2)
         for words in (("check",), ("gen", "1"), ("runs",), ("--os",), ("--os", "os", "--os", "tube")):
             self.tool("suite", "discs", "results", "--", *words, status=1)
@@ -963,6 +963,14 @@ class Elsewhere(Suite):
         page, other = (re.sub("[0-9.]+ s of a processor", "", self.page(folder + "/index.html")) for folder in ("results", "alone"))
         self.assertEqual(page, other)
         self.assertEqual(sorted(os.listdir(self.at("results/runs"))), sorted(os.listdir(self.at("alone/runs"))))
+
+    def test_a_job_loads_what_it_needs_alone(self):
+        self.discs("a.ssd")
+        done = call(["python3", "-X", "importtime", *shlex.split(self.jobs()[0])], "/")
+        self.assertEqual((done.status, done.out), (0, "done a.ssd\n"))
+        loaded = {line.rpartition("|")[2].strip() for line in done.err.splitlines() if line.startswith("import time:")}
+        self.assertIn("beebtube.jobs", loaded)
+        self.assertEqual(loaded & {"argparse", "ast", "beebtube.suite", "difflib", "zipfile"}, set())
 
     def test_several_runs_in_a_job(self):
         self.discs("a.ssd", "++.ssd", "c.ssd", "d.ssd", "e.ssd")
