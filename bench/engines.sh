@@ -87,6 +87,7 @@ sum_of() { # RESULTS COLUMN
 print("%.2f" % sum(float(row[sys.argv[2]] or 0) for row in csv.DictReader(open(sys.argv[1] + "/results.csv"))))' "$1" "$2"
 }
 added() { awk '{ for (at = 1; at <= NF; at++) all += $at } END { printf "%.2f", all }' "$@"; }
+jobs_took() { cat "times.$1"/* | cut -d' ' -f1,2 | added; } # ENGINE
 # The CPU seconds that processes took, and their children that have ended.
 taken() { # PID ..
     local pid
@@ -101,17 +102,23 @@ tell() { # ENGINE RUNS JOBS ENGINE-SECONDS CLOCK
     }'
 }
 
+# The most memory that a process had, of lines with the processor's seconds before it; and the disk that a folder of results takes.
+room() { # RESULTS FILE ..
+    echo "$1: a process had at most $(cat "${@:2}" | cut -d' ' -f3 | sort -n | tail -n 1) kB of memory; the results have $(du -sk "$1" | cut -f1) kB on the disk"
+}
+
 TIMEFORMAT='%U %S %R'
 echo "$(nproc) processors; $((runs + 2)) runs of $ticks ticks and more"
-{ time "$top/tools/suite" "${more[@]}" "$list" alone -- "${words[@]}" >said || true; } 2>times
+/usr/bin/time -q -f '%U %S %M %e' -o times "$top/tools/suite" "${more[@]}" "$list" alone -- "${words[@]}" >said || true
 tail -n 2 said
-tell 'tools/suite alone' "$(sum_of alone processor)" "$(cut -d' ' -f1,2 times | added)" 0 "$(cut -d' ' -f3 times)"
+room alone times
+tell 'tools/suite alone' "$(sum_of alone processor)" "$(cut -d' ' -f1,2 times | added)" 0 "$(cut -d' ' -f4 times)"
 
 # Each job as a command that leaves its CPU seconds in a file of its own, too.
 make_jobs() { # ENGINE
     mkdir "times.$1"
     "$top/tools/suite" --jobs --batch "$batch" "${more[@]}" "$list" "$1" -- "${words[@]}" >"plain.$1"
-    awk -v times="$work/times.$1" '{ printf "/usr/bin/time -f \"%%U %%S\" -o %s/%d %s\n", times, NR, $0 }' "plain.$1" >"jobs.$1"
+    awk -v times="$work/times.$1" '{ printf "/usr/bin/time -f \"%%U %%S %%M\" -o %s/%d %s\n", times, NR, $0 }' "plain.$1" >"jobs.$1"
 }
 
 heard() { # FILE
@@ -121,6 +128,7 @@ heard() { # FILE
 gather() { # ENGINE
     "$top/tools/suite" --gather "${more[@]}" "$list" "$1" -- "${words[@]}" >gathered || true
     tail -n 1 gathered
+    room "$1" "times.$1"/*
     if diff <(bare alone) <(bare "$1") >differs; then
         echo "$1: the table is that of tools/suite alone"
     else
@@ -157,6 +165,7 @@ StrictModes no
 UsePAM no
 PasswordAuthentication no
 PermitRootLogin yes
+SetEnv HOME=$work
 CONF
     cat >ssh.conf <<CONF
 Host first second
@@ -179,8 +188,8 @@ CONF
     echo "parallel: jobs by machine: $(sed 1d joblog | cut -f2 | sort | uniq -c | awk '{ printf "%s%s %d", (NR == 1 ? "" : ", "), $2, $1 }')"
     gather parallel
     # What sshd took has its sessions, and with them the jobs.
-    tell parallel "$(sum_of parallel processor)" "$(added times.parallel/*)" \
-        "$({ tail -n 1 times | cut -d' ' -f1,2; taken "${started[@]}"; } | awk -v jobs="$(added times.parallel/*)" '{ all += $1 + $2 } END { print all - jobs }')" \
+    tell parallel "$(sum_of parallel processor)" "$(jobs_took parallel)" \
+        "$({ tail -n 1 times | cut -d' ' -f1,2; taken "${started[@]}"; } | awk -v jobs="$(jobs_took parallel)" '{ all += $1 + $2 } END { print all - jobs }')" \
         "$(tail -n 1 times | cut -d' ' -f3)"
     end
 }
@@ -240,7 +249,7 @@ CONF
     heard said
     echo "slurm: tasks by node: $(cat node.? | sort | uniq -c | awk '{ printf "%s%s %d", (NR == 1 ? "" : ", "), $2, $1 }')"
     gather slurm
-    tell slurm "$(sum_of slurm processor)" "$(added times.slurm/*)" "$({ tail -n 1 times | cut -d' ' -f1,2; taken "${started[@]}"; } | added)" "$(tail -n 1 times | cut -d' ' -f3)"
+    tell slurm "$(sum_of slurm processor)" "$(jobs_took slurm)" "$({ tail -n 1 times | cut -d' ' -f1,2; taken "${started[@]}"; } | added)" "$(tail -n 1 times | cut -d' ' -f3)"
     end
 }
 
@@ -252,8 +261,8 @@ by_snakemake() {
     { time HOME=$work snakemake --snakefile "$top/examples/Snakefile" --config jobs=jobs.snakemake --cores "$(nproc)" --keep-going --quiet >said 2>&1 || true; } 2>times
     heard said
     gather snakemake
-    tell snakemake "$(sum_of snakemake processor)" "$(added times.snakemake/*)" \
-        "$(tail -n 1 times | awk -v jobs="$(added times.snakemake/*)" '{ print $1 + $2 - jobs }')" "$(tail -n 1 times | cut -d' ' -f3)"
+    tell snakemake "$(sum_of snakemake processor)" "$(jobs_took snakemake)" \
+        "$(tail -n 1 times | awk -v jobs="$(jobs_took snakemake)" '{ print $1 + $2 - jobs }')" "$(tail -n 1 times | cut -d' ' -f3)"
 }
 
 for engine; do

@@ -1,5 +1,6 @@
 """What each tool does before it imports the package: a Python that is too old is reported, and
 Ctrl-C ends the tool without a traceback while it loads. (Older Pythons can read this file.)"""
+import gc
 import signal
 import sys
 
@@ -10,3 +11,4 @@ if sys.version_info < (3, 9):
     sys.exit(125 if name == "execute" else 1)
 if signal.getsignal(signal.SIGINT) is signal.default_int_handler:
     signal.signal(signal.SIGINT, signal.SIG_DFL)  # `main` sets the handler again
+gc.disable()  # what is loaded is no garbage; `main` enables it again

@@ -11,14 +11,13 @@ A tool is `main(function, __doc__)`, where the function takes the words and may 
 """
 from __future__ import annotations
 
-import argparse
-import ast
 import errno
+import gc
 import io
 import os
 import signal
 import sys
-from typing import Callable, IO, List, NoReturn, Optional, Sequence
+from typing import Callable, List, NoReturn, Optional, Sequence
 
 from .faults import Fault
 from .files import STOPS
@@ -28,47 +27,9 @@ class Usage(Fault):
     """The tool's words are wrong: its help follows the text."""
 
 
-class Reader(argparse.ArgumentParser):
-    """A reader of a tool's words, whose help is the tool's own text."""
-
-    def __init__(self, doc: str):
-        super().__init__(description=doc, formatter_class=argparse.RawDescriptionHelpFormatter, usage=argparse.SUPPRESS,
-                         prog=tool_name(), allow_abbrev=False)
-
-    def error(self, message: str) -> NoReturn:
-        raise Usage(message)
-
-    def parse_known_args(self, args=None, namespace=None):  # type: ignore[no-untyped-def]
-        for word in args or ():
-            name = word.split("=")[0]
-            if word == "--":
-                break
-            if word[:1] == "-" and word[1:2].isalpha() and name not in self._option_string_actions and name[:2] not in self._option_string_actions:
-                raise Usage("%s: no such option; a name that begins with `-` is written ./%s" % (word[:60], word[:60]))
-        return super().parse_known_args(args, namespace)
-
-    def _print_message(self, message: str, file: Optional[IO[str]] = None) -> None:
-        # argparse passes over a help that cannot be written.
-        print(message, end="", file=file or sys.stdout, flush=True)
-
-    def format_help(self) -> str:
-        return (self.description or "").strip() + "\n"
-
-
 def tool_name() -> str:
     """The name by which the tool was called."""
     return os.path.basename(sys.argv[0]) or "beebtube"
-
-
-def seconds(word: str) -> float:
-    """A time in seconds, from 0 up to an hour; argparse's error for any other word."""
-    try:
-        value = float(word)
-    except ValueError:
-        value = -1.0
-    if not 0 <= value <= 3600:
-        raise argparse.ArgumentTypeError("%s: a time is a number of seconds from 0 to 3,600" % word)
-    return value
 
 
 # The first signal ends a tool, which then clears away what it made for itself; later ones are not heard.
@@ -134,12 +95,16 @@ def _doc_of_tool() -> str:
     file = getattr(sys.modules["__main__"], "__file__", None)
     if not file:
         return ""
+    import ast  # it takes a while to load
     with open(file, encoding="utf-8") as source:
         return ast.get_docstring(ast.parse(source.read()), clean=False) or ""
 
 
 def main(function: Callable[[List[str]], Optional[int]], doc: Optional[str], words: Optional[Sequence[str]] = None) -> NoReturn:
     """Calls a tool with its words, and ends as the table above says; `--help` as the first word prints `doc`."""
+    # The collector looks at nothing that was loaded, at the end neither: that takes an eighth of a short call.
+    gc.freeze()
+    gc.enable()
     for number in (signal.SIGTERM, signal.SIGHUP):
         if signal.getsignal(number) is not signal.SIG_IGN:
             signal.signal(number, _stop)

@@ -8,7 +8,7 @@ from __future__ import annotations
 import json
 import os
 import time
-from typing import Any, Dict, List
+from typing import Any, Dict, List, Optional
 from urllib.parse import quote
 
 from .faults import Fault
@@ -23,6 +23,8 @@ CRATE = "https://w3id.org/ro/crate/1.1"
 CONTEXT = [CRATE + "/context", {"sha256": "https://schema.org/sha256"}]
 FORMATS = {".png": "image/png", ".wav": "audio/wav", ".ppm": "image/x-portable-pixmap",
            ".report": "text/plain", ".trace": "text/plain", ".manifest": "text/plain"}
+# What stands for the license, which each crate has to have.
+NO_LICENSE = "Not stated: discs and ROM images may have owners. Ask whoever made this crate."
 ENDS = "http://schema.org/%sActionStatus"
 Entity = Dict[str, Any]
 
@@ -106,8 +108,8 @@ class Crate:
             "@id": "#beebtube-" + _quoted((known or ["unknown"])[0].replace(" ", "-")),
             "@type": "SoftwareApplication", "name": "beebtube", "identifier": known})
 
-    def text(self) -> str:
-        """The metadata."""
+    def text(self, license_: Optional[str]) -> str:
+        """The metadata. The license is a URL or a text; None if nobody has stated one."""
         version = read_text(os.path.join(TOP, "VERSION")).strip()
         names = sorted(self.files)
         root: Entity = {
@@ -116,9 +118,15 @@ class Crate:
             "description": f"Runs of beebtube, an emulator of the BBC Micro: {len(self.runs)}",
             "datePublished": _today(), "hasPart": _reference(*(self.files[name] for name in names)),
             "mentions": _reference(*self.runs)}
+        root["license"] = license_ or NO_LICENSE
+        others = list(self.others.values())
+        if license_ and "://" in license_:
+            others.append({"@id": license_, "@type": "CreativeWork", "name": license_,
+                           "description": "The license of this crate"})
+            root["license"] = _reference(others[-1])
         about: Entity = {
             "@id": METADATA, "@type": "CreativeWork", "about": {"@id": "./"},
             "conformsTo": {"@id": CRATE},
             "description": f"Written by beebtube {version}"}
-        graph = [about, root, *self.runs, *(self.files[name] for name in names), *self.others.values()]
+        graph = [about, root, *self.runs, *(self.files[name] for name in names), *others]
         return json.dumps({"@context": CONTEXT, "@graph": graph}, indent=1, ensure_ascii=False) + "\n"

@@ -9,7 +9,7 @@ import stat
 import sys
 from typing import Callable, Dict, List, Optional, Tuple
 
-from .command import Reader, Usage, read_standard_input, tell
+from .command import Usage, read_standard_input, tell
 from .disc_program import DiscImage, DiscRunner, disc_of
 from .execution import CPUS, DECK, KEPT, NOT_RUN, SLOT, Executed, Image, Runner
 from .execution import images_of, labels_of, ticks_of
@@ -18,6 +18,7 @@ from .files import same_file, write_beside
 from .frame import look_at_place
 from .labels import Labels
 from .program import Program, Side, Speed
+from .reading import Reader
 from .words import ADDRESS
 
 FLAGS = ("--host", "--time", "--os", "--tube")

@@ -6,13 +6,14 @@ import contextlib
 import sys
 from typing import Iterator, List
 
-from .command import Reader, Usage
+from .command import Usage
 from .counting import Counting
 from .cover import Cover
 from .files import write_beside
 from .past import Past
 from .profile import Profile, read_rows, slower, table
 from .program import Program
+from .reading import Reader
 from .sources import Sources
 
 DIFFERS = 8

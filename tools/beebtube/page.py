@@ -17,7 +17,7 @@ from .disc import LARGEST, Disc
 from .faults import Fault
 from .files import IMAGE_CAP, TRACE_CAP, Sum, read_file, sum_of
 from .frame import Frame
-from .instructions import instructions
+from .instructions import INSTRUCTIONS
 from .manifest import Manifest
 from .markup import asset, element, grouped, shown, small, table
 from .page_discs import side_of
@@ -243,7 +243,7 @@ class Page:
             self.add("memories", "Memories", "<p>The run wrote no memory.</p>")
             return
         self.data["memories"] = memories
-        self.data["instructions"] = instructions()
+        self.data["instructions"] = INSTRUCTIONS
         options = "".join(element("option", memory["name"], value=str(at)) for at, memory in enumerate(memories))
         self.add("memories", "Memories", element("ul", "\n".join(parts)), _VIEW % options)
 

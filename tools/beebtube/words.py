@@ -4,7 +4,6 @@ The table is that of docs/COMMANDS.md; docs/options.py compares it with the prog
 """
 from __future__ import annotations
 
-import difflib
 import re
 from typing import Dict, List, NamedTuple, Optional, Tuple
 
@@ -110,6 +109,7 @@ def _code_of(letter: str) -> str:
 
 
 def _near(word: str, known: List[str]) -> str:
+    import difflib  # it takes a while to load
     found = difflib.get_close_matches(word, known, 1, 0.5)
     return ", %s?" % found[0] if found else ""
 

@@ -203,12 +203,13 @@ class Page(Case):
         forms = self.data(self.page())["instructions"]
         dice = random.Random(3)
         for part in ("6502", "65c02"):
-            for _ in range(40):
-                image = bytes(dice.randrange(256) for _ in range(3)) + b"\xea\xea"
-                form = forms[part][image[0]]
-                target = 0x4000 + 2 + (image[1] ^ 128) - 128
-                text = form.replace("{1}", "%02X" % image[1]).replace("{2}", "%02X%02X" % (image[2], image[1])).replace("{r}", "%04X" % target)
-                self.assertEqual(beebtube.dis(part, image, 0x4000).splitlines()[1], text)
+            image, lines = b"", []
+            for code in dice.sample(range(256), 256):
+                form, first, second = forms[part][code], dice.randrange(256), dice.randrange(256)
+                target = 0x4000 + len(image) + 2 + (first ^ 128) - 128
+                lines.append(form.replace("{1}", "%02X" % first).replace("{2}", "%02X%02X" % (second, first)).replace("{r}", "%04X" % target))
+                image += bytes([code, first, second][: 3 if "{2}" in form else 2 if "{" in form else 1])
+            self.assertEqual(beebtube.dis(part, image, 0x4000).splitlines()[1:], lines)
 
     def test_names_and_contents_are_data(self):
         bad = "<img src=x onerror=alert(1)>\u202e"

@@ -392,7 +392,7 @@ class Running(Suite):
     def test_words_that_are_wrong(self):
         self.discs("a.ssd")
         for words in ((), ("discs",), ("discs", "results", "more"), ("-j", "0", "discs", "results"), ("-j", "x", "discs", "results"), ("--ticks", "x", "discs", "results"), ("--pages", "all", "discs", "results"),
-                      ("--jobs", "--gather", "discs", "results"), ("--one", "results"), ("--nothing", "discs", "results")):
+                      ("--jobs", "--gather", "discs", "results"), ("--one", "results"), ("--one=results",), ("--nothing", "discs", "results")):
             self.tool("suite", *words, status=2)
         for words in (("check",), ("gen", "1"), ("runs",), ("--os",), ("--os", "os", "--os", "tube")):
             self.tool("suite", "discs", "results", "--", *words, status=1)
@@ -835,19 +835,46 @@ class Reports(Suite):
 
 
 class Crates(Suite):
+    # The terms of the context of RO-Crate 1.1 (schema.org's) that a crate of runs has.
+    TERMS = {"about", "actionStatus", "conformsTo", "contentSize", "datePublished", "description", "encodingFormat", "error", "hasPart",
+             "identifier", "instrument", "license", "mentions", "name", "object", "result"}
+    TYPES = {"CreateAction", "CreativeWork", "Dataset", "File", "SoftwareApplication"}
+
     def crate(self, folder):
-        """The entities of a folder's metadata, by their ids; each reference has one."""
+        """The entities of a folder's metadata, by their ids, once each rule that RO-Crate 1.1 states with MUST is looked at."""
         text = json.loads(text_of(self.at(folder + "/ro-crate-metadata.json")).decode())
+        # Flattened and compacted JSON-LD: a context and one list of entities, each with an id of its own and a type.
+        self.assertEqual(set(text), {"@context", "@graph"})
+        context, own = text["@context"]
+        self.assertEqual(context, "https://w3id.org/ro/crate/1.1/context")
         graph = text["@graph"]
         found = {entity["@id"]: entity for entity in graph}
         self.assertEqual(len(found), len(graph))
-        self.assertEqual(text["@context"][0], "https://w3id.org/ro/crate/1.1/context")
-        self.assertEqual((found["ro-crate-metadata.json"]["about"], found["ro-crate-metadata.json"]["conformsTo"]),
-                         ({"@id": "./"}, {"@id": "https://w3id.org/ro/crate/1.1"}))
         for entity in graph:
-            for name, value in entity.items():
-                for it in value if isinstance(value, list) and name != "identifier" else ():
-                    self.assertIn(it["@id"], found)
+            self.assertIn(entity["@type"], self.TYPES)
+            self.assertIsNone(re.search("[^!#-;=?-Z_a-z~\\[\\]]|%(?![0-9A-F]{2})", entity["@id"]), entity["@id"])
+            for name in set(entity) - {"@id", "@type"}:
+                self.assertIn(name, self.TERMS | set(own))
+                for it in entity[name] if isinstance(entity[name], list) else [entity[name]]:
+                    # A text, or a reference to an entity of the list, or to the standard itself; no entity is inside of another.
+                    if not isinstance(it, str):
+                        self.assertEqual(list(it), ["@id"])
+                        self.assertIn(it["@id"], {*found, "https://w3id.org/ro/crate/1.1"})
+        # The descriptor: its id and type, what it is about, and to what it conforms.
+        about = found["ro-crate-metadata.json"]
+        self.assertEqual((about["@type"], about["about"], about["conformsTo"]), ("CreativeWork", {"@id": "./"}, {"@id": "https://w3id.org/ro/crate/1.1"}))
+        # The root: its id ends with a slash, and it has a name, a description, a date of ISO 8601 and a license.
+        root = found["./"]
+        self.assertEqual(root["@type"], "Dataset")
+        self.assertTrue(all(root[name] for name in ("name", "description", "license")))
+        self.assertRegex(root["datePublished"], "^[0-9]{4}-[0-9]{2}-[0-9]{2}$")
+        # Each data entity is a part of the root and no other entity is, and its file is there, by a path from the root.
+        parts = [it["@id"] for it in root["hasPart"]]
+        self.assertEqual(sorted(parts), sorted(entity["@id"] for entity in graph if entity["@type"] == "File"))
+        for part in parts:
+            name = urllib.parse.unquote_to_bytes(part)
+            self.assertFalse(name.startswith(b"/") or b".." in name.split(b"/") or ":" in part.split("/")[0], part)
+            self.assertTrue(os.path.isfile(os.path.join(os.fsencode(self.at(folder)), name)))
         return found
 
     def test_each_file_of_a_suite_with_its_checksum(self):
@@ -875,8 +902,15 @@ class Crates(Suite):
         self.assertIn({"@id": "one.ssd/out.report"}, one["result"])
         self.assertEqual(one["description"], "beebtube run 2000 out --os os --tube tube --disc0 disc0.ssd")
         self.assertEqual(found["./"]["datePublished"], "1970-01-02")
+        self.assertIn("Not stated", found["./"]["license"])
         self.tool("manifest", "--crate", "kept", env={"SOURCE_DATE_EPOCH": "86400"})
         self.assertEqual(text_of(self.at("kept/ro-crate-metadata.json")), first)
+        url = "https://spdx.org/licenses/CC0-1.0"
+        self.tool("manifest", "--crate", "kept", "--license", url)
+        self.assertEqual(self.crate("kept")["./"]["license"], [{"@id": url}])
+        self.tool("manifest", "--crate", "kept", "--license", "ask me")
+        self.assertEqual(self.crate("kept")["./"]["license"], "ask me")
+        self.tool("manifest", "--crate", "kept", "--licence", "ask me", status=2)
 
     def test_a_manifest_by_itself(self):
         self.pair()
@@ -929,6 +963,14 @@ class Elsewhere(Suite):
         page, other = (re.sub("[0-9.]+ s of a processor", "", self.page(folder + "/index.html")) for folder in ("results", "alone"))
         self.assertEqual(page, other)
         self.assertEqual(sorted(os.listdir(self.at("results/runs"))), sorted(os.listdir(self.at("alone/runs"))))
+
+    def test_a_job_loads_what_it_needs_alone(self):
+        self.discs("a.ssd")
+        done = call(["python3", "-X", "importtime", *shlex.split(self.jobs()[0])], "/")
+        self.assertEqual((done.status, done.out), (0, "done a.ssd\n"))
+        loaded = {line.rpartition("|")[2].strip() for line in done.err.splitlines() if line.startswith("import time:")}
+        self.assertIn("beebtube.jobs", loaded)
+        self.assertEqual(loaded & {"argparse", "ast", "beebtube.suite", "difflib", "zipfile"}, set())
 
     def test_several_runs_in_a_job(self):
         self.discs("a.ssd", "++.ssd", "c.ssd", "d.ssd", "e.ssd")
