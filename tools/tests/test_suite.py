@@ -841,7 +841,7 @@ class Crates(Suite):
     TYPES = {"CreateAction", "CreativeWork", "Dataset", "File", "SoftwareApplication"}
 
     def crate(self, folder):
-        """The entities of a folder's metadata, by their ids, once each rule that RO-Crate 1.1 states with MUST is looked at."""
+        """The entities of a folder's metadata, by their ids, once the rules of RO-Crate 1.1 are looked at, as they are known here."""
         text = json.loads(text_of(self.at(folder + "/ro-crate-metadata.json")).decode())
         # Flattened and compacted JSON-LD: a context and one list of entities, each with an id of its own and a type.
         self.assertEqual(set(text), {"@context", "@graph"})
