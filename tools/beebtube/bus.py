@@ -8,10 +8,11 @@ Its levels are those right before.
 from __future__ import annotations
 
 from fractions import Fraction
+from itertools import compress
 from typing import Dict, Iterator, List, NamedTuple, Optional, Tuple
 
 from .faults import Fault
-from .signals import Moment, Reader
+from .signals import Moments, Reader, Watched
 from .words import shown
 
 # The signals of a side, after its letter, and the reset line. A side has a clock and a line for
@@ -48,39 +49,77 @@ class Wanted(NamedTuple):
 
 
 class _Side:
-    """What of a side's lines is needed to take an access."""
+    """What of a side's lines is needed to take an access.
 
-    def __init__(self, letter: str, bit: Dict[str, int]):
-        self.letter = letter
+    known  by whether the read strobe ended and by the levels, the access: its side, way, register
+           and byte
+    """
+
+    def __init__(self, letter: str, bit: Dict[str, int], inverted: int, unknown: int):
+        self.letter, self._inverted, self._unknown = letter, inverted, unknown
         self.is_clocked = letter + "CLK" in bit
+        self.ends = ("CLK",) if self.is_clocked else STROBED
         self.signals = [
             letter + name for name in ADDRESS + DATA + (("RW",) if self.is_clocked else ())
         ]
-        self.select = bit[letter + "CS"]
-        self.read = bit.get(letter + "RD", 0)
-        self.ends = bit[letter + "CLK"] if self.is_clocked else self.read | bit[letter + "WR"]
-        self.bits = [bit[name] for name in self.signals]
-        self.mask = sum(self.bits)
+        self._bits = [bit[name] for name in self.signals]
+        self.mask = sum(self._bits) | sum(self._bits) << unknown
         self.begin = 0
         self.last: Optional[int] = None
         self.count = self.idle = 0
-        self._known: Dict[int, Tuple[str, int, int]] = {}
+        self.known: Dict[bool, Dict[int, Tuple[str, str, int, int]]] = {False: {}, True: {}}
 
-    def access(self, levels: int, ended: int) -> Tuple[str, int, int]:
-        """The way, the register and the byte of an access with these levels, which ends where
-        `ended` falls."""
-        key = levels & self.mask | (ended & self.read if not self.is_clocked else 0)
-        found = self._known.get(key)
-        if found is None:
-            values = [int(levels & bit != 0) for bit in self.bits]
-            is_read = values[11] if self.is_clocked else ended & self.read
-            found = (
-                "R" if is_read else "W",
-                sum(value << at for at, value in enumerate(values[:3])),
-                sum(value << at for at, value in enumerate(values[3:11])),
-            )
-            self._known[key] = found
+    def access(self, levels: int, is_read: bool) -> Tuple[str, str, int, int]:
+        """The access with these levels, which `known` has from now on. Fault if a signal has no
+        value."""
+        if self._unknown:
+            for name, bit in zip(self.signals, self._bits):
+                if levels >> self._unknown & bit:
+                    raise Fault("%s has no value where an access ends" % name)
+        values = [int((levels ^ self._inverted) & bit != 0) for bit in self._bits]
+        found = (
+            self.letter,
+            "R" if (values[11] if self.is_clocked else is_read) else "W",
+            sum(value << at for at, value in enumerate(values[:3])),
+            sum(value << at for at, value in enumerate(values[3:11])),
+        )
+        self.known[is_read][levels & self.mask] = found
         return found
+
+
+# What edges of a side, or of the reset line, are: the begin of a cycle, the end of one with and
+# without an access, by the clock or the write strobe, or by the read strobe; the begin and the end
+# of a reset.
+BEGIN, END, END_READ, IDLE, RESET_BEGIN, RESET_END = range(6)
+Rule = Tuple[Tuple[int, _Side], ...]
+
+
+class _Rules(Dict[Tuple[int, int, int], Rule]):
+    """What a moment is, by the lines that are active right before and right after it, and the
+    selects that count."""
+
+    def __init__(self, sides: List[_Side], bit: Dict[str, int]):
+        super().__init__()
+        self._sides, self._bit = sides, bit
+
+    def __missing__(self, key: Tuple[int, int, int]) -> Rule:
+        before, after, selects = key
+        changed, reset = before ^ after, self._bit.get(RESET, 0)
+        rule: List[Tuple[int, _Side]] = []
+        if changed & reset:
+            rule.append((RESET_END if before & reset else RESET_BEGIN, self._sides[0]))
+        for side in self._sides:
+            bits = [self._bit[side.letter + name] for name in side.ends]
+            ended = changed & sum(bits)
+            if ended and not ended & before:
+                rule.append((BEGIN, side))
+            elif ended and not selects & self._bit[side.letter + "CS"]:
+                rule.append((IDLE, side))
+            elif ended and not after & reset:
+                is_read = not side.is_clocked and ended & before & bits[0]
+                rule.append((END_READ if is_read else END, side))
+        self[key] = tuple(rule)
+        return self[key]
 
 
 class Bus:
@@ -120,7 +159,16 @@ class Bus:
         # A side's cycle has at least two ticks: two edges of its clock within one are one edge.
         self._cycle = 0 if is_own else int(9 * Fraction(1, second) / reader.unit / 10)
         self.zero = None if begin is None else reader.start
-        self._reset, self._unknown = self.bit.get(RESET, 0), reader.unknown
+        # The lines that bound accesses, and the bit that each has if it is active.
+        lines = [RESET] * (RESET in self.bit)
+        for side in self._sides:
+            lines += [side.letter + name for name in ("CS",) + side.ends]
+        self._bit = {line: 1 << at for at, line in enumerate(lines)}
+        self._watched = Watched(
+            [(self.bit[line], bool(self.bit[line] & self.inverted)) for line in lines],
+            reader.unknown,
+        )
+        self._rules = _Rules(self._sides, self._bit)
 
     def _find(self, names: Dict[str, Wanted]) -> None:
         reader = self.reader
@@ -142,7 +190,11 @@ class Bus:
             if bit in used:
                 raise Fault("%s and %s are the same line" % (used[bit], signal))
             used[bit] = signal
-        self._sides = [_Side(letter, self.bit) for letter in "HP" if self._has(letter)]
+        self._sides = [
+            _Side(letter, self.bit, self.inverted, reader.unknown)
+            for letter in "HP"
+            if self._has(letter)
+        ]
         self.sides = [side.letter for side in self._sides]
 
     def _has(self, letter: str) -> bool:
@@ -162,26 +214,22 @@ class Bus:
     def accesses(self) -> Iterator[Captured]:
         """The accesses in the order in which they end. `zero` is the time of the first reset's
         end."""
-        ends = sum(side.ends for side in self._sides) | self.bit.get(RESET, 0)
-        watched = ends | sum(side.select for side in self._sides)
-        quiet, edge = self._quiet, self._edge
-        burst: List[Moment] = []
-        last, before, after = -(1 << 80), 0, 0
-        for moment in self.reader.moments(watched, sum(self.bit.values())):
-            if moment[0] - last < quiet:
-                burst = burst or [(last, before, after)]
-                burst.append(moment)
-                last = moment[0]
-                continue
-            if burst:
-                yield from self._edges(burst, watched)
-                burst = []
-            elif (before ^ after) & ends:
-                found = edge(last, before, after, before)
-                if found:
-                    yield from found
-            last, before, after = moment
-        yield from self._edges(burst or [(last, before, after)], watched)
+        rest = Moments([], [], b"", b"")
+        for block in self.reader.blocks(self._watched, sum(self.bit.values())):
+            times = rest.times + block.times
+            # Moments near the last one wait for those after it.
+            end = len(times) - 1
+            while end > 0 and times[end] - times[end - 1] < self._quiet:
+                end -= 1
+            whole = Moments(
+                times,
+                rest.levels + block.levels,
+                rest.before + block.before,
+                rest.after + block.after,
+            )
+            yield from self._accesses(whole.part(0, end))
+            rest = whole.part(end, None)
+        yield from self._accesses(rest)
         if self.zero is None:
             raise Fault(
                 "the capture begins later than a reset: its signal %s never rises; a trace begins "
@@ -189,86 +237,90 @@ class Bus:
                 % RESET
             )
 
-    # Several moments near each other: of each line that comes back to its level nothing is left, of
-    # one that does not its first edge.
-    def _edges(self, burst: List[Moment], watched: int) -> List[Captured]:
-        changed = twice = 0
-        for _, before, after in burst:
-            twice |= changed & (before ^ after)
-            changed |= before ^ after
-        selects = burst[0][1]
-        if not twice & watched:
-            return [
-                it
-                for time, before, after in burst
-                for it in self._edge(time, before, after, selects)
-            ]
-        edges: List[Tuple[int, int, int]] = []
-        changed &= watched
-        while changed:
-            bit = changed & -changed
-            changed ^= bit
-            at = [place for place, (_, before, after) in enumerate(burst) if (before ^ after) & bit]
-            while at:
-                many = 1
-                while many < len(at) and burst[at[many]][0] - burst[at[many - 1]][0] < self._quiet:
-                    many += 1
-                if many % 2:
-                    edges.append((burst[at[0]][0], at[0], bit))
-                    self.ringing += many // 2
-                else:
-                    self.glitches += many // 2
-                at = at[many:]
+    def _accesses(self, moments: Moments) -> List[Captured]:
+        times, levels, before, after = moments
+        before, after, selects = self._calm(times, before, after)
+        rules = list(map(self._rules.__getitem__, zip(before, after, selects)))
         found: List[Captured] = []
-        for time, place, bit in sorted(edges):
-            before = burst[place][1]
-            found += self._edge(time, before, before ^ bit, selects)
-        return found
-
-    # Both levels of a moment, and those of the selects, each as the file has it.
-    def _edge(self, time: int, before: int, after: int, selects: int) -> List[Captured]:
-        levels, unknown = before ^ self.inverted, 0
-        if self._unknown and (before | after | selects) >> self._unknown:
-            # A level that is not known is that of a line which is not active.
-            unknown = before >> self._unknown
-            levels &= ~unknown
-            selects = selects & ~(selects >> self._unknown) | self.inverted & (
-                selects >> self._unknown
-            )
-            after = after & ~(after >> self._unknown) | self.inverted & (after >> self._unknown)
-        changed = levels ^ after ^ self.inverted
-        found: List[Captured] = []
-        if changed & self._reset:
-            if levels & self._reset:
-                if self.zero is None:
-                    self.zero = time
-            elif self.zero is not None:
-                found.append(Captured("H", "X", 0, 0, time, time))
-        for side in self._sides:
-            ended = changed & side.ends
-            if ended:
-                if not ended & levels:
+        there = compress(times, rules), compress(levels, rules), filter(None, rules)
+        for time, level, rule in zip(*there):
+            for what, side in rule:
+                if what == BEGIN:
                     side.begin = time
-                elif not (selects ^ self.inverted) & side.select:
+                elif what == IDLE:
                     side.idle += 1
-                elif self.zero is None or (after ^ self.inverted) & self._reset:
+                elif what == RESET_END:
+                    if self.zero is None:
+                        self.zero = time
+                elif self.zero is None:
                     pass
+                elif what == RESET_BEGIN:
+                    found.append(Captured("H", "X", 0, 0, time, time))
                 elif side.last is not None and time - side.last < self._cycle:
                     self.ringing += 1
                 else:
-                    if unknown & side.mask:
-                        lack = next(name for name in side.signals if unknown & self.bit[name])
-                        raise Fault(
-                            "%s: %s has no value where an access ends"
-                            % (self.reader.place(time), lack)
-                        )
                     side.last, side.count = time, side.count + 1
-                    found.append(
-                        Captured(
-                            side.letter, *side.access(levels, ended & levels), side.begin, time
-                        )
-                    )
+                    is_read = what == END_READ
+                    access = side.known[is_read].get(level & side.mask)
+                    if access is None:
+                        try:
+                            access = side.access(level, is_read)
+                        except Fault as fault:
+                            raise Fault("%s: %s" % (self.reader.place(time), fault)) from None
+                    found.append(Captured._make(access + (side.begin, time, 0)))
         return found
+
+    # The active lines before and after each moment without the pulses that are passed over, and
+    # those whose selects count: of moments near each other those before the first.
+    def _calm(self, times: List[int], before: bytes, after: bytes) -> Tuple[bytes, bytes, bytes]:
+        quiet = self._quiet
+        near = [
+            at
+            for at, (time, following) in enumerate(zip(times, times[1:]), 1)
+            if following - time < quiet
+        ]
+        if not near:
+            return before, after, before
+        calm = bytearray(before), bytearray(after), bytearray(before)
+        selects, end, first, changed, twice = calm[2], 0, 0, 0, 0
+        for at in near:
+            if at != end:
+                if twice:
+                    self._pass_over(times[first:end], first, *calm[:2])
+                first, changed, twice = at - 1, before[at - 1] ^ after[at - 1], 0
+            edges = before[at] ^ after[at]
+            twice, changed, end = twice | changed & edges, changed | edges, at + 1
+            selects[at] = before[first]
+        if twice:
+            self._pass_over(times[first:end], first, *calm[:2])
+        return bytes(calm[0]), bytes(calm[1]), bytes(selects)
+
+    # Several moments near each other: of each line that comes back to its level nothing is left, of
+    # one that does not its first edge.
+    def _pass_over(self, times: List[int], first: int, before: bytearray, after: bytearray) -> None:
+        edges = [before[first + at] ^ after[first + at] for at in range(len(times))]
+        left = [0] * len(times)
+        for bit in self._bit.values():
+            places = [at for at, changed in enumerate(edges) if changed & bit]
+            while places:
+                many = next(
+                    (
+                        it
+                        for it in range(1, len(places))
+                        if times[places[it]] - times[places[it - 1]] >= self._quiet
+                    ),
+                    len(places),
+                )
+                if many % 2:
+                    left[places[0]] |= bit
+                    self.ringing += many // 2
+                else:
+                    self.glitches += many // 2
+                places = places[many:]
+        active = before[first]
+        for at, changed in enumerate(left, first):
+            before[at], after[at] = active, active ^ changed
+            active ^= changed
 
     def hints(self) -> List[str]:
         """What seems wrong with the lines of a side."""

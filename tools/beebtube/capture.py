@@ -293,12 +293,12 @@ class Capture:
         many, few = self._ticks.numerator, self._ticks.denominator
         last, before = -1, {"H": -1, "P": -1}  # the order, and the times of each side's end
         half, wrong = 0 if self.bus is not None else few // 2, self.judge.wrong
-        texts: Dict[Tuple[str, str, int, int], bytes] = {}
+        texts: Dict[Tuple[object, ...], bytes] = {}
         if self.speed == 4:
             yield b"T2\n"
         for access in self.judge.ordered(self._found):
             side, way, register, byte, _, end, line = access
-            zero = self.bus.zero or 0 if self.bus is not None else 0
+            zero = self.bus and self.bus.zero or 0
             tick = self._first + ((end - zero) * many + half) // few
             order = 2 * tick + (side == "P")
             if order <= last:
@@ -316,10 +316,10 @@ class Capture:
             self.count += 1
             if wrong and wrong[-1].number == self.count:
                 self._at[self.count] = tick
-            text = texts.get((side, way, register, byte))
+            text = texts.get(access[:4])
             if text is None:
                 text = b" %s %s %d %02X\n" % (side.encode(), way.encode(), register, byte)
-                texts[side, way, register, byte] = text
+                texts[access[:4]] = text
             yield b"%010X%s" % (tick, text)
 
     def place_of(self, access: Captured) -> str:

@@ -1,8 +1,8 @@
 """The signals of a capture over time.
 
 A file is a VCD, a table (CSV) of PulseView, sigrok-cli or Saleae Logic 2, or sigrok's `.sr`. Each
-reader gives the moments at which a line that bounds accesses changes, with the levels right before
-and right after.
+reader gives the moments at which a line that bounds accesses changes, many at once, with the levels
+right before and right after.
 """
 
 from __future__ import annotations
@@ -10,11 +10,13 @@ from __future__ import annotations
 import configparser
 import itertools
 import re
+import sys
 import zipfile
 import zlib
+from array import array
 from decimal import Decimal, InvalidOperation
 from fractions import Fraction
-from typing import Callable, Dict, Iterator, List, NamedTuple, Optional, Tuple
+from typing import Callable, Dict, Iterable, Iterator, List, NamedTuple, Optional, Tuple
 
 from .faults import Fault
 from .files import Name, open_file
@@ -23,12 +25,63 @@ from .words import shown
 MOST_LINE = 65536
 MOST_KEPT = 100000  # moments of a VCD that are not looked at again
 BLOCK = 1 << 20
+MOST_MOMENTS = 8192  # moments that are given at once
 UNITS = ("s", "ms", "us", "ns", "ps", "fs")
 # What reading an archive may raise.
 DAMAGED = (zipfile.BadZipFile, OSError, zlib.error, NotImplementedError, RuntimeError)
 
 Moment = Tuple[int, int, int]  # the time in units, the levels right before, and those right after
 Progress = Callable[[int], None]
+
+
+class Moments(NamedTuple):
+    """Moments at which a watched line changes: their times, all levels right before each, and the
+    watched lines that are active right before and right after it, a bit for each."""
+
+    times: List[int]
+    levels: List[int]
+    before: bytes
+    after: bytes
+
+    def part(self, begin: int, end: Optional[int]) -> "Moments":
+        """Those from one place to another."""
+        at = slice(begin, end)
+        return Moments(self.times[at], self.levels[at], self.before[at], self.after[at])
+
+
+def _moments(times: List[int], levels: List[int], first: int, after: bytes) -> Moments:
+    """`first` has the active lines before the first moment."""
+    return Moments(times, levels, (bytes([first]) + after)[: len(after)], after)
+
+
+class Watched(Dict[int, int]):
+    """By the levels of the watched lines, those that are active: bit n is line n of `lines`, which
+    has its bit in the levels, and whether it is active low. An unknown level is not active."""
+
+    def __init__(self, lines: List[Tuple[int, bool]], unknown: int):
+        super().__init__()
+        self._lines, self._unknown = lines, unknown
+        self.bits = sum(bit for bit, _ in lines)
+        self._mask = self.bits | self.bits << unknown
+
+    def __missing__(self, levels: int) -> int:
+        known = ~(levels >> self._unknown) if self._unknown else -1
+        self[levels] = active = self.active(levels, known)
+        return active
+
+    def active(self, levels: int, known: int) -> int:
+        """The lines that are active among the known ones."""
+        return sum(
+            1 << at
+            for at, (bit, is_low) in enumerate(self._lines)
+            if known & bit and (levels & bit == 0) == is_low
+        )
+
+    def among(self, moments: List[Moment]) -> Moments:
+        """The same moments with the active lines."""
+        mask, (times, before, after) = self._mask, zip(*moments)
+        active = bytes([self[levels & mask] for levels in after])
+        return _moments(list(times), list(before), self[before[0] & mask], active)
 
 
 def plain_name(name: str) -> str:
@@ -102,6 +155,12 @@ class Reader:
         """The moments at which a watched bit changes; of the levels only requested bits are right."""
         raise NotImplementedError
 
+    def blocks(self, watched: Watched, wanted: int) -> Iterator[Moments]:
+        """The same moments, many at once."""
+        moments = self.moments(watched.bits, wanted)
+        while part := list(itertools.islice(moments, MOST_MOMENTS)):
+            yield watched.among(part)
+
     def place(self, time: int) -> str:
         """Where the file has a moment."""
         raise NotImplementedError
@@ -134,6 +193,7 @@ class Vcd(Reader):
     """Value changes, as sigrok, PulseView and simulators write them."""
 
     unknown = 40
+    _everything = (1 << 88) - 1  # levels, which of them are unknown, and the active lines
 
     def __init__(self, name: Name, progress: Optional[Progress] = None):
         super().__init__(name, progress)
@@ -207,19 +267,20 @@ class Vcd(Reader):
     def bit_of(self, number: int) -> int:
         return self._bits.setdefault(number, len(self._bits))
 
-    def moments(self, watched: int, wanted: int) -> Iterator[Moment]:
-        """As `Reader` has it. What a moment says is looked at once, and kept with what it
-        changes."""
+    def blocks(self, watched: Watched, wanted: int) -> Iterator[Moments]:
+        """As `Reader` has it. The active lines are above the levels in one number. What a moment
+        says is looked at once, and kept with what it changes."""
         self._table = {
             level + mark: change
             for mark, numbers in self._marks.items()
             if len(numbers) == 1
-            for level, change in self._changes_of(numbers[0]).items()
+            for level, change in self._changes_of(numbers[0], watched).items()
         }
+        self._watched, above = watched, 2 * self.unknown
         kept: Dict[bytes, Tuple[int, int]] = {}
         get = kept.get
         state = before = wanted << self.unknown
-        time = 0
+        time = active = 0
         for number, block in itertools.chain([(self._number, self._begin)], self._rest):
             # Line 0 of it is empty, so that each time follows a line feed.
             number, block = number - 1, b"\n" + block
@@ -228,20 +289,26 @@ class Vcd(Reader):
             if not changes.isspace():
                 change = self._change_of(changes, block, number, moments)
                 state = state & change[0] | change[1]
+            times: List[int] = []
+            levels: List[int] = []
+            first, after = active, bytearray()
             for moment in moments:
-                if (state ^ before) & watched:
-                    yield time, before, state
-                before = state
-                parts, earlier = moment.split(None, 1), time
+                if state >> above != active:
+                    active = state >> above
+                    times.append(time)
+                    levels.append(before)
+                    after.append(active)
+                before, earlier = state, time
                 try:
-                    time = int(parts[0])
-                except (ValueError, IndexError):
-                    time = -1
+                    at, changes = moment.split(None, 1)
+                    time = int(at)
+                except ValueError:
+                    at, changes = moment.strip(), b""
+                    time = int(at) if at.isdigit() else -1
                 if time < earlier:
-                    token = b"#" + b"".join(parts[:1])
                     what = "is no time, or below the one before"
+                    token = b"#" + b"".join(at.split(None, 1)[:1])
                     raise self._fault(block, number, moments, token, what)
-                changes = parts[1] if len(parts) > 1 else b""
                 known = get(changes)
                 if known is None:
                     known = self._change_of(changes, block, number, moments)
@@ -249,14 +316,14 @@ class Vcd(Reader):
                         kept.clear()
                     kept[changes] = known
                 state = state & known[0] | known[1]
-        if (state ^ before) & watched:
-            yield time, before, state
+            yield _moments(times, levels, first, bytes(after))
+        yield Moments([time], [before], bytes([active]), bytes([state >> above]))
 
     def _change_of(
         self, changes: bytes, block: bytes, number: int, moments: Iterator[bytes]
     ) -> Tuple[int, int]:
         """Which bits stay, and which are set, by all changes of a moment."""
-        state, keep = 0, (1 << 2 * self.unknown) - 1
+        state, keep = 0, self._everything
         tokens = iter(changes.split())
         for token in tokens:
             one = self._table.get(token) or self._other_change(token, tokens)
@@ -266,7 +333,7 @@ class Vcd(Reader):
         return keep, state
 
     def _other_change(self, token: bytes, tokens: Iterator[bytes]) -> Optional[Tuple[int, int]]:
-        none = (1 << 2 * self.unknown) - 1, 0
+        none = self._everything, 0
         if token[0] in b"bB":
             return self._vector(token[1:], next(tokens, b""))
         if token[0] in b"rR":
@@ -292,22 +359,22 @@ class Vcd(Reader):
 
     # By each level of a line, which bits stay and which are set. A line that is not requested changes
     # nothing.
-    def _changes_of(self, number: int) -> Dict[bytes, Tuple[int, int]]:
-        everything = (1 << 2 * self.unknown) - 1
+    def _changes_of(self, number: int, watched: Watched) -> Dict[bytes, Tuple[int, int]]:
         bit = 1 << self._bits[number] if number in self._bits else 0
-        keep = everything ^ (bit | bit << self.unknown)
+        low, high = (watched.active(level, bit) << 2 * self.unknown for level in (0, bit))
+        keep = self._everything ^ (bit | bit << self.unknown | low | high)
         return {
-            b"0": (keep, 0),
-            b"1": (keep, bit),
+            b"0": (keep, low),
+            b"1": (keep, bit | high),
             **{level: (keep, bit << self.unknown) for level in (b"x", b"X", b"z", b"Z")},
         }
 
     def _vector(self, levels: bytes, mark: bytes) -> Tuple[int, int]:
         numbers = self._marks.get(mark, [])
         fill = levels[:1] if levels[:1] in (b"x", b"X", b"z", b"Z") else b"0"
-        state, keep = 0, (1 << 2 * self.unknown) - 1
+        state, keep = 0, self._everything
         for number, level in zip(numbers, levels.rjust(len(numbers), fill)[-len(numbers) :]):
-            change = self._changes_of(number).get(bytes([level]), (keep, 0))
+            change = self._changes_of(number, self._watched).get(bytes([level]), (keep, 0))
             state, keep = state & change[0] | change[1], keep & change[0]
         return keep, state
 
@@ -521,7 +588,7 @@ class Session(Reader):
 
     # The samples, in blocks of whole samples.
     def _samples(self) -> Iterator[bytes]:
-        left, done = b"", 0
+        left = b""
         try:
             with open_file(self.name) as whole, zipfile.ZipFile(whole) as archive:
                 parts = [
@@ -531,11 +598,8 @@ class Session(Reader):
                 ]
                 for part in sorted(parts, key=lambda it: int(it[len(self._files) + 1 :] or 0)):
                     with archive.open(part) as file:
-                        for block in iter(
-                            lambda: file.read(BLOCK), b""
-                        ):  # noqa: B023 # used at once
-                            done += len(block)
-                            self._progress(done)
+                        while block := file.read(BLOCK):
+                            self._progress(whole.tell())
                             left += block
                             size = len(left) - len(left) % self._size
                             yield left[:size]
@@ -543,30 +607,48 @@ class Session(Reader):
         except (*DAMAGED, EOFError):
             raise Fault("%s is damaged" % self.name) from None
 
-    def moments(self, watched: int, wanted: int) -> Iterator[Moment]:
-        """As `Reader` has it. A block is compared with itself a sample later, as one number."""
-        size, first, last = self._size, 0, b""
-        mask, length = 0, -1
+    def blocks(self, watched: Watched, wanted: int) -> Iterator[Moments]:
+        """As `Reader` has it. The active lines of a block are compared with those a sample later,
+        as one number."""
+        size, first = self._size, 0
+        tables = [
+            (at, bytes([watched.active(value << 8 * at, 255 << 8 * at) for value in range(256)]))
+            for at in range(size)
+            if watched.bits >> 8 * at & 255
+        ]
+        last = b""
         for block in self._samples():
-            if not block:
-                continue
-            shifted = (last or block[:size]) + block[:-size]
-            if len(block) != length:
-                length = len(block)
-                mask = int.from_bytes(watched.to_bytes(size, "little") * (length // size), "little")
-            different = (
-                (int.from_bytes(block, "little") ^ int.from_bytes(shifted, "little")) & mask
-            ).to_bytes(length, "little")
-            at = -1
-            for match in re.finditer(rb"[^\0]", different):
-                if match.start() // size != at:
-                    at = match.start() // size
-                    yield (
-                        first + at,
-                        int.from_bytes(shifted[at * size : at * size + size], "little"),
-                        int.from_bytes(block[at * size : at * size + size], "little"),
-                    )
-            last, first = block[-size:], first + length // size
+            # The last sample of the block before comes first.
+            whole = (last or block[:size]) + block
+            count, active = len(whole) // size, 0
+            for at, table in tables:
+                active |= int.from_bytes(whole[at::size].translate(table), "little")
+            lines = active.to_bytes(count, "little")
+            changes = (active ^ active >> 8).to_bytes(count, "little")[:-1]
+            yield Moments(
+                list(itertools.compress(range(first, first + count), changes)),
+                list(itertools.compress(self._numbers(whole), changes)),
+                bytes(itertools.compress(lines, changes)),
+                bytes(itertools.compress(lines[1:], changes)),
+            )
+            last, first = whole[-size:], first + len(block) // size
+
+    # The samples of a block as numbers.
+    def _numbers(self, block: bytes) -> Iterable[int]:
+        size = self._size
+        if size > 8:
+            places = range(0, len(block), size)
+            return (int.from_bytes(block[at : at + size], "little") for at in places)
+        wide = 1 << (size - 1).bit_length()
+        if wide > size:
+            spaced = bytearray(len(block) // size * wide)
+            for at in range(size):
+                spaced[at::wide] = block[at::size]
+            block = bytes(spaced)
+        found = array({1: "B", 2: "H", 4: "I", 8: "Q"}[wide], block)
+        if sys.byteorder == "big":
+            found.byteswap()
+        return found
 
     def place(self, time: int) -> str:
         return "sample %d" % time

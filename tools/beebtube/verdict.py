@@ -90,11 +90,13 @@ class Known:
 
     # Both answers of a test that is true from `least` bytes on: 1, 0, or None if it is not known.
     def _is_at_least(self, at: int, least: int) -> Optional[int]:
-        low, high = self._count(at)
-        return 1 if low >= least else 0 if high < least else None
+        held = self.held[at]
+        if isinstance(held, tuple):
+            return 1 if len(held) >= least else 0
+        return 1 if held[0] >= least else 0 if held[1] < least else None
 
     def _is_ready(self, at: int) -> Optional[int]:
-        if at not in (HOST3, PARA3):
+        if at != HOST3 and at != PARA3:
             return self._is_at_least(at, 1)
         if self.open & 16:
             return None
@@ -105,12 +107,11 @@ class Known:
         return 1 if empty == 0 else None if empty is None or ready is None else 0
 
     def _has_room(self, at: int) -> Optional[int]:
-        if at in (HOST3, PARA3):
+        least = ROOM[at]
+        if at == HOST3 or at == PARA3:
             if self.open & 16:
                 return None
             least = 2 if self.flags & 16 else 1
-        else:
-            least = ROOM[at]
         full = self._is_at_least(at, least)
         return None if full is None else 1 - full
 
@@ -118,15 +119,15 @@ class Known:
         """The answer of a read, as far as it is known: its bits, and which of them are known."""
         if self._other:
             self._let_pass()
-        number, own, others = register >> 1, (0, 4) if side == "H" else (4, 0), None
-        at = own[0] + number
+        number = register >> 1
+        at = number if side == "H" else 4 + number
         if register & 1:
             held = self.held[at]
             if isinstance(held, tuple):
                 byte = held[0] if held else self.last[at]
                 return (0, 0) if byte is None else (byte, 255)
             return 0, 0
-        others = own[1] + number
+        others = 4 ^ at
         value, mask = (self.flags & ~self.open, 63 & ~self.open) if number == 0 else (63, 63)
         ready, room = self._is_ready(at), self._has_room(others)
         if ready is not None:
@@ -279,17 +280,15 @@ class Judge:
     def ordered(self, found: Iterable[Captured]) -> Iterator[Captured]:
         """The accesses in the order in which they came to the chip."""
         ahead: Optional[Captured] = None
+        is_alone = True
         for following in found:
             if ahead is not None:
-                if (
-                    len(self._orders) == 1
-                    and self._orders[0].put_off is None
-                    and not self._may_turn(ahead, following)
-                ):
+                if is_alone and not self._may_turn(ahead, following):
                     self._put_alone(ahead)
                     yield ahead
                 else:
                     yield from self._take(ahead, following)
+                    is_alone = len(self._orders) == 1 and self._orders[0].put_off is None
             ahead = following
         if ahead is not None:
             yield from self._take(ahead, None)
@@ -299,13 +298,17 @@ class Judge:
     def _may_turn(self, one: Captured, following: Optional[Captured]) -> bool:
         if (
             following is None
-            or one.side == following.side
             or self._skew is None
             or following.begin > one.end + self._skew
+            or one.side == following.side
         ):
             return False
-        return one.register >> 1 == following.register >> 1 or any(
-            it.way == "X" or it.way == "W" and it.register == 0 for it in (one, following)
+        # Two polls of a register may be in any order, and so may two reads and two writes of bytes.
+        return (
+            one.register >> 1 == following.register >> 1
+            and (one.way != following.way or one.register != following.register)
+            or (one.way != "R" and one.register == 0)
+            or (following.way != "R" and following.register == 0)
         )
 
     def _put_alone(self, one: Captured) -> None:
@@ -332,14 +335,15 @@ class Judge:
     # Does an access; whether its answer could have been wrong, and the one that the chip might have
     # given if it is.
     def _put(self, known: Known, one: Captured) -> Tuple[bool, Optional[int]]:
+        side, way, register, byte, _, _, _ = one
         wrong, mask = None, 0
-        if one.way == "R":
-            value, mask = known.answer(one.side, one.register)
-            if (one.byte ^ value) & mask:
-                wrong = value | one.byte & ~mask & 255
-        known.put(one.side, one.way, one.register, one.byte)
+        if way == "R":
+            value, mask = known.answer(side, register)
+            if (byte ^ value) & mask:
+                wrong = value | byte & ~mask & 255
+        known.put(side, way, register, byte)
         if wrong is not None and not is_of_unused_bits(one, wrong):
-            known.forget(one.side, one.register)
+            known.forget(side, register)
         return mask != 0, wrong
 
     def _ways_on(self, order: _Order, one: Captured, may_turn: bool) -> List[_Order]:

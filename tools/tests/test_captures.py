@@ -180,6 +180,10 @@ class Order(Case):
             self.take(self.begin() + access % "#2100 0RST\n#2106 1RST\n", glitch=0),
             "0000000006 H X 0 00\n" + wanted,
         )
+        # A glitch on the reset line takes away no access that ends in it.
+        at_end = (access % "").replace("#2200 0HCLK", "#2195 0RST\n#2200 0HCLK\n#2203 1RST")
+        self.assertEqual(self.take(self.begin() + at_end), wanted)
+        self.assertEqual((self.capture.glitches, self.capture.ringing), (1, 0))
         # An edge within the same tick is one of the same access, however long the pulse is.
         self.assertEqual(
             self.take(self.begin() + access % "" + "#2340 1HCLK 0HCS\n#2345 0HCLK\n", glitch=0),
@@ -335,6 +339,31 @@ class Kinds(Case):
                     ),
                     seed,
                 )
+
+    def test_progress_of_a_session_is_that_of_its_file(self):
+        """The samples of a session are compressed, so they are more bytes than the file has."""
+        plan = captures.Plan("sr", "plain", False, 3, "HP", 200000000)
+        machine = captures.Machine(random.Random(1), plan, 2000000 * captures.NS)
+        name, _ = captures.write(self.at("capture"), plan, machine)
+        done = []
+        list(Capture(name, progress=done.append).trace())
+        self.assertGreater(len(done), 1)
+        self.assertEqual(done, sorted(done))
+        self.assertLessEqual(done[-1], os.path.getsize(name))
+
+    def test_sessions_of_every_size(self):
+        """Samples of 2 to 9 bytes give the same accesses."""
+        plan = captures.Plan("sr", "plain", True, 3, "H", 100000000)
+        machine = captures.Machine(random.Random(3), plan, 40000 * captures.NS)
+        found, events = set(), machine.lines()
+        signals = sorted({line for _, line, _ in events})
+        changes = captures.sampled(events, plan.rate, signals, machine.length)
+        for size in range(2, 10):
+            labels = signals + ["unused %d" % at for at in range(8 * size - len(signals))]
+            captures.write_sr(self.at("c.sr"), labels, changes, plan.rate, plan)
+            found.add(b"".join(Capture(self.at("c.sr")).trace()))
+        self.assertEqual(len(found), 1)
+        self.assertGreater(found.pop().count(b"\n"), 10)
 
     def test_a_capture_begins_at_its_first_time(self):
         """Saleae's times begin below 0 if there is a trigger."""
