@@ -22,35 +22,35 @@ NOW, NEXT = 92, 64
 CLOCKS = [
     ("Board.closed", "host_bus", "closed", NOW, NOW, ["all ticks below it count as done:", "the tick that contracts see"], ["`close`, at each access and look:", "one number, up to `calm`"]),
     ("Board.next", "host_bus", "next", NEXT, NOW, ["how far the devices are stepped,", "in whole microseconds"], ["an access in SHEILA, a break, a look", "past `calm`, `settle`, `finish`"]),
-    ("Devices.owed", "host_devices", "owed", 36, NEXT, ["the picture is so many", "microseconds behind"], ["`draw`: a store that the picture may", "read, its registers, a shot"]),
-    ("Via.quiet", "via6522", "quiet", 80, NEXT, ["the chip is kept as it is so many steps", "later: they only count down"], ["`unwind`: a register, a line that", "changes, a timer that runs out"]),
-    ("Fdc.past", "wd1770", "past", 46, NEXT, ["the controller is kept as it was", "so many steps ago"], ["`pass`: a register, the latch, and", "where `quiet` of them are over"]),
+    ("Devices.owed", "host_devices", "owed", 36, NEXT, ["the picture is a number of", "microseconds behind"], ["`draw`: a store that the picture may", "read, its registers, a shot"]),
+    ("Via.quiet", "via6522", "quiet", 80, NEXT, ["the chip is kept as it is some steps", "later: they only count down"], ["`unwind`: a register, a line that", "changes, a timer that runs out"]),
+    ("Fdc.past", "wd1770", "past", 46, NEXT, ["the controller is kept as it was", "some steps ago"], ["`pass`: a register, the latch, and", "where `quiet` of them are over"]),
 ]
 
 # The turns of both threads: for each thread what it does, from and to a place on the axis from 0 to 100, with the function
 # and its kind; then what goes from one to the other.
 HOST = [
-    (0, 17, "advance_to_ask", "looks and accesses below the other's bound: no word", "work"),
-    (17, 27, "come", "a step past it: learn, publish, rest", "wait"),
-    (27, 62, "advance_to_ask", "as far as the second processor has entrusted", "work"),
+    (0, 13, "advance_to_ask", "looks and accesses below the other's bound: no exchange", "work"),
+    (13, 30, "wait_until_admitted", "a step past it: learn, publish, spin, park", "wait"),
+    (30, 62, "advance_to_ask", "up to the second processor's speculative horizon", "work"),
     (62, 71, "act", "an access that changes its lines", "act"),
     (71, 100, "advance_to_ask", "on, up to the new bound", "work"),
 ]
 PARA = [
     (0, 12, "advance_to_ask", "below the host's horizon: as `drive`", "work"),
     (12, 22, "go_ahead", "sets a mark", "act"),
-    (22, 48, "stride_to", "strides past the mark: looks and status reads on trust", "trust"),
+    (22, 48, "stride_to", "strides past the mark: speculative looks and status reads", "speculative"),
     (48, 70, "strides_on", "the next stride, while the host uses the first", "lost"),
     (70, 82, "roll_back", "back to the mark, on to the access", "act"),
     (82, 100, "advance_to_ask", "goes on from there", "work"),
 ]
 # What goes from one to the other: from the host, from which place to which, how wide the text is, the function, what it says.
 WORDS = [
-    (False, 22, 27, 18, "publish_and_entrust", "all events, the mark as horizon, and trust up to the stride's end"),
-    (False, 48, 51, 14, "entrust", "the second stride, in one exchange"),
-    (True, 66, 70, 28, "publish", "the access; the same exchange takes the trust back to its tick"),
+    (False, 22, 30, 18, "publish_and_speculate", "all events, the mark as horizon, and the stride's end as speculative horizon"),
+    (False, 48, 51, 14, "speculate", "the second stride, in one exchange"),
+    (True, 66, 70, 28, "publish", "the access; the same exchange lowers the speculative horizon to its tick"),
 ]
-KEYS = [("work", "on its own, no word to the other"), ("trust", "on trust, and the host passes it unchanged"), ("lost", "taken back, done anew"), ("wait", "rests until admitted"), ("act", "one step")]
+KEYS = [("work", "on its own, no exchange"), ("speculative", "speculative, and the host passes it unchanged"), ("lost", "rolled back, done again"), ("wait", "waits until admitted"), ("act", "one step")]
 
 # The way of one access: a store of the host to FEE1 in `solo`, from crate to crate, with the function there.
 WAY = [
@@ -68,7 +68,7 @@ WAY = [
 # -- Drawing --
 
 INK, DIM, LINE, PAPER, WAY_INK = "#222", "#666", "#999", "#fff", "#c0661a"
-FILL = {"work": "#dbe9f6", "wait": "#eeeeee", "act": "#fde3c0", "trust": "#dff0d8", "lost": "#f6d5d5", "way": "#fde3c0", "plain": "#f4f4f4"}
+FILL = {"work": "#dbe9f6", "wait": "#eeeeee", "act": "#fde3c0", "speculative": "#dff0d8", "lost": "#f6d5d5", "way": "#fde3c0", "plain": "#f4f4f4"}
 
 
 def fail(text):

@@ -126,7 +126,7 @@ def table():
     with open(TOP + "/crates/cmd_words/src/keys.rt") as file:
         source = file.read()
     sets = {}
-    for name, body in re.findall(r"const (\w+): Takers = Takers \{(.*?)\};", source, re.S):
+    for name, body in re.findall(r"const (\w+): CommandSet = CommandSet \{(.*?)\};", source, re.S):
         sets[name] = [field for field, yes in re.findall(r"(\w+): (true|false)", body) if yes == "true"]
     lists = {name: re.findall(r'"(.*?)"', body) for name, body in re.findall(r"const (\w+): &\[&str\] = &\[(.*?)\];", source)}
     numbers = dict(re.findall(r"const (\w+): u64 = ([0-9_]+);", source))
