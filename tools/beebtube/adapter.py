@@ -422,7 +422,7 @@ class Adapter(Shown):
             start = debugger.find([one.address], one.test, back)
             if start is None or match is None:
                 return start
-            before = debugger.machine.every(one.address, start.tick)
+            before = debugger.machine.every("at", one.address, start.tick)
             hits = 1 + sum(one.test is None or one.test(it) for it in before)
             way, number = match.group(1) or "=", int(match.group(2))
             if {"=": hits == number, "==": hits == number, ">": hits > number,

@@ -11,16 +11,18 @@ from __future__ import annotations
 
 import functools
 import re
-from typing import TYPE_CHECKING, Dict, Iterator, NamedTuple, Optional, Tuple
+from typing import TYPE_CHECKING, Dict, Iterator, NamedTuple, Optional, Set, Tuple
 
 from .effects import LEVELS, level_after, sequences
 from .faults import Fault
-from .listings import Start
+from .listings import Start, hexes
 from .machine import FAR
 
 if TYPE_CHECKING:
     from .machine import Machine
 
+FEW = 16  # starts that are no interrupt's, and changes of a vector, before all starts are listed
+VECTORS = (0xFFFA, 0xFFFB, 0xFFFE, 0xFFFF)
 TEXT = 256  # bytes after a JSR to which it may come back
 HEX = {f"{number:02X}".encode(): number for number in range(256)}
 OPENING = {b"JSR": "call", b"BRK": "BRK"}
@@ -39,12 +41,7 @@ OVER = [1 << level | sum(1 << s for s in range(256) if is_above(s, level)) for l
 
 @functools.lru_cache(256)
 def _form(level: int) -> "re.Pattern[bytes]":
-    rows = []
-    for high in range(16):
-        lows = "".join(f"{low:X}" for low in range(16) if OVER[level] >> 16 * high + low & 1)
-        if lows:
-            rows.append(f"{high:X}[{lows}]")
-    return re.compile(f" S=(?:{'|'.join(rows)}) P".encode())
+    return re.compile(f" S={hexes(lambda s: bool(OVER[level] >> s & 1))} P".encode())
 
 
 # A call that `pc` opened is over if S comes to its level first by `word`, which leads to `to`.
@@ -74,6 +71,7 @@ class Calls:
 
     def __init__(self, machine: "Machine"):
         self.machine, self.past = machine, machine.past
+        self._to: Optional[Tuple[int, ...]] = None
 
     def over(self, frame: Frame, tick: int, until: Optional[int] = None) -> Optional[Start]:
         """The first start after a tick at which a frame is over; None if it is not before the
@@ -141,7 +139,7 @@ class Calls:
             return before
         found = before
         for frame in self.frames(before.tick):
-            over = self.over(frame, before.tick, here.tick)
+            over = self.over(frame, frame.start.tick if frame.is_at else before.tick, here.tick)
             if over is None:
                 break
             found = frame.start
@@ -150,6 +148,12 @@ class Calls:
     def interrupt(self, tick: int, back: bool) -> Optional[Start]:
         """The first start after a tick that an interrupt leads to; or the last one before it."""
         machine = self.machine
+        begins, way = self._begins(), machine.last_of if back else machine.next_of
+        found = way("at", begins, tick) if begins else None
+        for _ in range(FEW):
+            if begins and (found is None or self._is_interrupt(found)):
+                return found
+            found = None if found is None else way("at", begins, found.tick)
         high = tick
         for listing in machine.parts(tick if back else tick + 1, back):
             # From the line before, since it is seen from two.
@@ -165,6 +169,28 @@ class Calls:
                         return listing.start(listing.place_of(begun))
             high = listing.low
         return None
+
+    # An interrupt leads to this start.
+    def _is_interrupt(self, start: Start) -> bool:
+        before = self.machine.preceding(start.tick)
+        return before is not None and sequences(before, start) > 0 and (
+            not self._reset(before.tick, start.tick))
+
+    # The addresses to which interrupts may lead in the whole run; none if there are too many.
+    def _begins(self) -> Tuple[int, ...]:
+        if self._to is None:
+            machine, rom = self.machine, self.past.inputs.images
+            vectors = {rom["os" if machine.side == "host" else "tube"][-6:]}
+            if machine.side == "para":
+                changes: Set[int] = {1}
+                self.past.together(*(functools.partial(machine.every, "watch", at, machine.bound)
+                                     for at in VECTORS))
+                for at in VECTORS:
+                    changes |= {it.tick for it in machine.every("watch", at, machine.bound)}
+                states = machine.states_at(sorted(changes)) if len(changes) <= FEW else []
+                vectors = vectors | {it.memory[-6:] for it in states} if states else set()
+            self._to = tuple(sorted({it[at] | it[at + 1] << 8 for it in vectors for at in (0, 4)}))
+        return self._to
 
     def frames(self, tick: int) -> Iterator[Frame]:
         """The frames that are open at a tick, the innermost first; of calls that began about 2

@@ -1,12 +1,13 @@
 """Conditions of a start: `A=8C and S<10`, `pc outside C000..FFFF`, `(0070)=41`."""
 from __future__ import annotations
 
+import functools
 import operator
 import re
-from typing import Callable, Dict, List, Tuple
+from typing import Callable, Dict, List, Optional, Tuple
 
 from .faults import Fault
-from .listings import Start
+from .listings import Start, hexes
 
 TERM = re.compile(r"\s*(\([^()]+\)|[A-Za-z]+)\s*(<=|>=|!=|==|=|<|>|in\b|outside\b)\s*(\S+)\s*")
 TESTS: Dict[str, Callable[[int, int], bool]] = {
@@ -15,7 +16,29 @@ TESTS: Dict[str, Callable[[int, int], bool]] = {
 Address = Callable[[str], int]
 # The byte of the memory at an address before a start.
 Byte = Callable[[Start, int], int]
-Condition = Callable[[Start], bool]
+Test = Callable[[int], bool]
+
+
+class Condition:
+    """What holds of a start, or does not.
+
+    form  is found in the line of each start for which it holds; None if any line may be such
+    """
+
+    def __init__(self, *terms: "Tuple[str, Callable[[Start], int], Test]"):
+        self._terms = terms
+        self.form: "Optional[re.Pattern[bytes]]" = None
+        for name, _, test in terms:
+            if name in ("a", "x", "y", "s", "p"):
+                self.form = re.compile(f" {name.upper()}={hexes(test)} ".encode())
+                return
+        for name, _, test in terms:
+            if name == "pc":
+                pages = {pc >> 8 for pc in range(65536) if test(pc)}
+                self.form = re.compile(f"(?m)^.{{10}} {hexes(pages.__contains__)}".encode())
+
+    def __call__(self, start: Start) -> bool:
+        return all(test(get(start)) for _, get, test in self._terms)
 
 
 def value_of(word: str, address: Address) -> int:
@@ -36,29 +59,33 @@ def range_of(word: str, address: Address) -> Tuple[int, int]:
 def condition(text: str, address: Address, byte: Byte) -> Condition:
     """The condition of a text; Fault if it is none. Registers are A, X, Y, S, P and PC; a byte
     of memory is an address in brackets."""
-    terms: List[Condition] = []
+    terms: List[Tuple[str, Callable[[Start], int], Test]] = []
     for part in re.split(r"\band\b|&&", text):
         match = TERM.fullmatch(part)
         name = match.group(1).lower() if match else ""
         if not match or not name.startswith("(") and name not in ("a", "x", "y", "s", "p", "pc"):
             raise Fault(f"{part.strip()[:40]}: a condition is `A=8C`, `S<10`, `(0070)!=0` or"
                         " `pc outside C000..FFFF`, with `and` between several")
-        terms.append(_term(match, name, address, byte))
-    return lambda start: all(term(start) for term in terms)
+        if name.startswith("("):
+            at = value_of(match.group(1)[1:-1].strip(), address)
+            terms.append((name, functools.partial(_byte, byte, at), _test(match, address)))
+        else:
+            terms.append((name, functools.partial(_register, name), _test(match, address)))
+    return Condition(*terms)
 
 
-def _term(match: "re.Match[str]", name: str, address: Address, byte: Byte) -> Condition:
+def _byte(byte: Byte, at: int, start: Start) -> int:
+    return byte(start, at)
+
+
+def _register(name: str, start: Start) -> int:
+    return int(getattr(start.registers, name))
+
+
+def _test(match: "re.Match[str]", address: Address) -> Test:
     way, word = match.group(2), match.group(3)
-    if name.startswith("("):
-        at = value_of(match.group(1)[1:-1].strip(), address)
-
-        def get(start: Start) -> int:
-            return byte(start, at)
-    else:
-        def get(start: Start) -> int:
-            return int(getattr(start.registers, name))
     if way in TESTS:
         test, wanted = TESTS[way], value_of(word, address)
-        return lambda start: test(get(start), wanted)
+        return lambda value: test(value, wanted)
     low, high = range_of(word, address)
-    return lambda start: (low <= get(start) <= high) == (way == "in")
+    return lambda value: (low <= value <= high) == (way == "in")

@@ -1,6 +1,7 @@
 """The commands of `tools/debug`: a moment of a run, what is there, and the ways to others."""
 from __future__ import annotations
 
+import functools
 import re
 import sys
 from typing import Any, Callable, Dict, List, NamedTuple, Optional, TextIO, Tuple
@@ -206,6 +207,7 @@ class Debugger(Engine):
 
     def _show_here(self) -> None:
         machine = self.machine
+        self.past.look(self.tick, [self.side])
         self._moment(self.tick, self.side, machine.state(self.tick).registers,
                  machine.view.text(self.tick))
 
@@ -216,6 +218,7 @@ class Debugger(Engine):
     @word("", "the tick, registers, instructions, last accesses, and the Tube")
     def do_where(self) -> None:
         past = self.past
+        past.look(self.tick, past.sides)
         states = past.states(self.tick)
         time = self.tick * 1e6 / past.second
         self._say(f"tick {self.tick} of {past.end}, {time:.3f} us; {self.side}")
@@ -288,9 +291,12 @@ class Debugger(Engine):
 
     @word("[N]", "the calls that are open, the innermost first; at most N, else 32")
     def do_backtrace(self, number: str = "32") -> None:
-        if 0 < self.tick <= self.past.held:
+        machine, tick = self.machine, self.tick
+        if 0 < tick <= self.past.held:
             # One listing, and not first a short one.
-            self.machine.around((), self.tick - 1, FAR + OVERLAP, backwards=True)
+            self.past.together(
+                functools.partial(machine.state, tick),
+                lambda: machine.around((), tick - 1, FAR + OVERLAP, backwards=True))
         self._show_here()
         for _, frame in zip(range(self._count(number, 256)), self.frames()):
             self._show(frame.start, "" if frame.kind == "call" else f"{frame.kind} after it")

@@ -5,7 +5,7 @@ import functools
 import re
 from typing import Callable, List, NamedTuple, Optional, Tuple
 
-from .listings import Start
+from .listings import Start, hexes
 
 OPERAND = re.compile(r"(\(?)&([0-9A-F]{2,4})(,X\)|\),Y|\)|,[XY])?")
 STORES = {"STA": "a", "STX": "x", "STY": "y", "STZ": ""}
@@ -55,6 +55,23 @@ def _operand(text: str) -> Tuple[Optional[int], bool, bool, str]:
         return None, False, False, ""
     digits = match.group(2)
     return int(digits, 16), len(digits) == 4, bool(match.group(1)), match.group(3) or ""
+
+
+@functools.lru_cache(64)
+def touching(low: int, high: int) -> "Optional[re.Pattern[bytes]]":
+    """A form that is found in the line of each instruction that may read or write a byte of a
+    range, or write one of the zero page, where pointers are; None if any instruction may."""
+    if low < 0x200 and high >= 0x100:
+        return None
+    pages = hexes(lambda page: low - 510 <= page * 256 <= high or page == 0xFF and low < 0xFF)
+    end = "(?:,[XY])?\\n"
+    told = [r"... \(", f"(?!J|B(?!IT))... &{pages}..{end}",
+            rf"(?:ST.|INC|DEC|[AL]S[LR]|RO[LR]|T[SR]B) &(?:00|FF)?..{end}"]
+    if low < 0x100:
+        told += [rf"... &{hexes(lambda at: low <= at <= high)}\n", r"... &..,[XY]\n"]
+    if high >= 0xFFFE:
+        told.append("BRK")
+    return re.compile(f" P=.. (?:{'|'.join(told)})".encode())
 
 
 def address_of(start: Start, peek: Peek) -> Tuple[Optional[int], List[int]]:

@@ -3,12 +3,13 @@ in an editor have in common."""
 from __future__ import annotations
 
 import contextlib
+import functools
 from typing import Callable, Dict, Iterable, Iterator, List, NamedTuple, Optional, Tuple
 
 from .accesses import is_status
 from .calls import Calls, Frame
 from .conditions import Condition
-from .effects import Effects, address_of, effects_of, sequences
+from .effects import Effects, address_of, effects_of, sequences, touching
 from .faults import Fault
 from .listings import Change, Start
 from .machine import FAR, SOME, Machine
@@ -17,7 +18,9 @@ from .trace import Access
 
 FULL = {"host": "the host", "para": "the second processor"}
 SIDE = {letter: side for side, letter in LETTERS.items()}
-FAR_HELD = 4  # ticks after a reset of the second processor at which it is held, at the latest
+# Ticks after its reset line comes at which the second processor is held, at the latest: an
+# instruction and a sequence of 7 cycles each end first.
+FAR_HELD = 48
 FEW = 16  # bytes of a range whose changes are looked for one by one
 TUBE = {"host": (0xFEE0, 0xFEFF), "para": (0xFEF8, 0xFEFF)}
 COPIES = {"TAX": "a", "TAY": "a", "TXA": "x", "TYA": "y", "TSX": "s", "TXS": "x"}
@@ -132,18 +135,10 @@ class Engine:
         holds; or the last one before."""
         places = list(addresses)
         if not places:
-            return next(self._all(test or (lambda _: True), back), None)
-        found = [it for it in self.past.pool.map(
-            lambda at: self._at(at, test, back), places) if it is not None]
-        if not found:
-            return None
-        return (max if back else min)(found, key=lambda it: it.tick)
-
-    def _at(self, address: int, test: Optional[Condition], back: bool) -> Optional[Start]:
-        machine, tick = self.machine, self.tick
+            return next(self._all(test or Condition(), back), None)
+        way, tick = self.machine.last_of if back else self.machine.next_of, self.tick
         while True:
-            way = machine.last_of if back else machine.next_of
-            found = way("at", address, tick)
+            found = way("at", places[0] if len(places) == 1 else tuple(places), tick)
             if found is None or test is None or test(found):
                 return found
             tick = found.tick
@@ -151,12 +146,13 @@ class Engine:
     def _all(self, test: Condition, back: bool) -> Iterator[Start]:
         tick = self.tick if back else self.tick + 1
         for listing in self.machine.parts(tick, back):
+            place = listing.first if back else listing.place_of(tick)
+            starts = listing.found(test.form, place) if test.form else listing.starts(place)
             if back:
-                starts = list(listing.starts(listing.first))
-                yield from (it for it in reversed(starts) if it.tick < tick and test(it))
+                yield from (it for it in reversed(list(starts)) if it.tick < tick and test(it))
                 tick = min(tick, listing.low)
             else:
-                yield from (it for it in listing.starts(listing.place_of(tick)) if test(it))
+                yield from filter(test, starts)
                 tick = max(tick, listing.covers)
 
     def until(self, addresses: Iterable[int], test: Optional[Condition] = None,
@@ -179,8 +175,12 @@ class Engine:
         machine, tick = self.machine, self.tick
         if high - low < FEW:
             way = machine.last_change if back else machine.next_change
-            found = [(at, it) for at, it in zip(range(low, high + 1), self.past.pool.map(
-                lambda at: way(at, tick), range(low, high + 1))) if it is not None]
+            if not machine.view.is_under_rom(high):
+                listed = machine.last_of if back else machine.next_of
+                self.past.together(*(functools.partial(listed, "watch", at, tick + back)
+                                     for at in range(low, high + 1)))
+            changes = [(at, way(at, tick)) for at in range(low, high + 1)]
+            found = [(at, it) for at, it in changes if it is not None]
             if not found:
                 return None
             return (max if back else min)(found, key=lambda it: (it[1].start.tick, -it[0]))
@@ -213,24 +213,25 @@ class Engine:
     def _touching(self, low: int, high: int, tick: int, back: bool,
                   touched: Callable[[Effects], List[int]], pushes: bool
                   ) -> Iterator[Tuple[Start, int]]:
-        bound = self.machine.bound
+        bound, ticks = self.machine.bound, FAR
         while tick > 0 if back else tick < bound:
-            first, last = (max(0, tick - FAR), tick) if back else (tick, tick + FAR)
+            first, last = (max(0, tick - ticks), tick) if back else (tick, tick + ticks)
             parts = self._touched(first, min(last, bound), low, high, touched, pushes)
             yield from reversed(list(parts)) if back else parts
-            tick = first if back else last
+            tick, ticks = first if back else last, SOME
 
     def _touched(self, first: int, last: int, low: int, high: int,
                  touched: Callable[[Effects], List[int]], pushes: bool
                  ) -> Iterator[Tuple[Start, int]]:
-        machine = self.machine
+        machine, form = self.machine, touching(low, high)
+        machine.around((), first, last - first)
         begin = machine.current(first) or machine.following(first)
         if begin is None or begin.tick >= last:
             return
         memory = bytearray(machine.view.bytes_at(begin.tick, 0, 65536))
         before: Optional[Start] = None
-        for start in machine.view.starts(begin.tick, last):
-            if before is not None and pushes and low < 0x200:
+        for start in machine.view.starts(begin.tick, last, form):
+            if before is not None and pushes and form is None:
                 for number in range(3 * (sequences(before, start))):
                     at = 0x100 | start.registers.s + 1 + number & 255
                     if low <= at <= high and before.tick >= first:
@@ -333,13 +334,18 @@ class Engine:
         for reset in reversed(resets) if back else resets:
             if reset >= self.tick if back else reset + FAR_HELD < self.tick:
                 continue
-            # It is held from its next step on.
-            for tick in range(reset + 1, min(reset + FAR_HELD, self.past.held) + 1):
-                if machine.state(tick).held:
-                    if tick < self.tick if back else tick > self.tick:
-                        self.side, self.tick = "para", tick
-                        return
-                    break
+            # It is held once what is under way has ended, if the line does not go before.
+            ends = [it for it in self.past.resets("freed") if it > reset]
+            low, high = reset + 1, min([reset + FAR_HELD, self.past.held] + ends[:1])
+            if low > high or not machine.state(high).held:
+                continue
+            while low < high:
+                middle = (low + high) // 2
+                is_held = machine.state(middle).held
+                low, high = (low, middle) if is_held else (middle + 1, high)
+            if low < self.tick if back else low > self.tick:
+                self.side, self.tick = "para", low
+                return
         raise Fault("no reset line holds the second processor " + (
             "before" if back else "before the run ends"))
 

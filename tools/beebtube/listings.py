@@ -5,7 +5,7 @@ import contextlib
 import mmap
 import os
 import re
-from typing import Iterator, List, NamedTuple, Tuple, Union
+from typing import Callable, Iterator, List, NamedTuple, Tuple, Union
 
 from .faults import Fault
 from .report import Registers
@@ -16,6 +16,16 @@ START = re.compile(
 # The same in the parts that the call stack needs: tick, PC, X, S, and the mnemonic.
 BRIEF = re.compile(rb"(.{10}) (.{4}) A=.. X=(..) Y=.. S=(..) P=.. (\S+)[^\n]*\n")
 Brief = Tuple[bytes, bytes, bytes, bytes, bytes]
+
+
+def hexes(test: Callable[[int], bool]) -> str:
+    """A form of the bytes, in two digits, for which a test holds."""
+    rows = []
+    for high in range(16):
+        lows = "".join(f"{low:X}" for low in range(16) if test(16 * high + low))
+        if lows:
+            rows.append(f"{high:X}[{lows}]" if len(lows) > 1 else f"{high:X}{lows}")
+    return "(?:%s)" % "|".join(rows) if len(rows) > 1 else "".join(rows) or "(?!)"
 
 
 class Start(NamedTuple):

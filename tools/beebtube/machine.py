@@ -5,7 +5,8 @@ import os
 import re
 import threading
 from collections import OrderedDict
-from typing import TYPE_CHECKING, Iterator, List, NamedTuple, NoReturn, Optional, Sequence, Tuple
+from typing import (
+    TYPE_CHECKING, Iterator, List, NamedTuple, NoReturn, Optional, Sequence, Tuple, Union)
 
 from .faults import Fault, Refused
 from .listings import Change, Listing, Start
@@ -23,7 +24,9 @@ SOME = 1 << 23
 WIDE = 1 << 27
 OVERLAP = 256  # a listing begins so many ticks earlier: a change is seen from the start before it
 MANY = 200000  # so many instructions are counted, and not gone through
+KEPT = 1 << 29  # bytes of listings that are kept
 LISTED = re.compile(rb"listed ([0-9]+) of ([0-9]+)\n")
+Places = Union[int, Tuple[int, ...]]  # an address, or several
 
 
 class State(NamedTuple):
@@ -137,10 +140,11 @@ class Machine:
             listing = Listing(self.side, path, total, low, high)
             with self._lock:
                 self._lists.append((extra, listing))
-                old = self._lists[:-32]
-                self._lists = self._lists[-32:]
-            for _, one in old:
-                one.close()
+                size = sum(one.size for _, one in self._lists)
+                while len(self._lists) > 32 or size > KEPT and len(self._lists) > 4:
+                    old = self._lists.pop(0)[1]
+                    size -= old.size
+                    old.close()
             if tick < listing.covers:
                 return listing
             low = listing.covers
@@ -150,7 +154,8 @@ class Machine:
         while 0 < tick if backwards else tick < self.bound:
             listing = self.around((), tick - 1 if backwards else tick, ticks, backwards)
             yield listing
-            tick, ticks = listing.low if backwards else listing.covers, FAR
+            tick = listing.low if backwards else listing.covers
+            ticks = FAR if ticks == NEAR else SOME
         if not backwards:
             self._nothing()
 
@@ -216,10 +221,16 @@ class Machine:
 
     # --- Starts at an address, and changes of a byte ---
 
-    def next_of(self, kind: str, address: int, tick: int) -> Optional[Start]:
-        """The first start after a tick at an address ("at"), or after a change of the byte there
-        ("watch")."""
-        extra, low, ticks = (f"--{kind}", f"{address:04X}"), tick + 1, SOME
+    # The words of `follow` that choose such starts.
+    def _chosen(self, kind: str, places: Places) -> Tuple[str, ...]:
+        if isinstance(places, int):
+            return f"--{kind}", f"{places:04X}"
+        return "--points", self.past.points(places)
+
+    def next_of(self, kind: str, places: Places, tick: int) -> Optional[Start]:
+        """The first start after a tick at an address or at one of several ("at"), or after a
+        change of the byte at an address ("watch")."""
+        extra, low, ticks = self._chosen(kind, places), tick + 1, SOME
         while low < self.bound:
             listing = self.around(extra, low, ticks)
             place = listing.place_of(low)
@@ -229,11 +240,11 @@ class Machine:
         self._nothing()
         return None
 
-    def last_of(self, kind: str, address: int, tick: int) -> Optional[Start]:
+    def last_of(self, kind: str, places: Places, tick: int) -> Optional[Start]:
         """The last such start below a tick."""
         if tick > self.past.held + 1:
             self.outside()
-        extra, high, ticks = (f"--{kind}", f"{address:04X}"), min(tick, self.bound), SOME
+        extra, high, ticks = self._chosen(kind, places), min(tick, self.bound), SOME
         while high > 0:
             listing = self.around(extra, high - 1, ticks, backwards=True)
             place, found = listing.before(listing.place_of(min(high, self.bound)), 1)
@@ -242,9 +253,9 @@ class Machine:
             high, ticks = listing.low, WIDE
         return None
 
-    def every(self, address: int, high: int) -> List[Start]:
-        """All starts at an address below a tick."""
-        extra, low, found = ("--at", f"{address:04X}"), 0, []
+    def every(self, kind: str, places: Places, high: int) -> List[Start]:
+        """All such starts below a tick."""
+        extra, low, found = self._chosen(kind, places), 0, []
         high = min(high, self.bound)
         while low < high:
             listing = self.around(extra, low, WIDE)
@@ -259,6 +270,9 @@ class Machine:
         """The last change of a byte of the memory before a tick; None if there is none."""
         if tick > self.past.held + 1:
             self.outside()
+        is_hidden = self.view.is_under_rom(address)
+        self.past.together(lambda: self.preceding(tick), lambda: None if is_hidden else
+                           self.last_of("watch", address, tick + 1))
         before = self.preceding(tick)
         if before is None:
             return None
@@ -268,20 +282,31 @@ class Machine:
             old, new = (state.memory[address] for state in self.states_at([before.tick, tick]))
             if old != new:
                 return Change(before, tick, old, new)
-        if self.view.is_under_rom(address):
+        if is_hidden:
             return self.view.last_change_under_rom(address, tick)
         return self._changed(address, self.last_of("watch", address, tick + 1))
 
     # The change after which `watch` listed a start.
     def _changed(self, address: int, after: Optional[Start]) -> Optional[Change]:
-        before = None if after is None else self.preceding(after.tick)
-        if after is None or before is None:
+        if after is None:
             return None
-        old, new = (it.memory[address] for it in self.states_at([before.tick, after.tick]))
-        return Change(before, after.tick, old, new)
+        # From the change before this one on, the byte is the same.
+        tick, listing = after.tick, self.around(self._chosen("watch", address), after.tick)
+        place, found = listing.before(listing.place_of(tick), 1)
+        since = listing.tick_at(place) if found else listing.low
+        self.past.together(lambda: self.preceding(tick), lambda: self.state(tick),
+                           lambda: self.state(since))
+        before = self.preceding(tick)
+        if before is None:
+            return None
+        old, new = (self._byte(address, it) for it in (min(since, before.tick), tick))
+        return Change(before, tick, old, new)
 
     def next_change(self, address: int, tick: int) -> Optional[Change]:
         """The next change of a byte of the memory after a tick; None if there is none."""
+        is_hidden = self.view.is_under_rom(address)
+        self.past.together(lambda: self.current(tick), lambda: None if is_hidden else
+                           self.next_of("watch", address, tick))
         here, after = self.current(tick), self.following(tick)
         low = tick
         if here is not None and here.tick < tick and after is not None:
@@ -291,7 +316,7 @@ class Machine:
                 return Change(here, after.tick, old, new)
             low = after.tick
         found = None
-        if self.view.is_under_rom(address):
+        if is_hidden:
             found = self.view.next_change_under_rom(address, low)
         elif low < self.past.held:
             found = self._changed(address, self.next_of("watch", address, low))

@@ -13,8 +13,10 @@ from __future__ import annotations
 
 import concurrent.futures
 import contextlib
+import functools
 import itertools
 import os
+import threading
 import weakref
 from collections import OrderedDict
 from typing import Callable, Dict, List, Optional, Sequence, Tuple
@@ -73,6 +75,8 @@ class Past:
         self.traffic = Traffic(self.trace)
         self._resets: Dict[str, List[int]] = {}
         self._cut: Dict[int, str] = {}
+        self._points: Dict[Tuple[int, ...], str] = {}
+        self._lock = threading.Lock()
         self._beyond: "OrderedDict[int, Dict[str, State]]" = OrderedDict()
         self.pool = concurrent.futures.ThreadPoolExecutor(4)
         self.machines = {side: Machine(self, side) for side in self.sides}
@@ -164,13 +168,14 @@ class Past:
 
     def resets(self, side: str) -> List[int]:
         """The ticks at which a side was reset after power-on: the host by BREAK, the second
-        processor by BREAK or by the host; after "held" those from which the host held it reset."""
+        processor by BREAK or by the host; of "held" those from which the host held it reset, and
+        of "freed" those from which it no longer did."""
         if not self._resets:
-            breaks, resets, holds = self.traffic.resets()
+            breaks, resets, holds, ends = self.traffic.resets()
             if not self.has_tube:
                 words = [line.split() for line in self.script]
                 breaks = [int(word[1]) for word in words if word[2:] == [b"break"]]
-            self._resets = {"host": breaks, "para": resets, "held": holds}
+            self._resets = {"host": breaks, "para": resets, "held": holds, "freed": ends}
         return self._resets[side]
 
     def cut(self, ticks: int) -> str:
@@ -178,14 +183,39 @@ class Past:
         few lines."""
         lines = len(self.trace) // LENGTH
         wanted = min(lines, -(-self.line_at(ticks) // LENGTH // 65536) * 65536)
-        if wanted not in self._cut:
-            name = self.fresh("trace")
-            self._put(name, self.head + self.trace[: LENGTH * wanted])
-            self._cut[wanted] = name
-            while len(self._cut) > 4:
-                with contextlib.suppress(OSError):
-                    os.unlink(os.path.join(self.folder, self._cut.pop(next(iter(self._cut)))))
-        return self._cut[wanted]
+        with self._lock:
+            if wanted not in self._cut:
+                name = self.fresh("trace")
+                self._put(name, self.head + self.trace[: LENGTH * wanted])
+                self._cut[wanted] = name
+                while len(self._cut) > 8:
+                    with contextlib.suppress(OSError):
+                        os.unlink(os.path.join(self.folder, self._cut.pop(next(iter(self._cut)))))
+            return self._cut[wanted]
+
+    def points(self, addresses: Tuple[int, ...]) -> str:
+        """A file of addresses, as `follow --points` takes it."""
+        with self._lock:
+            key = tuple(sorted(set(addresses)))
+            if key not in self._points:
+                self._points[key] = self.fresh("points")
+                self._put(self._points[key], b"".join(b"%04X\n" % it for it in key))
+            return self._points[key]
+
+    def together(self, *calls: Callable[[], object]) -> None:
+        """Replays side by side: what they find is there afterwards, and what they refuse is refused
+        again. No call may use the pool."""
+        def tried(call: Callable[[], object]) -> None:
+            with contextlib.suppress(Fault):
+                call()
+        list(self.pool.map(tried, calls))
+
+    def look(self, tick: int, sides: Sequence[str]) -> None:
+        """Finds the states at a tick and the instructions around it."""
+        if tick <= self.held:
+            machines = [self.machines[side] for side in sides]
+            self.together(*(functools.partial(way, tick) for machine in machines
+                            for way in (machine.state, machine.current)))
 
     def options(self, side: str, keys: str = "keys") -> List[str]:
         """The options of a replay of one side."""
@@ -266,8 +296,8 @@ class Past:
             raise Fault(f"where the beam is cannot be found after tick {self.held}")
         view = self.machines["host"].view
         addresses = view.storing(tick, *BEAM)
-        unknown = sum(not view.knows(address) for address in addresses)
-        if at_once and self.held * unknown > AT_ONCE:
+        is_known = all(view.knows(address) for address in addresses)
+        if at_once and not is_known and self.held > AT_ONCE:
             return None
         beam = Beam(self.second // 1000000)
         for start in view.stores_at(addresses):

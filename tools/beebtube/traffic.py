@@ -122,21 +122,24 @@ class Traffic:
 
     # --- What is in the Tube ---
 
-    def resets(self) -> Tuple[List[int], List[int], List[int]]:
+    def resets(self) -> Tuple[List[int], List[int], List[int], List[int]]:
         """The ticks at which the host's BREAK comes, those at which the second processor is reset,
-        and those of them from which its reset line holds it."""
+        those of them from which its reset line holds it, and those at which the line goes."""
         tube = Tube()
         breaks: List[int] = []
         holds: List[int] = []
+        ends: List[int] = []
         for place in self._all_kinds(CONTROLS, 0, self.end):
             access = self.access(place)
             before = tube.flags & 32
             tube.put(access)
+            if before and not tube.flags & 32:
+                ends.append(access.tick)
             if access.way == "X":
                 breaks.append(access.tick)
             elif tube.flags & 32 and not before:
                 holds.append(access.tick)
-        return breaks, sorted(breaks + holds), holds
+        return breaks, sorted(breaks + holds), holds, ends
 
     # The lines that give or take bytes of a register, from where it was empty last, and before
     # a place: a status told so, but of register 3, which waits for two bytes at times.

@@ -230,10 +230,12 @@ class View:
             found.append(self._change(address, before, tick))
         return [it for it in found if it.old != it.new]
 
-    def starts(self, low: int, high: int) -> Iterator[Start]:
-        """All starts from a tick on and below another."""
+    def starts(self, low: int, high: int, form: "Optional[re.Pattern[bytes]]" = None
+               ) -> Iterator[Start]:
+        """All starts from a tick on and below another; with a form those in whose line it is."""
         for listing in self.machine.parts(low) if low < high else ():
-            for start in listing.starts(listing.place_of(low)):
+            place = listing.place_of(low)
+            for start in listing.found(form, place) if form else listing.starts(place):
                 if start.tick >= min(high, listing.covers):
                     break
                 yield start
@@ -265,12 +267,11 @@ class View:
 
     def stores_at(self, addresses: List[int]) -> List[Start]:
         """The starts at these addresses that store to a device, in their order."""
-        self.past.cut(self.past.held)
-        machine = self.machine
-        wanted = [address for address in addresses if address not in self._stores]
-        all_starts = self.past.pool.map(lambda one: machine.every(one, machine.bound), wanted)
-        for address, starts in zip(wanted, all_starts):
-            self._stores[address] = [start for start in starts if STORED.match(start.text)]
+        wanted = tuple(address for address in addresses if address not in self._stores)
+        self._stores.update((address, []) for address in wanted)
+        for start in self.machine.every("at", wanted, self.machine.bound) if wanted else ():
+            if STORED.match(start.text):
+                self._stores[start.registers.pc].append(start)
         return sorted(start for address in addresses for start in self._stores[address])
 
     def slot(self, tick: int) -> int:

@@ -3,6 +3,7 @@ import importlib.util
 import io
 import json
 import os
+import random
 import sys
 import unittest
 from unittest import mock
@@ -12,11 +13,15 @@ from common import TOP, Case, call, put
 import beebtube
 from beebtube import past
 from beebtube.calls import Calls
+from beebtube.conditions import condition
 from beebtube.debugging import Debugger
+from beebtube.effects import BRANCHES, effects_of, sequences, touching
 from beebtube.faults import Fault
+from beebtube.listings import Start
 from beebtube.machine import Machine
 from beebtube.naming import Names
 from beebtube.program import Program
+from beebtube.report import Registers
 
 # Text after a JSR, which is gone through by the return address; a return address that is dropped; a
 # paged ROM that 00F4 does
@@ -232,6 +237,19 @@ class Answers(Case):
         self.assertEqual(self.pc(debugger), labels["after"])
         self.said(debugger, "before %04X; until %04X; return" % (labels["loop"], labels["done"]))
         self.assertEqual(self.pc(debugger), labels["after"])
+
+    def test_back_past_a_call_from_one_that_took_its_return_address(self):
+        debugger, labels = self.calls(), self.labels
+        self.said(debugger, "go 1000; until %04X; step" % labels["subrts"])
+        self.said(debugger, "previous")
+        self.assertEqual(self.pc(debugger), labels["next"] + 6)
+
+    def test_changes_of_a_short_range(self):
+        """More bytes than replays side by side."""
+        debugger, labels = self.calls(), self.labels
+        said = self.said(debugger, "go 2000; until %04X; who 71..7F" % labels["subrts"])
+        self.assertIn("\n0071: ", said)
+        self.assertEqual(self.pc(debugger), labels["sub"])
 
     def test_return_address_dropped(self):
         debugger, labels = self.calls(), self.labels
@@ -464,6 +482,81 @@ class Answers(Case):
         self.said(debugger, "para")
         self.assertRaises(Fault, self.said, debugger, "break back")
         self.assertEqual(debugger.side, "para")
+
+    def test_held_after_what_is_under_way(self):
+        """The reset line takes effect when the instruction has ended."""
+        long = IS_RESET.replace("loop:   LDA &FEF8\n", "loop:   INC &0200,X\n")
+        debugger = self.debugger(RESETS, long, 60000)
+        para, resets = debugger.past.machines["para"], debugger.past.resets("held")
+        first = [next(it for it in range(tick, tick + 40) if para.state(it).held) for tick in resets]
+        self.assertGreater(max(at - tick for at, tick in zip(first, resets)), 4)
+        for tick in first:
+            self.said(debugger, "go %d; held" % (tick - 1))
+            self.assertEqual((debugger.side, debugger.tick), ("para", tick))
+
+    def test_interrupts_by_their_vectors(self):
+        """They are found without the instructions between being listed."""
+        debugger = self.debugger(RESETS, IS_RESET, 60000)
+        self.said(debugger, "para")
+        machine = debugger.machine
+        starts = self.starts(debugger, "para")
+        found = [other.tick for one, other in zip(starts, starts[1:]) if sequences(one, other)
+                 and not any(one.tick <= it < other.tick for it in debugger.past.resets("para"))]
+        self.assertGreater(len(found), 1)
+        with mock.patch.object(machine, "parts", side_effect=AssertionError("all are listed")):
+            self.said(debugger, "go 0")
+            for tick in found:
+                self.said(debugger, "interrupt")
+                self.assertEqual(debugger.tick, tick)
+            self.assertRaises(Fault, self.said, debugger, "interrupt")
+            for tick in reversed(found[:-1]):
+                self.said(debugger, "interrupt back")
+                self.assertEqual(debugger.tick, tick)
+            self.assertRaises(Fault, self.said, debugger, "interrupt back")
+
+    def test_conditions_and_lines(self):
+        """The form of a condition is in the line of each start for which it holds."""
+        def line(start):
+            return ("%010X %04X A=%02X X=%02X Y=%02X S=%02X P=%02X %s\n" % (
+                start.tick, *start.registers[:6], start.text)).encode()
+        debugger = self.calls()
+        starts = self.starts(debugger, "host")
+        for text in ("A=48", "S<FD", "P>=80 and Y=0", "pc in C000..C0FF", "pc outside C000..C0FF",
+                     "X!=FF and pc<9000"):
+            test = condition(text, lambda _: 0, debugger.byte)
+            self.assertIsNotNone(test.form)
+            held = [it for it in starts if test(it)]
+            self.assertTrue(all(test.form.search(line(it)) for it in held), text)
+        of_memory = [condition(text, lambda _: 0, debugger.byte).form for text in (
+            "(0070)=1", "(0070)=1 and A=0")]
+        self.assertEqual([form is None for form in of_memory], [True, False])
+
+    def test_what_touches_a_range(self):
+        """Each instruction that does has the form of the range, and each that writes a pointer."""
+        rng, low_high = random.Random(1), [(0x74, 0x74), (0, 0xFF), (0x2000, 0x20FF), (0x10, 0x10),
+                                           (0xFFFE, 0xFFFF), (0x2F0, 0x310), (0xFE40, 0xFE4F)]
+        words = [*"LDA STA INC ADC TSB BIT ROR STZ STX JMP CPX".split(), *BRANCHES]
+        missed = touched = 0
+        for _ in range(3000):
+            at, wide = rng.choice((0, 0x1F, 0x20, 0x2F, 0xFE, 0xFF)), rng.random() < 0.5
+            operand = f"&{at:02X}{rng.randrange(256):02X}" if wide else f"&{rng.randrange(256):02X}"
+            form = rng.choice(("%s", "%s,X", "%s,Y", "(%s)", "(%s,X)", "(%s),Y"))
+            text = f"{rng.choice(words)} {form % operand}"
+            if text[:3] in BRANCHES:
+                text = f"{text[:3]} &C022"
+            registers = Registers(0xC000, 1, rng.randrange(256), rng.randrange(256), 0xFF, 0, False)
+            start = Start("para", 0, registers, text)
+            effects = effects_of(start, lambda at: at * 7 & 255)
+            for low, high in low_high:
+                of_form = touching(low, high).search(f" P=00 {text}\n".encode())
+                reached = effects.reads + [it for it, _ in effects.writes]
+                if any(low <= it <= high for it in reached) or any(
+                        it < 0x100 for it, _ in effects.writes):
+                    touched += 1
+                    missed += of_form is None
+        self.assertGreater(touched, 1000)
+        self.assertEqual(missed, 0)
+        self.assertIsNone(touching(0x1F0, 0x200))
 
     def test_marks(self):
         debugger = self.debugger(LOSES, TAKES)
