@@ -275,7 +275,7 @@ class Running:
             self.full = self.full or (done.fault if done.no_room else "")
             self.end(at, entry, result, fault, True)
             for other in others if not self.full else ():
-                # What else is wanted of it (its files, under its name) is looked at anew.
+                # The other runs of this key take the stored result, under names of their own.
                 self.begin(*other)
 
     def end(self, at: int, entry: Entry, result: Optional[Result], fault: str, is_ran: bool = False) -> None:
