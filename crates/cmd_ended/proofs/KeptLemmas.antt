@@ -36,7 +36,8 @@ use Rattle.cmd_ended.specs.Code.{AreFirst, AreKept, AreFiles}
 
 -- ---- taking of merged lists
 
-by_first : (t : Bool) (k : ℕ) (a b : Event) (p q r s : List Event) → take k p ≡ take k q → take k r ≡ take k s → take (suc k) (cond t (b ∷ p) (a ∷ r)) ≡ take (suc k) (cond t (b ∷ q) (a ∷ s))
+by_first : (t : Bool) (k : ℕ) (a b : Event) (p q r s : List Event) → take k p ≡ take k q → take k r ≡ take k s
+    → take (suc k) (cond t (b ∷ p) (a ∷ r)) ≡ take (suc k) (cond t (b ∷ q) (a ∷ s))
 by_first t k a b p q r s one two = grind arith
 
 -- the first k of a merge are those of the merge of the first k of each
@@ -124,7 +125,8 @@ of_one_side s list keep own rises is = record {
 }
 
 -- the accesses kept of both sides
-pub of_both_sides : (n : ℕ) (list : List Event) (keep : ℕ) (host para : List Entry) → RisingListIsMerge → AreFirst n list keep host para → of_both keep host para ≡ take keep (accesses list)
+pub of_both_sides : (n : ℕ) (list : List Event) (keep : ℕ) (host para : List Entry) → RisingListIsMerge → AreFirst n list keep host para
+    → of_both keep host para ≡ take keep (accesses list)
 of_both_sides n list keep host para law first =
     let whole = events_of (accesses list) in
     let least : keep ≤ keep = omega arith in
@@ -190,7 +192,8 @@ pub few_counted : (n : ℕ) (list : List Event) (host para : ℕ) → n ≤ 1073
 few_counted n list host para most is is_host is_para = omega (arith, counted list host para is_host is_para, few_all n (accesses list) is.below is.rises, most)
 
 -- the accesses kept of both sides, as the lists passed on
-pub first_of : {H P : Type 0} (n : ℕ) (list : List Event) (keep : ℕ) (d : Done H P) (host para : List Entry) → AreKept n list keep d → host ≡ d.host_list.items → para ≡ d.para_list.items →
+pub first_of : {H P : Type 0} (n : ℕ) (list : List Event) (keep : ℕ) (d : Done H P) (host para : List Entry) → AreKept n list keep d
+    → host ≡ d.host_list.items → para ≡ d.para_list.items →
     AreFirst n list keep host para
 first_of n list keep d host para kept is_host is_para =
     record { most = kept.most; trace = kept.trace; host_is = is_host ∙ kept.host_kept.list_is; para_is = is_para ∙ kept.para_kept.list_is }

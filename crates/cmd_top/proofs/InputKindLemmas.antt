@@ -20,7 +20,8 @@ pub slots_below : (ws : List (Want InputKind)) (list : Inputs InputKind) (i : he
 unfolding inputs.inputs_of
 slots_below ws list i fits rise is =
     let wanted : map (λ (x : ℕ × Vec ℕ Global). x.0) i.roms.items ≡ filter_map rom_slot (map (λ (w : Want InputKind). w.0) ws) =
-    numbers_seen i ∙ ap (λ (x : inputs.Inputs). numbers_of x.roms) is ∙ numbers_read list inputs.no_inputs ∙ ap (λ (slots : List InputKind). filter_map rom_slot slots) (same_slots ws list fits) in
+    numbers_seen i ∙ ap (λ (x : inputs.Inputs). numbers_of x.roms) is ∙ numbers_read list inputs.no_inputs
+    ∙ ap (λ (slots : List InputKind). filter_map rom_slot slots) (same_slots ws list fits) in
     below_at i.roms.items 0 (rw wanted rise)
 
 -- ---- the length of the key script

@@ -122,7 +122,8 @@ right_trace : (w : Option (ℕ × ℕ)) (v : Verdict Ending) → endings.Done �
 right_trace None v done = refl
 right_trace (Some w) v done = cc
 
-no_place : {S : Type 0} (done : S → Verdict Ending) (s : S) (place : Option (ℕ × Option Doing)) → endings.Done ≡ (verdict_of_place done s place).ending → verdict_of_place done s place ≡ done s
+no_place : {S : Type 0} (done : S → Verdict Ending) (s : S) (place : Option (ℕ × Option Doing))
+    → endings.Done ≡ (verdict_of_place done s place).ending → verdict_of_place done s place ≡ done s
 no_place done s None is = refl
 no_place done s (Some place) is = cc
 
@@ -139,7 +140,8 @@ placed done s place w v is ends =
     is ∙ right ∙ no_place done s place (fine ∙ ap (λ (x : Verdict Ending). x.ending) right)
 
 -- a session that ended with `Done`: its machines' reference run
-pub session_done : (plugs : List Plug) (ticks keep : ℕ) (names : Names) (i : Inputs) (v : Verdict Ending) → or_stop (session_after plugs ticks keep names i) ≡ Ok v → endings.Done ≡ v.ending →
+pub session_done : (plugs : List Plug) (ticks keep : ℕ) (names : Names) (i : Inputs) (v : Verdict Ending)
+    → or_stop (session_after plugs ticks keep names i) ≡ Ok v → endings.Done ≡ v.ending →
     (s : sessions.Session) × (m : HostState × ParaState) × (state_of i.state ≡ Ok s) × (machines_of (setup_in s plugs) (inputs_in s) ≡ Ok m)
     × (v ≡ kept_verdict s.clock (begun_if names.save (setup_in s plugs) (inputs_in s)) ticks keep names (reference host_transitions para_transitions m.0 m.1 ticks))
 unfolding session_after session_ended
@@ -159,7 +161,8 @@ session_done plugs ticks keep names i v comes done =
 -- The files have the sound file of a host under the name, if the session file has another name.
 abbrev Hears : Values → ℕ → List ℕ → Option Files → Result (Clock × HostState) (Refusal Cause) → Type 0
 Hears given ticks name new host =
-    (clock : Clock) × (last : HostState) × (host ≡ Ok (clock, last)) × ((save_of given ≡ Some name → ⊥) → IfSome new (λ files. bytes_of files name ≡ Some (sound_bytes clock ticks last)))
+    (clock : Clock) × (last : HostState) × (host ≡ Ok (clock, last))
+    × ((save_of given ≡ Some name → ⊥) → IfSome new (λ files. bytes_of files name ≡ Some (sound_bytes clock ticks last)))
 
 module _ (plugs : List Plug) (ticks : ℕ) (out : List ℕ) (given : Values) (name : List ℕ) (wav : wav_of given ≡ Some name) (i : Inputs)
     (v : Verdict Ending) (old new : Option Files) (is : new ≡ put_all v.files old) where
@@ -194,7 +197,8 @@ module _ (plugs : List Plug) (ticks : ℕ) (out : List ℕ) (given : Values) (na
             w.host name old new refl wav differ (is ∙ ap (λ (x : Verdict Ending). put_all x.files old) got.4),
       )
 
-  replay_heard : or_stop (replay_after (setup_of given plugs) Host ticks (names_of out given) i) ≡ Ok v → endings.Done ≡ v.ending → Hears given ticks name new (replayed_host plugs ticks given i)
+  replay_heard : or_stop (replay_after (setup_of given plugs) Host ticks (names_of out given) i) ≡ Ok v → endings.Done ≡ v.ending
+      → Hears given ticks name new (replayed_host plugs ticks given i)
   unfolding replay_after replayed
   replay_heard comes done =
       let left : ℕ → HostState → Left = λ tube s. host_left (clock_of given) ticks tube (names_of out given) s in

@@ -25,7 +25,8 @@ pub places_set : (words : List (String Global)) (places : List (Option ℕ)) (pl
 places_set words places place at h = map-set (value_of words) places place (Some at) ∙ ap (λ v. slice_set (map (value_of words) places) place v) (word_there words at h)
 
 -- the files from a key on
-pub files_more : (ws more : List (InputKind × List ℕ × ℕ)) (i : ℕ) (values : Values) → i < COUNT → length values ≡ COUNT → more ≡ ws ++ file_of (key_at i).value (value_at values i) →
+pub files_more : (ws more : List (InputKind × List ℕ × ℕ)) (i : ℕ) (values : Values) → i < COUNT → length values ≡ COUNT
+    → more ≡ ws ++ file_of (key_at i).value (value_at values i) →
     more ++ files_of (drop (i + 1) keys) (drop (i + 1) values) ≡ ws ++ files_of (drop i keys) (drop i values)
 files_more ws more i values h len is =
     rw (is, append_assoc, key_split i h, drop_more values i None (rw len h))

@@ -162,7 +162,8 @@ module _ {part : Part} {m : Progress} (op : ℕ) (p : m.phase ≡ phase.Opcode) 
       goes b (λ f. branch-seen part taken m.work (Some op) None f) (λ f. refl) (branch-first part taken m.work (None ∷ [])) refl refl
   goes_by _ w b v n k = goes b (λ f. refl) (λ f. refl) refl refl refl
 
-pub goes_on : {part : Part} {m : Progress} {op : ℕ} {s : Start} → op < 256 → m.phase ≡ phase.Opcode → row_at part op ≡ Some m.row → s ≡ start_at part op → (s.phase ≡ phase.Opcode → ⊥)
+pub goes_on : {part : Part} {m : Progress} {op : ℕ} {s : Start} → op < 256 → m.phase ≡ phase.Opcode → row_at part op ≡ Some m.row
+    → s ≡ start_at part op → (s.phase ≡ phase.Opcode → ⊥)
     → GoesOn part m op (start_leaves s m)
 goes_on {part} {m} {op} h p e is n =
     let same = is ∙ ap (start_in part) e in

@@ -71,7 +71,8 @@ module _ {part : Part} {M : Type 0} {g : Reach M} {t : ℕ} {row : Row} {always 
   next-is f = rw decoded (same f)
 
   -- the first j accesses of that list
-  so-far : (j : ℕ) (last : List (Option ℕ)) (there : M) → Follows g t next j reached.seen m last there → {k : ℕ} → k ≡ n + j → Carried g t part k (fresh Instruction r) m (behind r code last) there
+  so-far : (j : ℕ) (last : List (Option ℕ)) (there : M) → Follows g t next j reached.seen m last there → {k : ℕ} → k ≡ n + j
+      → Carried g t part k (fresh Instruction r) m (behind r code last) there
   so-far j last there follows count =
       from_fetch g t part row r m p decoded next same (more_by reached.seen j) last there (reached.goes tail j last there follows) (omega (arith, more_by-suc reached.seen j, reached.count, count))
 
@@ -151,7 +152,8 @@ module _ {part : Part} {M : Type 0} {g : Reach M} {t : ℕ} {row : Row} {r : Reg
   stored uses reached plain {there = there} count is put =
       let v : ℕ = stored_value row.mnemonic r in
       let tail : List (Option ℕ) → List Cycle = written_of row.mode r (g.byte m r.pc) v in
-      let here : on_the_way part row.mode (waits part Stores) r (g.byte m r.pc) tail reached.seen ≡ Some (Write at v) = next-first reached tail ∙ ap (λ a. Some (Write a v)) (found-first reached) in
+      let here : on_the_way part row.mode (waits part Stores) r (g.byte m r.pc) tail reached.seen ≡ Some (Write at v) =
+      next-first reached tail ∙ ap (λ a. Some (Write a v)) (found-first reached) in
       whole p decoded reached uses tail (λ f. refl) (None ∷ [])
       (rw here (plain, (refl, rw (← reached.count) (sym put)))) refl count is (ap (λ (q : Regs). has_flag q.p INTERRUPT) is)
 

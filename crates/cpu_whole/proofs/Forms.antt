@@ -28,12 +28,14 @@ on_stack lawful r k = lawful.low_read (stack r k) (omega arith)
 
 module _ {M : Type 0} {g : Reach M} {t : ℕ} {part : Part} {row : Row} {r : Regs} {m : M} (runs : AreRead g r.pc) (decoded : row_at part (g.byte m r.pc) ≡ Some row) where
   -- by the list of its accesses after that of the opcode
-  by_list : {uses : BusUse} → bus_use row.mnemonic ≡ uses → (list : List (Option ℕ) → List Cycle) → ((f : List (Option ℕ)) → form part uses row r (Some (g.byte m r.pc) ∷ f) ≡ list f)
+  by_list : {uses : BusUse} → bus_use row.mnemonic ≡ uses → (list : List (Option ℕ) → List Cycle)
+      → ((f : List (Option ℕ)) → form part uses row r (Some (g.byte m r.pc) ∷ f) ≡ list f)
       → (k : ℕ) (last : List (Option ℕ)) {there : M} → Follows g t (λ f. slice_get (list f) (length f)) k [] m last there → slice_get (list last) (length last) ≡ None
       → {n : ℕ} {new : Regs} → n ≡ suc k → new ≡ after_row part uses row r (Some (g.byte m r.pc) ∷ last)
       → has_flag (after_row part uses row r (Some (g.byte m r.pc) ∷ last)).p INTERRUPT ≡ has_flag r.p INTERRUPT → IsDone part g t r m n new there
   by_list {uses} is_use list forms k last {there} follows past count is kept =
-      let same : (f : List (Option ℕ)) → slice_get (form part (bus_use row.mnemonic) row r (Some (g.byte m r.pc) ∷ f)) (length f) ≡ slice_get (list f) (length f) = λ f. rw (is_use, forms f) in
+      let same : (f : List (Option ℕ))
+      → slice_get (form part (bus_use row.mnemonic) row r (Some (g.byte m r.pc) ∷ f)) (length f) ≡ slice_get (list f) (length f) = λ f. rw (is_use, forms f) in
       record {
         last = behind r (g.byte m r.pc) last;
         carried = from_fetch g t part row r m runs.first decoded (λ f. slice_get (list f) (length f)) same k last there follows count;

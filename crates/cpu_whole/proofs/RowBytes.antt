@@ -66,7 +66,8 @@ of_accumulator part op {row} decoded uses mode =
     let form = formed part op row decoded (λ spare e. let no : Spare ≡ Acc = sym spare ∙ mode in cc) in
     subst (λ (r : Row). r.bytes ≡ bytes_of r.mode) form.1.1 refl ∙ ap bytes_of mode
 
-pub of_alone : (part : Part) (op : ℕ) {row : Row} → row_at part op ≡ Some row → is_alone (bus_use row.mnemonic) ≡ true → (row.mode ≡ Spare → bus_use row.mnemonic ≡ Implied → ⊥) → row.bytes ≡ 1
+pub of_alone : (part : Part) (op : ℕ) {row : Row} → row_at part op ≡ Some row → is_alone (bus_use row.mnemonic) ≡ true
+    → (row.mode ≡ Spare → bus_use row.mnemonic ≡ Implied → ⊥) → row.bytes ≡ 1
 of_alone part op {row} decoded alone apart =
     let form = formed part op row decoded apart in
     let f : Form = form.0 in

@@ -101,7 +101,8 @@ row_moves c true true z e f none bits few two =
     end_moves true most = frame_moves c.registers _ two most
     end_moves false most = (refl, omega arith)
 
-moves_in : (adjust : Option ℕ) (c : State) → c.adjust ≡ adjust → HaveTheirBits c.registers → c.registers.vertical_sync_position < 128 → 2 ≤ lines_before_sync_in c.registers adjust c.row c.raster →
+moves_in : (adjust : Option ℕ) (c : State) → c.adjust ≡ adjust → HaveTheirBits c.registers → c.registers.vertical_sync_position < 128
+    → 2 ≤ lines_before_sync_in c.registers adjust c.row c.raster →
     Moves (lines_before_sync_in c.registers adjust c.row c.raster) (line_ended_in adjust (record c { character = 0 }))
 moves_in None c none bits few two = row_moves (record c { character = 0 }) _ _ _ refl refl none bits few two
 moves_in (Some a) c some bits few two = adjust_moves ((a + 1) % 32 == c.registers.vertical_adjust)

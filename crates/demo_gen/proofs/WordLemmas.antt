@@ -21,7 +21,8 @@ none_left {n} g all =
     rw none refl
 
 -- the drawn bytes and the bytes that are left are always all of them
-pub next_left : {n : ℕ} (g h : Lcg) (b : ℕ) (bytes more all : List ℕ) → n < 256 → b ≡ (pcg32 g).0 % 256 → h ≡ (pcg32 g).1 → more ≡ bytes ++ b ∷ [] → bytes ++ left n g ≡ all →
+pub next_left : {n : ℕ} (g h : Lcg) (b : ℕ) (bytes more all : List ℕ) → n < 256 → b ≡ (pcg32 g).0 % 256 → h ≡ (pcg32 g).1 → more ≡ bytes ++ b ∷ []
+    → bytes ++ left n g ≡ all →
     more ++ left (n + 1) h ≡ all
 next_left {n} g h b bytes more all less byte after pushed before =
     let one : b ∷ left (n + 1) h ≡ left n g = rw (byte, after) (sym (one_left g less)) in

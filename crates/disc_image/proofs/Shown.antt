@@ -51,7 +51,8 @@ sector_is kind len whole side track sector is has room =
     let within : place kind side track sector 0 + 256 ≤ length whole = omega (arith, is.size) in
     rw has (ap Some (sym (sector_read len whole (place kind side track sector 0) is.rest within)))
 
-put_at : (len end p v n : ℕ) (whole : List ℕ) → ((n : ℕ) → len ≤ n → get_or whole n 0 ≡ 0) → p < length whole → p < length (take len whole ++ replicate (end - length (take len whole)) 0) →
+put_at : (len end p v n : ℕ) (whole : List ℕ) → ((n : ℕ) → len ≤ n → get_or whole n 0 ≡ 0) → p < length whole
+    → p < length (take len whole ++ replicate (end - length (take len whole)) 0) →
     get_or (set whole p v) n 0 ≡ get_or (set (take len whole ++ replicate (end - length (take len whole)) 0) p v) n 0
 put_at len end p v n whole rest room inside =
     elim (cases_eq n p) [

@@ -78,7 +78,8 @@ module _ {X S T : Type 0} {state : X → S} {m : Transitions S} {inside : X → 
   abbrev replayed : Part → Choice → Kept → Ended (Watched T)
   replayed part choice kept = replay_of (watched_transitions w sights) side trace n (watched_of (inside x) (order part choice) kept)
 
-  pub place_told : {part p : Part} {choice c : Choice} {kept : Kept} {place : Option (ℕ × Option Doing)} → p ≡ part → c ≡ choice → kept ≡ none_kept → place ≡ (replayed p c kept).place
+  pub place_told : {part p : Part} {choice c : Choice} {kept : Kept} {place : Option (ℕ × Option Doing)} → p ≡ part → c ≡ choice → kept ≡ none_kept
+      → place ≡ (replayed p c kept).place
       → (replay_of m side trace n (state x)).place ≡ place
   place_told one two none is = rw (is, one, two, none, replay_watched) (sym (place_inside same side trace n x))
 

@@ -40,7 +40,8 @@ module _ {S : Type 0} {m : Transitions S} {n : ℕ} {lines : Lines} {safe_until 
   pub stops : {new : S} {ask : Ask} → Advances m n cur ask new → IsNotSafe safe_until ask → LookRunToAsk m n (shown_lines lines safe_until) old ask new
   stops told not_safe = stops_there m n lines safe_until old cur _ _ (looks_on m n lines safe_until first.0 more.0 old mid cur first.1 more.1) told not_safe
 
-  pub sees_on : {at new : S} {ask : Ask} {t : Tick} → Advances m n cur ask at → ask ≡ Look t → t.0 < safe_until → new ≡ m.next at (Some (Seen lines)) → (k : ℕ) × Looks m n (shown_lines lines safe_until) k old new
+  pub sees_on : {at new : S} {ask : Ask} {t : Tick} → Advances m n cur ask at → ask ≡ Look t → t.0 < safe_until → new ≡ m.next at (Some (Seen lines))
+      → (k : ℕ) × Looks m n (shown_lines lines safe_until) k old new
   sees_on told is early answered = sees_one_more m n lines safe_until old cur _ _ _ _ (looks_on m n lines safe_until first.0 more.0 old mid cur first.1 more.1) told is early answered
 
 -- ---- A party that is watched

@@ -77,7 +77,8 @@ module _ (v : List ℕ) (long : length v ≡ 16) (fits : Each1 (Fits w8) v) wher
 thirds : (xs : List ℕ) → take 16 xs ++ (take 16 (drop 16 xs) ++ drop 32 xs) ≡ xs
 thirds xs = rw (← drop-drop 16 16 xs, take-append-drop 16 (drop 16 xs)) (take-append-drop 16 xs)
 
-pub added : (old first next last one two three all : List ℕ) → one ≡ old ++ first → two ≡ one ++ next → three ≡ two ++ last → first ≡ take 16 all → next ≡ take 16 (drop 16 all) →
+pub added : (old first next last one two three all : List ℕ) → one ≡ old ++ first → two ≡ one ++ next → three ≡ two ++ last → first ≡ take 16 all
+    → next ≡ take 16 (drop 16 all) →
     last ≡ drop 32 all → three ≡ old ++ all
 added old first next last one two three all a b c d e f =
     rw (c, b, a, append_assoc (old ++ first) next last, append_assoc old first (next ++ last), d, e, f) (ap (λ (xs : List ℕ). old ++ xs) (thirds all))

@@ -78,7 +78,8 @@ idle_first far (suc k) s last query idle silent asked = elim (cases_lt s.due far
   | inr high ↦ let rises : s.due ≤ last.due = silent_rises host_transitions (suc k) s last host_lawful silent in omega (arith, high, rises)
 ]
 
-pub idle_quiet : (s : HostState) (far q : ℕ) → halted s.cpu ≡ true → (s.bus.tube && is_tube s.cpu.regs.pc) ≡ false → IsFree far s.bus.bus → q ≡ max s.due far → IsQuiet host_transitions s q
+pub idle_quiet : (s : HostState) (far q : ℕ) → halted s.cpu ≡ true → (s.bus.tube && is_tube s.cpu.regs.pc) ≡ false → IsFree far s.bus.bus
+    → q ≡ max s.due far → IsQuiet host_transitions s q
 idle_quiet s far q halts apart free is =
     let idle : IsIdle far s = record { halts = halts; apart = apart; free = free } in
     let here : IsQuiet host_transitions s s.due = quiet_at_due host_transitions s s.due host_lawful refl in

@@ -10,7 +10,7 @@ use Rattle.host_bus.specs.AtTube.{tube-read, tube-write, tube-fast}
 use Rattle.tube_chip.specs.Act.{access}
 use Rattle.tube_chip.specs.declared.Op.{Op}
 use Rattle.tube_machine.specs.Step.{asks_by}
-use Rattle.tube_machine.specs.Exchange.{IsAtTube, IsSkipping}
+use Rattle.tube_machine.specs.Exchange.{IsAtTube, IsOneCycle}
 use Rattle.host_mach.specs.State.{HostBusState}
 use Rattle.host_mach.specs.Step.{is_tube, host_bus_model, address, bus_after, cycle_ticks}
 
@@ -45,7 +45,7 @@ asked_at : (h : HostBusState) (c : Cycle) (o : Op) → asks_by host_bus_model h 
 asked_at h c o asks t = grind arith
 
 -- so a port may answer it
-pub tube-skip : (h : HostBusState) (c : Cycle) (o : Op) → asks_by host_bus_model h (Some c) ≡ Some (access o) → IsSkipping host_bus_model h c o
+pub tube-skip : (h : HostBusState) (c : Cycle) (o : Op) → asks_by host_bus_model h (Some c) ≡ Some (access o) → IsOneCycle host_bus_model h c o
 tube-skip h c o asks = record {
   asks = asks;
   leaves = λ t. ap (λ (x : BusState). record (host_bus_model.close h t) { bus = x }) (tube-leaves (host_bus_model.close h t) c (asked_at h c o asks t));

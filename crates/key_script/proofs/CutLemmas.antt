@@ -36,7 +36,8 @@ has_word (b ∷ line) =
     ]
 
 -- four words after the tick have no meaning
-pub too_many_words : (word second third fourth rest words : List ℕ) → words_of words ≡ second ∷ words_of rest → words_of rest ≡ third ∷ words_of fourth → None ≡ what_of (word ∷ words_of words)
+pub too_many_words : (word second third fourth rest words : List ℕ) → words_of words ≡ second ∷ words_of rest
+    → words_of rest ≡ third ∷ words_of fourth → None ≡ what_of (word ∷ words_of words)
 too_many_words word second third fourth rest words one two = let has = has_word fourth in rw (one, two, has.words) refl
 
 -- the words, by a cut

@@ -161,7 +161,8 @@ more_below (suc u) {t} events has from high =
     omega (arith, more, until_is u events, until_is t events)
 
 -- If none is pending at a tick, all breaks up to it are taken, and no later one.
-all_taken : {low : ℕ} (u : ℕ) {taken : ℕ} (events : List Event) → taken ≡ below low events → low ≤ u + 1 → nat_lt taken (breaks_until u events) ≡ false → taken ≡ below (suc u) events
+all_taken : {low : ℕ} (u : ℕ) {taken : ℕ} (events : List Event) → taken ≡ below low events → low ≤ u + 1
+    → nat_lt taken (breaks_until u events) ≡ false → taken ≡ below (suc u) events
 all_taken {low} u {taken} events is high none =
     let most : breaks_until u events ≤ taken = grind (arith, nat_tests, none) in
     let least = below_up low u events high in
@@ -302,7 +303,8 @@ module _ (s : HostState) (a : Option Answer) (c : Cycle) (next : next_cycle s.cp
       ap (λ (x : HostState). x.due) (plain_by s a free next)
       ∙ due_by (bus_break_pending s.bus.bus end_tick) (halted s.cpu) (is_none (next_cycle (after_byte s.cpu (byte_of (host_closed s (s.due + 1)).bus s.due a c)))) pending is stopped never_over
     where
-      due_by : (p h over pending : Bool) → p ≡ pending → h ≡ true → over ≡ false → (if (p && h) || over then end_tick else s.due + ticks_at s c) ≡ (if pending then end_tick else s.due + ticks_at s c)
+      due_by : (p h over pending : Bool) → p ≡ pending → h ≡ true → over ≡ false
+          → (if (p && h) || over then end_tick else s.due + ticks_at s c) ≡ (if pending then end_tick else s.due + ticks_at s c)
       due_by true true false true ep eh eo = refl
       due_by false true false false ep eh eo = refl
       due_by true h over false ep eh eo = cc
@@ -547,7 +549,8 @@ module _ (keeps : HostKeepsCycles) (script : List Event) where
   chance_some {c} s next runs at =
       let none : chance s ≡ None = ap (λ o. chance_by o (halted s.cpu) s) next ∙ ap (λ b. chance_by (Some c) b s) runs in cc
 
-  breaks_by : (o : Option Cycle) (us : List ℕ) (s : HostState) (t : ℕ) → next_cycle s.cpu ≡ o → Inv script us s → chance s ≡ Some t → bus_break_pending s.bus.bus t ≡ true → BreaksAt t s
+  breaks_by : (o : Option Cycle) (us : List ℕ) (s : HostState) (t : ℕ) → next_cycle s.cpu ≡ o → Inv script us s → chance s ≡ Some t
+      → bus_break_pending s.bus.bus t ≡ true → BreaksAt t s
   breaks_by None us s t over inv at pending =
       let here : Some s.due ≡ Some t = sym (ap (λ o. chance_by o (halted s.cpu) s) over) ∙ at in
       let same : s.due ≡ t = cc in

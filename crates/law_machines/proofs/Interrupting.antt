@@ -115,7 +115,8 @@ choice_few false true r {seen} {taken} is low = by_flag (has_flag r.p INTERRUPT)
     by_flag false = omega arith
 choice_few false false r is low = omega arith
 
-look_few : (resets prst : Bool) (h r t : para.ParaState) {taken seen : ℕ} → taken ≤ seen → begun h.cpu ≡ None → h.bus.nmis ≡ taken → begun r.cpu ≡ Some Reset → r.bus.nmis ≡ seen →
+look_few : (resets prst : Bool) (h r t : para.ParaState) {taken seen : ℕ} → taken ≤ seen → begun h.cpu ≡ None → h.bus.nmis ≡ taken
+    → begun r.cpu ≡ Some Reset → r.bus.nmis ≡ seen →
     taken + weight 1 (is_nmi (begun t.cpu)) ≤ t.bus.nmis →
     taken + weight 1 (is_nmi (begun (if resets then (if prst then h else r) else t).cpu)) ≤ (if resets then (if prst then h else r) else t).bus.nmis
 look_few true true h r t low bh nh br nr few = rw (bh, nh) (omega arith)

@@ -84,7 +84,8 @@ begins true true due h r t eh er et free = absurd (true≢false (sym eh ∙ free
 begins true false due h r t eh er et free = er
 begins false prst due h r t eh er et free = et
 
-looks_on : (o : Option Cycle) (s : ParaState) (a : Option Answer) → o ≡ None → (after_step Cmos para_bus_model o s a).bus.is_held ≡ false → (after_step Cmos para_bus_model o s a).due ≡ s.due + 1
+looks_on : (o : Option Cycle) (s : ParaState) (a : Option Answer) → o ≡ None → (after_step Cmos para_bus_model o s a).bus.is_held ≡ false
+    → (after_step Cmos para_bus_model o s a).due ≡ s.due + 1
 looks_on None s a over free = let l = lines_in a in begins (not (l.resets == s.bus.resets)) l.prst s.due _ _ _ refl refl refl free
 looks_on (Some c) s a over free = cc
 

@@ -112,7 +112,8 @@ find : (answers : List (Option Answer)) {s : ParaState} → Last s answers ⊎ N
 find [] = inr tt
 find (a ∷ answers) {s} = found (find answers) (by_test (begun (next_state s a).cpu))
   where
-    found : Last (next_state s a) answers ⊎ NoReset answers (next_state s a) → IsReset (next_state s a) ⊎ (IsReset (next_state s a) → ⊥) → Last s (a ∷ answers) ⊎ NoReset (a ∷ answers) s
+    found : Last (next_state s a) answers ⊎ NoReset answers (next_state s a) → IsReset (next_state s a) ⊎ (IsReset (next_state s a) → ⊥)
+        → Last s (a ∷ answers) ⊎ NoReset (a ∷ answers) s
     found (inl l) here = inl (later s a answers l)
     found (inr none) (inl is) = inl (later s a answers (record { before = []; after = answers; split = refl; reset = is; none = none }))
     found (inr none) (inr not) = inr (not, none)

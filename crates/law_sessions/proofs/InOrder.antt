@@ -393,7 +393,8 @@ module _ (lengths : LengthsComeFirst) (plugs : List Plug) (files : Files) (c : C
       ∙ ap (λ (n : List ℕ). Err (stops.ReadFault n)) is in
       lands status (Err (stops.ReadFault name)) (stopped (Err (stops.ReadFault name)) stop) end
 
-  by_bytes : (status : Status) (name : List ℕ) (o : Option (List ℕ)) → bytes_of files name ≡ o → end_of status ≡ Some (Err (stops.ReadFault name)) → IsReached Cause (reads c) name files →
+  by_bytes : (status : Status) (name : List ℕ) (o : Option (List ℕ)) → bytes_of files name ≡ o → end_of status ≡ Some (Err (stops.ReadFault name))
+      → IsReached Cause (reads c) name files →
       Contains (read_names (reads c)) name → Rose (old.shelf.faults name) (new.shelf.faults name) → NoFault plugs files old new c → status ≡ first_of the_causes
   by_bytes status name None is end reached wanted rose none = unread_lands status name end reached is
   by_bytes status name (Some bytes) is end reached wanted rose none = absurd (rose_not_stayed _ _ rose (none.read name bytes wanted is))

@@ -43,7 +43,8 @@ pub next_held : (s : ParaState) (a : Option Answer) → IsHeldAtLook s → IsHel
 next_held s a held = step_by (next_cycle s.cpu) (closed_to para_bus_model s (s.due + 1)) a refl held
 
 module _ (n : ℕ) (lines : Lines) (safe_until : ℕ) where
-  looks_by : (k : ℕ) (s last : ParaState) (o : Option Query) → IsHeldAtLook s → ((u : ParaState) → IsHeldAtLook u → Looks para_transitions n (shown_lines lines safe_until) k u last → IsHeldAtLook last)
+  looks_by : (k : ℕ) (s last : ParaState) (o : Option Query) → IsHeldAtLook s
+      → ((u : ParaState) → IsHeldAtLook u → Looks para_transitions n (shown_lines lines safe_until) k u last → IsHeldAtLook last)
       → After para_transitions n lines safe_until k s last o → IsHeldAtLook last
   looks_by k s last None held on h = on (next_state s None) (next_held s None held) h
   looks_by k s last (Some q) held on h = on (next_state s (Some (Seen lines))) (next_held s (Some (Seen lines)) held) h.2
@@ -68,8 +69,10 @@ module _ {n : ℕ} {lines : Lines} {safe_until : ℕ} {old new : ParaState} {ask
   pub sees_held : LookRunToAsk para_transitions n (shown_lines lines safe_until) old ask new → IsHeldAtLook new
   sees_held sees = ask_held n lines safe_until sees.last new ask (looks_held n lines safe_until sees.steps old sees.last held sees.looks) sees.asked
 
-  pub port_run_to_ask_held : {D : Type 0} {answers : D → ℕ → Op → ℕ → D → Type 0} {d e : D} → PortRunToAsk para_transitions answers n (shown_lines lines safe_until) old d ask new e → IsHeldAtLook new
-  port_run_to_ask_held {answers = answers} {d} {e} port_run_to_ask = ask_held n lines safe_until port_run_to_ask.last new ask (port_run_held n lines safe_until answers port_run_to_ask.accesses old port_run_to_ask.last d e held port_run_to_ask.port_run) port_run_to_ask.asked
+  pub port_run_to_ask_held : {D : Type 0} {answers : D → ℕ → Op → ℕ → D → Type 0} {d e : D}
+      → PortRunToAsk para_transitions answers n (shown_lines lines safe_until) old d ask new e → IsHeldAtLook new
+  port_run_to_ask_held {answers = answers} {d} {e} port_run_to_ask =
+      ask_held n lines safe_until port_run_to_ask.last new ask (port_run_held n lines safe_until answers port_run_to_ask.accesses old port_run_to_ask.last d e held port_run_to_ask.port_run) port_run_to_ask.asked
 
 -- ---- Held
 
@@ -85,7 +88,8 @@ pub record IsHeldOn (n : ℕ) (lines : Lines) (safe_until : ℕ) (start s : Para
   pub kept : part_kept s.bus.ram s.bus ≡ part_kept start.bus.ram start.bus
   pub before : s.bus.closed ≤ s.due + 1
 
-pub held_more : {n : ℕ} {lines : Lines} {safe_until : ℕ} {start s new : ParaState} → IsHeldOn n lines safe_until start s → lines.prst ≡ true → (lines.resets ≡ start.bus.resets → ⊥) → s.due < n → s.due < safe_until →
+pub held_more : {n : ℕ} {lines : Lines} {safe_until : ℕ} {start s new : ParaState} → IsHeldOn n lines safe_until start s → lines.prst ≡ true
+    → (lines.resets ≡ start.bus.resets → ⊥) → s.due < n → s.due < safe_until →
     new ≡ next_state s (Some (Seen lines)) → new.bus.closed ≤ new.due + 1 → IsHeldOn n lines safe_until start new
 held_more {n} {lines} {safe_until} {start} {s} {new} so_far stands other low early is before =
     let same : s.bus.resets ≡ start.bus.resets = ap (λ (b : ParaBusState). b.resets) so_far.kept in
@@ -104,13 +108,16 @@ held_more {n} {lines} {safe_until} {start} {s} {new} so_far stands other low ear
 
 -- the steps of a run, and the next ask; its looks may be nearer than they need be
 module _ (n : ℕ) (lines : Lines) {near safe_until : ℕ} {D : Type 0} (answers : D → ℕ → Op → ℕ → D → Type 0) (low : near ≤ safe_until) where
-  port_run_wider : (j : ℕ) (s last : ParaState) (d e : D) → PortRun para_transitions answers n (shown_lines lines near) j s d last e → PortRun para_transitions answers n (shown_lines lines safe_until) j s d last e
+  port_run_wider : (j : ℕ) (s last : ParaState) (d e : D) → PortRun para_transitions answers n (shown_lines lines near) j s d last e
+      → PortRun para_transitions answers n (shown_lines lines safe_until) j s d last e
   port_run_wider zero s last d e h = (h.0, (h.1.0, looks_wider para_transitions n lines near safe_until h.1.0 s last low h.1.1))
   port_run_wider (suc j) s last d e h = (h.0, h.1, h.2, (h.3.0, looks_wider para_transitions n lines near safe_until h.3.0 s h.0 low h.3.1), h.4, port_run_wider j h.1 last h.2 e h.5)
 
 module _ {n : ℕ} {lines : Lines} {near safe_until : ℕ} {D : Type 0} {answers : D → ℕ → Op → ℕ → D → Type 0} (low : near ≤ safe_until) {old new : ParaState} {d e : D} {ask : Ask} where
-  pub port_run_to_ask_wider : PortRunToAsk para_transitions answers n (shown_lines lines near) old d ask new e → PortRunToAnyAsk para_transitions answers n (shown_lines lines safe_until) old d ask new e
-  port_run_to_ask_wider port_run_to_ask = record { accesses = port_run_to_ask.accesses; last = port_run_to_ask.last; port_run = port_run_wider n lines answers low port_run_to_ask.accesses old port_run_to_ask.last d e port_run_to_ask.port_run; asked = port_run_to_ask.asked }
+  pub port_run_to_ask_wider : PortRunToAsk para_transitions answers n (shown_lines lines near) old d ask new e
+      → PortRunToAnyAsk para_transitions answers n (shown_lines lines safe_until) old d ask new e
+  port_run_to_ask_wider port_run_to_ask =
+      record { accesses = port_run_to_ask.accesses; last = port_run_to_ask.last; port_run = port_run_wider n lines answers low port_run_to_ask.accesses old port_run_to_ask.last d e port_run_to_ask.port_run; asked = port_run_to_ask.asked }
 
   pub goes_on_wider : {last : ParaState} → (j : ℕ) × PortRun para_transitions answers n (shown_lines lines near) j old d last e
       → LooksOn n (shown_lines lines safe_until) last ask new → PortRunToAnyAsk para_transitions answers n (shown_lines lines safe_until) old d ask new e
@@ -148,7 +155,8 @@ to_look_held n v s u held looks =
     rw looks.next (next_held looks.last (Some (Seen v.lines)) (rw looks.goes.asked.3 there))
 
 -- by the registers that are shown
-pub passes_held : (skip : SkipWhile) (n : ℕ) (v : Shown) (k : ℕ) (s last : ParaState) → IsHeldAtLook s → Passes para_transitions (skipped_at (λ b at. peek_of b.ram b.rom b.rom_in at) skip) n v k s last →
+pub passes_held : (skip : SkipWhile) (n : ℕ) (v : Shown) (k : ℕ) (s last : ParaState) → IsHeldAtLook s
+    → Passes para_transitions (skipped_at (λ b at. peek_of b.ram b.rom b.rom_in at) skip) n v k s last →
     Passes para_transitions (λ (x : ParaState). IsSkipped skip x.due (shown_regs x).pc (para_peek x)) n v k s last × IsHeldAtLook last
 passes_held skip n v zero s last held h = (h, subst IsHeldAtLook h held)
 passes_held skip n v (suc k) s last held h =

@@ -233,7 +233,8 @@ impl ParaMachine {
     ) -> Ask
         requires ticks { until.0 ≤ 2 ^ 30 }
         requires room { 16 ≤ vec_capacity undo_log.old.stood - vec_len undo_log.old.stood }
-        ensures goes { PortRunToAnyAsk para_transitions K.answers until.0 (shown_lines lines.now safe_until.0) self.old (K.state port.old) result self.new (K.state port.new) }
+        ensures goes { let shown = shown_lines lines.now safe_until.0 in
+            PortRunToAnyAsk para_transitions K.answers until.0 shown self.old (K.state port.old) result self.new (K.state port.new) }
         ensures noted { let old = self.old.bus in
             let new = self.new.bus in
             part_kept (put_back undo_log.new.stood.items new.ram) new

@@ -25,7 +25,8 @@ unfolding cell_on
 cell_long font code ra fields t = refl
 
 -- One more cell beside those before it.
-pub cell_more : (font : Font) (codes : ℕ → ℕ) (ra fields i x y : ℕ) (t : Text) (dots old canvas : List ℕ) → canvas ≡ dots_set 208 x y (side_by_side (cells font codes ra fields t) i) old →
+pub cell_more : (font : Font) (codes : ℕ → ℕ) (ra fields i x y : ℕ) (t : Text) (dots old canvas : List ℕ)
+    → canvas ≡ dots_set 208 x y (side_by_side (cells font codes ra fields t) i) old →
     dots ≡ cells font codes ra fields t i → dots_set 208 (x + 16 * i) y dots canvas ≡ dots_set 208 x y (side_by_side (cells font codes ra fields t) (i + 1)) old
 cell_more font codes ra fields i x y t dots old canvas so is =
     let strip = cells font codes ra fields t in
@@ -54,7 +55,8 @@ all_sixteen u cell off long =
     ap (λ (ds : List ℕ). take (dots_of u.control) ds) (unmarked cell) ∙ ap (λ k. take k cell) (sixteen_dots u off) ∙ take_all 16 cell (omega (arith, long))
 
 -- a character of a span, in teletext
-draws_cell : (ram : List ℕ) (size : ℕ) (font : Font) (span : Span) (k : ℕ) (t : State) → span.shown ≡ true → bit t.ula.control 1 ≡ true → bit t.ula.control 4 ≡ false → t.cursor ≡ first_cursor →
+draws_cell : (ram : List ℕ) (size : ℕ) (font : Font) (span : Span) (k : ℕ) (t : State) → span.shown ≡ true → bit t.ula.control 1 ≡ true
+    → bit t.ula.control 4 ≡ false → t.cursor ≡ first_cursor →
     show_leaves ram size font (plain_beam span k) t
     ≡ record t {
       text = text_after (span_codes ram size span k) t.text;

@@ -55,7 +55,8 @@ row_by_bytes ram size first u n low =
     (λ k below. sym (plain_dots u (slice_index ram (byte_address ((first.ma + k) % 16384) first.ra size)) first.ra low))
 
 -- The state after the clocks that follow the first, for any beam of the first.
-pub row_behind : (ram : List ℕ) (size : ℕ) (font : Font) (first : Beam) (n : ℕ) (t : State) → AreBehind first n t → first.ma < 16384 → first.row_end ≡ false → first.restart ≡ false →
+pub row_behind : (ram : List ℕ) (size : ℕ) (font : Font) (first : Beam) (n : ℕ) (t : State) → AreBehind first n t → first.ma < 16384
+    → first.row_end ≡ false → first.restart ≡ false →
     char_clocks ram size font n (pass_leaves first (show_leaves ram size font first t))
     ≡ record t {
       crtc = clocks n t.crtc;

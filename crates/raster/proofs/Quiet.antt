@@ -29,7 +29,8 @@ along chip x dots = min ((if begins_horizontal_sync chip then 0 else x) + dots) 
 
 -- after a character clock of a quiet 6845 the raster is quiet, if the beam is at the same place as
 -- before
-left_settled : (s : State) (chip : CrtcState) (finishes : Bool) (left : State) → left ≡ pass_leaves (quiet_beam finishes chip) (begin_leaves (quiet_beam finishes chip) (record s { crtc = chip })) →
+left_settled : (s : State) (chip : CrtcState) (finishes : Bool) (left : State)
+    → left ≡ pass_leaves (quiet_beam finishes chip) (begin_leaves (quiet_beam finishes chip) (record s { crtc = chip })) →
     is_quiet chip ≡ true → bit left.ula.control 4 ≡ false → left.cursor ≡ first_cursor → left.place.x ≡ s.place.x → IsQuiet left
 left_settled s chip finishes left is rest clock far back =
     let single : bit s.ula.control 4 ≡ false = ap (λ (s : State). bit s.ula.control 4) (sym is) ∙ clock in

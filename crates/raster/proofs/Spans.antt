@@ -56,7 +56,8 @@ built k text working s = record s {
   working = working;
 }
 
-pub shown_here : (ram : List ℕ) (size : ℕ) (font : Font) (span : Span) (n : ℕ) (s : State) (k : ℕ) (text : Text) (working : List ℕ) → ArePlain span n s → span.shown ≡ true → k < n →
+pub shown_here : (ram : List ℕ) (size : ℕ) (font : Font) (span : Span) (n : ℕ) (s : State) (k : ℕ) (text : Text) (working : List ℕ)
+    → ArePlain span n s → span.shown ≡ true → k < n →
     char_clock_leaves ram size font (built k text working s)
     ≡ pass_leaves (plain_beam span k) (show_leaves ram size font (plain_beam span k) (record (built k text working s) { crtc = clocks (suc k) s.crtc }))
 unfolding char_clock_leaves plain_beam
@@ -226,7 +227,8 @@ shown_row ram size font span m (suc n) s h few shown bits small =
     ∙ passed span n s.text (dots_set 240 (min (s.place.x + n * d) 4095) s.place.y (dots n) (row_set ram size span s n)) s h.far
     ∙ ap (λ (w : List ℕ). built (suc n) s.text w s) (beside 240 s.place.x s.place.y (n * d) (side_by_side dots n) (dots n) s.working (omega arith) long)
 
-pub shown_drawn : (ram : List ℕ) (size : ℕ) (font : Font) (span : Span) (n : ℕ) (s : State) → ArePlain span n s → span.shown ≡ true → bit s.ula.control 1 ≡ false → s.place.x ≤ 4095 →
+pub shown_drawn : (ram : List ℕ) (size : ℕ) (font : Font) (span : Span) (n : ℕ) (s : State) → ArePlain span n s → span.shown ≡ true
+    → bit s.ula.control 1 ≡ false → s.place.x ≤ 4095 →
     record s { working = row_set ram size span s n } ≡ drawn_ahead ram size font n s
 shown_drawn ram size font span n s h shown bits small =
     ap (λ (t : State). record t { crtc = s.crtc; place = s.place }) (sym (shown_row ram size font span n n s h (omega arith) shown bits small))

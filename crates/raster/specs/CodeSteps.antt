@@ -31,7 +31,7 @@ abbrev pub char_clocks : List ℕ → ℕ → Font → ℕ → State → State
 char_clocks ram size font zero s = s
 char_clocks ram size font (suc n) s = char_clocks ram size font n (char_clock_leaves ram size font s)
 
--- the state after n character clocks, but with the 6845 and the beam's place of before
+-- The state after n character clocks, except the 6845 and the beam, which stay as they were.
 abbrev pub drawn_ahead : List ℕ → ℕ → Font → ℕ → State → State
 drawn_ahead ram size font n s = record (char_clocks ram size font n s) { crtc = s.crtc; place = s.place }
 

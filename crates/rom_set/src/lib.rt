@@ -194,8 +194,8 @@ impl RomSet {
         self.os[at as usize]
     }
 
-    /// Returns a row of the shape of a code from 20 to 7F. Row 0 is the top and row 9 the bottom,
-    /// and bit 5 is the leftmost of six dots. Without a font all shapes are blank.
+    /// Returns a row of six dots of the shape of a code from 20 to 7F. Rows count from the top, from 0
+    /// on, and bit 5 is the leftmost dot. Without a font all shapes are blank.
     #[inline(always)]
     pub fn shape(&self, code: u8, row: u8) -> u8
         requires code { (0x20 ≤ code) × (code ≤ 0x7F) }

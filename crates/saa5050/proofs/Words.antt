@@ -10,7 +10,8 @@ use Rattle.saa5050.specs.declared.dots.TheConstants.{DOUBLED}
 
 -- ---- an operation on words, bit by bit
 
-by-digits : (f : ℕ → ℕ → ℕ) (g : Bool → Bool → Bool) → (f 0 0 == 1) ≡ g false false → (f 0 1 == 1) ≡ g false true → (f 1 0 == 1) ≡ g true false → (f 1 1 == 1) ≡ g true true →
+by-digits : (f : ℕ → ℕ → ℕ) (g : Bool → Bool → Bool) → (f 0 0 == 1) ≡ g false false → (f 0 1 == 1) ≡ g false true → (f 1 0 == 1) ≡ g true false
+    → (f 1 1 == 1) ≡ g true true →
     (p q : ℕ) → p < 2 → q < 2 → (f p q == 1) ≡ g (p == 1) (q == 1)
 by-digits f g a b c d zero zero lp lq = a
 by-digits f g a b c d zero (suc zero) lp lq = b

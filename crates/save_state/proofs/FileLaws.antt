@@ -102,7 +102,8 @@ parts_law =
         let long : length first ≡ 19 = as_many first_kinds first are in
         let rest : List Part = d0.0 ∷ d1.0 ∷ k ∷ [] in
         let front : take 19 (first ++ rest) ≡ first = take_at first rest 19 long in
-        let at : (i : ℕ) → get_or (first ++ rest) (19 + i) None ≡ get_or rest i None = λ i. ap (λ (n : ℕ). get_or (first ++ rest) (n + i) None) (sym long) ∙ get_or-append-add first rest i None in
+        let at : (i : ℕ) → get_or (first ++ rest) (19 + i) None ≡ get_or rest i None =
+        λ i. ap (λ (n : ℕ). get_or (first ++ rest) (n + i) None) (sym long) ∙ get_or-append-add first rest i None in
         let all : ArePart (first ++ rest) (d0.1 ∷ d1.1 ∷ []) = record {
           many = omega (arith, long, length-append first rest);
           both = refl;

@@ -24,7 +24,8 @@ left_as x y chip = record {
   para_count = y.log.count;
 }
 
-pub ended : {S T : Type 0} {h : Transitions S} {p : Transitions T} → LegalMergeIsReference h p → (s : S) (t : T) {n keep : ℕ} (p1 q1 : PassState) {x : SideAndLog S} {y : SideAndLog T} {chip : State}
+pub ended : {S T : Type 0} {h : Transitions S} {p : Transitions T} → LegalMergeIsReference h p
+    → (s : S) (t : T) {n keep : ℕ} (p1 q1 : PassState) {x : SideAndLog S} {y : SideAndLog T} {chip : State}
     → (p1.side ≡ Host) × (p1.events ≡ []) → (q1.side ≡ Para) × (q1.events ≡ [])
     → IsLegal (merge x.at.pass.events y.at.pass.events) → chip ≡ after (merge x.at.pass.events y.at.pass.events)
     → HasWorked h n keep (place s p1) x → HasWorked p n keep (place t q1) y → IsPlayed (reference h p s t n) keep (left_as x y chip)

@@ -58,7 +58,8 @@ module _ {S : Type 0} {m : Transitions S} (lawful : IsLawful m) (side : Side) (n
         made lawful _ _ n t h.last (stops _ _ _ h.asked over) _ fuel s _ h.runs h.seen h.low enough
 
   -- it noted no more accesses than there were ticks
-  pub observes_few : {r : Readings} {t : ℕ} {s new : S} {before after : Log} {ask : Ask} (h : HasObserved m side n r t s before ask new after) → before.count ≤ m.due s → after.count ≤ m.due h.last
+  pub observes_few : {r : Readings} {t : ℕ} {s new : S} {before after : Log} {ask : Ask} (h : HasObserved m side n r t s before ask new after)
+      → before.count ≤ m.due s → after.count ≤ m.due h.last
   observes_few {s} h few =
       let a = events_few _ s h.events h.last h.runs in
       omega arith

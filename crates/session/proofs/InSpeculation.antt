@@ -144,7 +144,8 @@ module _ {S : Type 0} {m : Transitions S} (lawful : IsLawful m) (n : ℕ) (from 
 
   -- it did not continue
   pub stays_here : (ask : Ask) (x : SpecRun S) → IsInSpecRun m n ask x → HasGoneFurther m n ask x ask x
-  stays_here ask x speculation = record { speculation = speculation; further = λ t u a b. let same = one_reached n ask t u a b in omega arith; from_is = refl; log = record { kept = refl; keep_is = refl } }
+  stays_here ask x speculation =
+      record { speculation = speculation; further = λ t u a b. let same = one_reached n ask t u a b in omega arith; from_is = refl; log = record { kept = refl; keep_is = refl } }
 
   -- ---- settled
 
@@ -257,7 +258,8 @@ no_earlier_on n first mid last f g t u at_t at_u =
     omega arith
 
 -- it does not matter what the pass knows
-pub at_pass : {S : Type 0} {m : Transitions S} {n : ℕ} {from : SpecStart S} {ask : Ask} {x : SideAndLog S} (p : PassState) → IsInSpeculation m n from ask x → IsInSpeculation m n from ask (record x { at = place x.at.state p })
+pub at_pass : {S : Type 0} {m : Transitions S} {n : ℕ} {from : SpecStart S} {ask : Ask} {x : SideAndLog S} (p : PassState)
+    → IsInSpeculation m n from ask x → IsInSpeculation m n from ask (record x { at = place x.at.state p })
 at_pass p w = record { events = w.events; steps = w.steps; last = w.last; runs = w.runs; seen = w.seen; asked = w.asked; noted = w.noted; few = w.few }
 
 -- it went further, and further; what the pass knows then does not matter

@@ -13,7 +13,8 @@ note_leaves-append : (keep : ℕ) (xs ys list : List Entry) → note_all_leaves 
 note_leaves-append keep [] ys list = refl
 note_leaves-append keep (x ∷ xs) ys list = note_leaves-append keep xs ys (note_leaves keep list x)
 
-pub noted_on : (keep : ℕ) (xs ys : List Event) (list : List Entry) → note_all_leaves keep (note_all_leaves keep list (accesses xs)) (accesses ys) ≡ note_all_leaves keep list (accesses (xs ++ ys))
+pub noted_on : (keep : ℕ) (xs ys : List Event) (list : List Entry)
+    → note_all_leaves keep (note_all_leaves keep list (accesses xs)) (accesses ys) ≡ note_all_leaves keep list (accesses (xs ++ ys))
 noted_on keep xs ys list = sym (ap (note_all_leaves keep list) (accesses-append xs ys) ∙ note_leaves-append keep (accesses xs) (accesses ys) list)
 
 pub counted_on : (xs ys : List Event) (n : ℕ) → n + length (accesses xs) + length (accesses ys) ≡ n + length (accesses (xs ++ ys))

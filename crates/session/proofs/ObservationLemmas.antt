@@ -95,7 +95,8 @@ module _ {S : Type 0} {m : Transitions S} (lawful : IsLawful m) {side : Side} {n
       (goes_on (by_looks _ s _ d.log h.3.1) (goes_on (rw h.4.goes read) rest.0), rest.1)
 
   -- it went on, and this is asked next
-  pub port_run_to_ask_on : {s u new : S} {a : Log} {d e : Shown} {ask : Ask} → IsAt side r t d → HasGone m side n r t s a u d.log → PortRunToAnyAsk m IsRead n (shown_lines r.lines t) u d ask new e
+  pub port_run_to_ask_on : {s u new : S} {a : Log} {d e : Shown} {ask : Ask} → IsAt side r t d → HasGone m side n r t s a u d.log
+      → PortRunToAnyAsk m IsRead n (shown_lines r.lines t) u d ask new e
       → HasObserved m side n r t s a ask new e.log × IsAt side r t e
   port_run_to_ask_on {u} {e} at gone went =
       let talked = by_port_run _ u _ e at went.port_run in
@@ -115,7 +116,8 @@ module _ {S : Type 0} {m : Transitions S} (lawful : IsLawful m) {side : Side} {n
   still_observed {s} {new} {a} {ask} is h = rw is h
 
   -- the read was done that was asked
-  pub reads_on : {s new v : S} {a : Log} (tick : Tick) {op : Op} {byte : ℕ} {d e : Shown} → IsAt side r t d → HasObserved m side n r t s a (Access tick op) new d.log → IsRead d tick.0 op byte e
+  pub reads_on : {s new v : S} {a : Log} (tick : Tick) {op : Op} {byte : ℕ} {d e : Shown} → IsAt side r t d
+      → HasObserved m side n r t s a (Access tick op) new d.log → IsRead d tick.0 op byte e
       → v ≡ m.next new (Some (Byte byte)) → HasGone m side n r t s a v e.log
   reads_on {s} {a} tick {op} {byte} {d} {e} at h read is =
       let due = h.asked.0 in
@@ -137,6 +139,7 @@ over_unasked r t (Access u op) not h = absurd (not u op refl)
 over_unasked r t (Look u) not h = h
 
 -- and so is one that stopped at an access that the port does not answer
-pub over_unanswered : {side : Side} {r : Readings} {t : ℕ} {d : Shown} (u : Tick) (op : Op) → IsAt side r t d → (d.below ≤ u.0) ⊎ (byte_seen d.status op ≡ None) → IsOver r t (Access u op)
+pub over_unanswered : {side : Side} {r : Readings} {t : ℕ} {d : Shown} (u : Tick) (op : Op) → IsAt side r t d
+    → (d.below ≤ u.0) ⊎ (byte_seen d.status op ≡ None) → IsOver r t (Access u op)
 over_unanswered u op at (inl late) = inl (omega arith)
 over_unanswered u op at (inr none) = inr (ap (λ z. byte_seen z op) (sym at.status_is) ∙ none)

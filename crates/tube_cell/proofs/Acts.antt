@@ -167,7 +167,8 @@ module _ {id : TableId} {s : Side} {words : List ℕ} {old : State} {p : PassSta
       subst (λ c. Watches s (horizon (own_bound s v.known) (v.mine ++ v.ahead)) c es end) (sym local)
       (subst (λ q. Watches q.side (own_horizon q) (here q) es end) (sym view) h)
 
-  pub saw_all : {w : View} (es : List Event) (end : ℕ) → p.speculative ≡ [] → Watches p.side (own_horizon p) (here p) es end → end + tie_offset p.side ≤ bound_here p + 1 → w ≡ added_view v es
+  pub saw_all : {w : View} (es : List Event) (end : ℕ) → p.speculative ≡ [] → Watches p.side (own_horizon p) (here p) es end
+      → end + tie_offset p.side ≤ bound_here p + 1 → w ≡ added_view v es
       → IsPassOf s words old w
   saw_all es end speculative watches admitted w_is =
       let admitted' : end + tie_offset s ≤ bound_here (pass_state_of id s v) + 1 = subst (λ q. end + tie_offset q.side ≤ bound_here q + 1) (sym view) admitted in
@@ -190,7 +191,8 @@ bound_is {s} v cut view cuts known_is small spec_horizon_is is =
 pub bound_bare : (p : PassState) → p.ahead ≡ [] → bound_here p ≡ other_bound p.side p.known
 bound_bare p none = ap (λ l. bound_at p.side (word_of_other p.side p.known) (spec_horizon_after p.side p.known.chip p.known.spec_horizon l)) none
 
-pub is_added : {id id' : TableId} {s : Side} {p : PassState} {v w : View} (es : List Event) → pass_state_of id s v ≡ p → id' ≡ id → w ≡ added_view v es → pass_state_of id' s w ≡ after_add p es
+pub is_added : {id id' : TableId} {s : Side} {p : PassState} {v w : View} (es : List Event) → pass_state_of id s v ≡ p → id' ≡ id
+    → w ≡ added_view v es → pass_state_of id' s w ≡ after_add p es
 is_added {s} es view cell w_is = (λ i. pass_state_of (cell i) s (w_is i)) ∙ ap (λ q. after_add q es) view
 
 pub is_acted : {id id' : TableId} {s : Side} {p : PassState} {v w : View} (t : ℕ) (op : Op) → pass_state_of id s v ≡ p → id' ≡ id

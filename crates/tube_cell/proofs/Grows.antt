@@ -68,7 +68,8 @@ para_kept : {k : CellSnapshot} (n : CellSnapshot) {para : List Event} → ParaLi
 para_kept n fine up host_up spec_horizon_up = grind arith
 
 -- cut at the tick to which the speculative horizon falls
-para_cut : {k : CellSnapshot} (n : CellSnapshot) (t : ℕ) {para : List Event} → ParaListOk k para → k.para ≤ n.para → k.host ≤ n.host → t < n.host → n.spec_horizon ≡ min k.spec_horizon t → ParaListOk n (below t para)
+para_cut : {k : CellSnapshot} (n : CellSnapshot) (t : ℕ) {para : List Event} → ParaListOk k para → k.para ≤ n.para → k.host ≤ n.host → t < n.host
+    → n.spec_horizon ≡ min k.spec_horizon t → ParaListOk n (below t para)
 para_cut {k} n t {para} fine up host_up lt spec_horizon =
     let own = All-below (λ x. is_access x.query ≡ true → x.tick < own_bound Para k) t para fine.below_own in
     let changes = All-below (λ x. is_observation x.query ≡ false → (x.tick < k.para) × (x.tick < k.host)) t para fine.changes in
@@ -92,7 +93,8 @@ host_next k e m spec_horizon = record { chip = chip_after_event k.chip e; host =
 module _ {k : CellSnapshot} {host para : List Event} (e : Event) (good : Consistent k host para) (is : e.side ≡ Host) (from : k.host ≤ e.tick) (late : past_last host ≤ e.tick)
     (admitted : e.tick ≤ own_bound Para k) (answers : Answers k.chip e) where
   -- one that shows the parasite the same as before
-  pub good_calm : (m : ℕ) → k.host ≤ m → (is_access e.query ≡ true → e.tick < m) → ShowsSame k.chip (chip_after_event k.chip e) → Consistent (host_next k e m k.spec_horizon) (host ++ e ∷ []) para
+  pub good_calm : (m : ℕ) → k.host ≤ m → (is_access e.query ≡ true → e.tick < m) → ShowsSame k.chip (chip_after_event k.chip e)
+      → Consistent (host_next k e m k.spec_horizon) (host ++ e ∷ []) para
   good_calm m up low same =
       let r = legal_placed host para e is (low_of e.tick host good.host_fine.climbs late) good.para_fine.sided (early_of e.tick good.para_fine from) good.legal
       (rw good.chip_is at answers) (rw good.chip_is at same) in
@@ -164,7 +166,8 @@ good_para {k} {host} {para} e m a good is from late answers up spec_horizon_up l
 
 -- ---- words that rise
 
-pub good_raised : {k : CellSnapshot} (n : CellSnapshot) {host para : List Event} → Consistent k host para → n.chip ≡ k.chip → k.host ≤ n.host → k.para ≤ n.para → k.spec_horizon ≤ n.spec_horizon → Consistent n host para
+pub good_raised : {k : CellSnapshot} (n : CellSnapshot) {host para : List Event} → Consistent k host para → n.chip ≡ k.chip → k.host ≤ n.host
+    → k.para ≤ n.para → k.spec_horizon ≤ n.spec_horizon → Consistent n host para
 good_raised n good chip host_up para_up spec_horizon_up = grind arith
 
 -- ---- the host's events, one after another
@@ -190,7 +193,8 @@ pub record HostStep (k n : CellSnapshot) (host para list : List Event) : Type 0 
 taken_back : (h a t m : ℕ) → h ≤ t → t < m → (min a t ≡ a) ⊎ ((h ≤ min a t) × (min a t < a) × (min a t < m))
 taken_back h a t m le lt = grind arith
 
-host_event : {k : CellSnapshot} {host para : List Event} (e : Event) → Consistent k host para → e.side ≡ Host → k.host ≤ e.tick → past_last host ≤ e.tick → e.tick ≤ own_bound Para k → Answers k.chip e
+host_event : {k : CellSnapshot} {host para : List Event} (e : Event) → Consistent k host para → e.side ≡ Host → k.host ≤ e.tick
+    → past_last host ≤ e.tick → e.tick ≤ own_bound Para k → Answers k.chip e
     → HostStep k (host_next k e (e.tick + 1) (spec_horizon_past Host k.chip e k.spec_horizon)) host para (host ++ e ∷ [])
 host_event {k} {host} {para} e good is from late admitted answers =
     (elim (same_readings k.chip (chip_after_event k.chip e)) as (λ b. same_readings k.chip (chip_after_event k.chip e) ≡ b
@@ -328,7 +332,8 @@ module _ (last : State) (end : ℕ) where
         low_cons e es (omega arith) (runs_low es _ _ _ h.4)
 
 -- what the host's pass knows, once the parasite took its steps
-pub host_knows : {k : CellSnapshot} (n : CellSnapshot) {x : CellSnapshot} → Knows Host k x → n.host ≡ k.host → k.para ≤ n.para → k.spec_horizon ≤ n.spec_horizon → (k.host ≤ own_bound Para k → n.chip ≡ k.chip) → Knows Host n x
+pub host_knows : {k : CellSnapshot} (n : CellSnapshot) {x : CellSnapshot} → Knows Host k x → n.host ≡ k.host → k.para ≤ n.para
+    → k.spec_horizon ≤ n.spec_horizon → (k.host ≤ own_bound Para k → n.chip ≡ k.chip) → Knows Host n x
 host_knows n knows host para spec_horizon idle = grind arith
 
 -- ---- speculative observations
@@ -344,7 +349,8 @@ speculating k t = record k { spec_horizon = t }
 no_change : (q : Query) → is_observation q ≡ true → is_observation q ≡ false → ⊥
 no_change q is not = true≢false (sym is ∙ not)
 
-pub watched : (es : List Event) {k : CellSnapshot} {host para : List Event} {from end : ℕ} → Consistent k host para → own_bound Para k ≤ from → past_last para ≤ from → from ≤ end → Watches Para from k.chip es end
+pub watched : (es : List Event) {k : CellSnapshot} {host para : List Event} {from end : ℕ} → Consistent k host para → own_bound Para k ≤ from
+    → past_last para ≤ from → from ≤ end → Watches Para from k.chip es end
     → Consistent (speculating k end) host (para ++ es)
 watched [] {k} {host} {para} {end = end} good le late stop h =
     rw (append-nil para) (good_raised (speculating k end) good refl (omega arith) (omega arith) (omega arith))

@@ -146,12 +146,14 @@ knows_all s k well = grind (arith, nat_tests)
 goes_on : {s : Side} {k v : CellSnapshot} → Knows s k v → GoesOn (one_side s) v k
 goes_on knows = (sym knows.own_word, knows.other_word, knows.spec_horizon, knows.same_chip)
 
-settles : (k : CellSnapshot) (mine speculative : List Event) → mine ++ below k.spec_horizon speculative ≡ (mine ++ confirmed k speculative) ++ below k.spec_horizon (unconfirmed_events k speculative)
+settles : (k : CellSnapshot) (mine speculative : List Event)
+    → mine ++ below k.spec_horizon speculative ≡ (mine ++ confirmed k speculative) ++ below k.spec_horizon (unconfirmed_events k speculative)
 settles k mine [] = sym (append-nil (mine ++ []))
-settles k mine (e ∷ es) = elim (nat_le k.spec_horizon k.host) as (λ b. mine ++ below k.spec_horizon (e ∷ es) ≡ (mine ++ cond b (below k.spec_horizon (e ∷ es)) []) ++ below k.spec_horizon (cond b [] (e ∷ es))) [
-  | true ↦ sym (append-nil (mine ++ below k.spec_horizon (e ∷ es)))
-  | false ↦ ap (λ l. l ++ below k.spec_horizon (e ∷ es)) (sym (append-nil mine))
-]
+settles k mine (e ∷ es) =
+    elim (nat_le k.spec_horizon k.host) as (λ b. mine ++ below k.spec_horizon (e ∷ es) ≡ (mine ++ cond b (below k.spec_horizon (e ∷ es)) []) ++ below k.spec_horizon (cond b [] (e ∷ es))) [
+      | true ↦ sym (append-nil (mine ++ below k.spec_horizon (e ∷ es)))
+      | false ↦ ap (λ l. l ++ below k.spec_horizon (e ∷ es)) (sym (append-nil mine))
+    ]
 
 pub confirmed_low : (k : CellSnapshot) (speculative : List Event) → AllBelow k.host (confirmed k speculative)
 confirmed_low k [] = low_nil
@@ -328,7 +330,8 @@ both_hit one pass {v} {es} {seen} {last} {word} {end} {next} may well with_is wo
     speculates_hit one pass may' with_is (words_of mid) (set views pass u) first (at_again views pass v u at) refl in
     subst (CellInvariant (words_of next)) (set-set views pass u (told_view v es seen next)) second
 
-pub publishes_and_speculates : PackingIsOneToOne → (pass : ℕ) {v : View} {es seen : List Event} {last : State} {word end : ℕ} {next : CellSnapshot} → MayPublishAndSpeculate es last word seen end v → IsChip last
+pub publishes_and_speculates : PackingIsOneToOne → (pass : ℕ) {v : View} {es seen : List Event} {last : State} {word end : ℕ} {next : CellSnapshot}
+    → MayPublishAndSpeculate es last word seen end v → IsChip last
     → next ≡ known_with Para last word (word_of_other Para v.known) end
     → Turns CellInvariant pass v (λ x. if pointwise nat_eq x (words_of v.known) then words_of next else x) (PublishesAndSpeculates es seen next)
 publishes_and_speculates one pass {v} {es} {seen} {next} may well is =
@@ -337,7 +340,8 @@ publishes_and_speculates one pass {v} {es} {seen} {next} may well is =
 -- ---- look
 
 -- the look joined the list: what the pass fits then
-kept_looked : (s : Side) {words : List ℕ} {views : List View} (k : CellInvariant words views) (pass : ℕ) {v : View} {t : ℕ} → get_elem? views pass ≡ some v → MayLook s t v → Admits s (other_bound s k.known) t
+kept_looked : (s : Side) {words : List ℕ} {views : List View} (k : CellInvariant words views) (pass : ℕ) {v : View} {t : ℕ}
+    → get_elem? views pass ≡ some v → MayLook s t v → Admits s (other_bound s k.known) t
     → CellInvariant words (set views pass (looked_view v t s k.known))
 kept_looked Host k pass {v} {t} at may admitted =
     let fit = fit_of k Host pass v at may.role in
@@ -478,7 +482,8 @@ adds s pass v es role words views k at =
     same Para f = f
 
 -- the host's pass takes both lists
-pub merges : (pass : ℕ) (v : View) (giver : ℕ) (w : View) → v.role ≡ one_side Host → w.role ≡ one_side Para → w.speculative ≡ [] → Merges CellInvariant pass v giver w (joined_view v w) spent_view
+pub merges : (pass : ℕ) (v : View) (giver : ℕ) (w : View) → v.role ≡ one_side Host → w.role ≡ one_side Para → w.speculative ≡ []
+    → Merges CellInvariant pass v giver w (joined_view v w) spent_view
 merges pass v giver w host para none words views k at apart there =
     let taken = joined_view v w in
     let was : get_elem? views giver ≡ some w = ⊎_elim (λ (t : (giver ≡ pass) × (taken ≡ w)). absurd (apart t.0))

@@ -80,7 +80,8 @@ runs_on Host v k from c es last end on h = host_more _ k.para _ _ es _ k.spec_ho
 runs_on Para v k from c es last end on h = para_more _ k.host _ _ es _ k.spec_horizon _ c h on.1
 
 -- if there are unpublished events, the known bound admits the own
-runs_admit : (s : Side) (m t a : ℕ) (mine : List Event) (c : State) (es : List Event) (last : State) (end : ℕ) → Runs s t a (horizon m mine) c es last end → es ≢ [] → Admits s (bound_at s t a) m
+runs_admit : (s : Side) (m t a : ℕ) (mine : List Event) (c : State) (es : List Event) (last : State) (end : ℕ)
+    → Runs s t a (horizon m mine) c es last end → es ≢ [] → Admits s (bound_at s t a) m
 runs_admit s m t a mine c [] last end h some = absurd (some refl)
 runs_admit s m t a mine c (e ∷ es) last end h some = omega arith
 
@@ -146,7 +147,8 @@ local_kept : {known old found new : State} → found ≡ known → Local known o
 local_kept same (inl t) = t.1
 local_kept same (inr t) = absurd (t.0 same)
 
-found_runs : (s : Side) (v k : CellSnapshot) (mine speculative es : List Event) (old new : State) → GoesOn (one_side s) v k → Local v.chip old k.chip new → (es ≢ [] → speculative ≡ []) → RunsOn s v mine es old
+found_runs : (s : Side) (v k : CellSnapshot) (mine speculative es : List Event) (old new : State) → GoesOn (one_side s) v k
+    → Local v.chip old k.chip new → (es ≢ [] → speculative ≡ []) → RunsOn s v mine es old
     → RunsOn s k (mine ++ confirmed k speculative) es new
 found_runs s v k mine speculative [] old new on local bare h =
     let e = ap past_last (append-nil (mine ++ confirmed k speculative)) in (
@@ -165,7 +167,8 @@ found_runs s v k mine speculative (e ∷ es) old new on local bare h =
 pub on_of : (s : Side) (v : View) (k : CellSnapshot) → v.role ≡ one_side s → GoesOn v.role v.known k → GoesOn (one_side s) v.known k
 on_of s v k role on = rw role at on
 
-pass_found : {s : Side} {words found : List ℕ} {old : State} (new : State) {v w : View} → IsPassOf s words old v → Found found v w → Local v.known.chip old w.known.chip new → IsPassOf s found new w
+pass_found : {s : Side} {words found : List ℕ} {old : State} (new : State) {v w : View} → IsPassOf s words old v → Found found v w
+    → Local v.known.chip old w.known.chip new → IsPassOf s found new w
 pass_found {s} new {v} {w} is f local =
     let k : CellSnapshot = w.known in
     let on = on_of s v k is.role f.goes_on in
@@ -200,7 +203,8 @@ abbrev pub finding : PassState → CellSnapshot → ℕ → PassState
 finding p k n = record p { events = p.events ++ confirmed k p.speculative; speculative = unconfirmed_events k p.speculative; known = k; higher = n }
 
 -- what is found, from there on, is learnt
-pub learns_of : {p q : PassState} → q ≡ finding p q.known (p.higher + rise (one_side p.side) p.known q.known) → AllBelow p.known.spec_horizon p.speculative → GoesOn (one_side p.side) p.known q.known
+pub learns_of : {p q : PassState} → q ≡ finding p q.known (p.higher + rise (one_side p.side) p.known q.known)
+    → AllBelow p.known.spec_horizon p.speculative → GoesOn (one_side p.side) p.known q.known
     → own_horizon q ≤ own_horizon p → (p.ahead ≢ [] → q.known.chip ≡ p.known.chip) → Learns p q
 learns_of {p} {q} rest low on falls chip = record {
   rest = rest;
@@ -243,7 +247,8 @@ learned {id} {id'} {s} {v} {w} view is cell f =
     let on = on_of s v k is.role f.goes_on in
     let w_is = f.view_is in
     let falls = horizon_falls s _ k v.mine v.speculative v.ahead on is.speculative is.not_both in
-    let now : horizon (own_bound s k) (w.mine ++ w.ahead) ≡ horizon (own_bound s k) ((v.mine ++ confirmed k v.speculative) ++ v.ahead) = λ i. horizon (own_bound s k) ((w_is i).mine ++ (w_is i).ahead) in
+    let now : horizon (own_bound s k) (w.mine ++ w.ahead) ≡ horizon (own_bound s k) ((v.mine ++ confirmed k v.speculative) ++ v.ahead) =
+    λ i. horizon (own_bound s k) ((w_is i).mine ++ (w_is i).ahead) in
     let rest = (λ i. pass_state_of (cell i) s (w_is i)) ∙ ap (λ r. finding (pass_state_of id s v) k (v.higher + rise r v.known k)) is.role in
     subst (λ q. Learns q (pass_state_of id' s w)) view (learns_of rest is.speculative on (omega arith)
     (λ some. sym (on.3 (runs_admit s (own_bound s v.known) _ _ v.mine _ v.ahead _ _ is.runs some))))

@@ -21,7 +21,8 @@ use Rattle.tube_cell.proofs.Raises.{horizon_speculated}
 
 -- ---- publish
 
-respeculated : {s : Side} (k : CellSnapshot) (c : State) (h a t : ℕ) → s ≡ Para → known_with Para c h (word_of_other Para k) t ≡ record (known_with s c h (word_of_other s k) a) { spec_horizon = t }
+respeculated : {s : Side} (k : CellSnapshot) (c : State) (h a t : ℕ) → s ≡ Para
+    → known_with Para c h (word_of_other Para k) t ≡ record (known_with s c h (word_of_other s k) a) { spec_horizon = t }
 respeculated k c h a t is = rw is refl
 
 module _ {id : TableId} {s : Side} {words : List ℕ} {old : State} {p : PassState} {v : View} (view : pass_state_of id s v ≡ p) (is : IsPassOf s words old v) where
@@ -41,7 +42,8 @@ module _ {id : TableId} {s : Side} {words : List ℕ} {old : State} {p : PassSta
       ∙ (λ i. pass_state_of id s (published_view v v.ahead (known_with s (local_of is i) h (word_of_other s v.known) (spec_horizon_is i))))
       ∙ ap (λ q. after_publish q h) view
 
-  pub may_both : (seen : List Event) (h t : ℕ) → p.side ≡ Para → p.speculative ≡ [] → own_horizon p ≤ h → h ≤ t → Watches Para h (here p) seen t → MayPublishAndSpeculate v.ahead old h seen t v
+  pub may_both : (seen : List Event) (h t : ℕ) → p.side ≡ Para → p.speculative ≡ [] → own_horizon p ≤ h → h ≤ t → Watches Para h (here p) seen t
+      → MayPublishAndSpeculate v.ahead old h seen t v
   may_both seen h t side speculative later order watches =
       let s_is : s ≡ Para = ap (λ q. q.side) view ∙ side in
       record {
@@ -67,19 +69,22 @@ module _ {id : TableId} {s : Side} {words : List ℕ} {old : State} {p : PassSta
       ∙ respeculated v.known (after_from v.known.chip v.ahead) h (spec_horizon_after s v.known.chip v.known.spec_horizon v.ahead) t s_is in
       (λ i. pass_state_of (cell i) s (w_is i)) ∙ ap (λ k. pass_state_of id s (told_view v v.ahead seen k)) known ∙ ap (λ q. after_speculate (after_publish q h) seen t) view
 
-pub publish_spec_horizon : (s : Side) (v : View) {known : ℕ} (cut : ℕ) {spec_horizon : ℕ} → CutIs s cut v → known ≡ v.known.spec_horizon → known < 2 ^ 64 → spec_horizon ≡ min known cut
+pub publish_spec_horizon : (s : Side) (v : View) {known : ℕ} (cut : ℕ) {spec_horizon : ℕ} → CutIs s cut v → known ≡ v.known.spec_horizon
+    → known < 2 ^ 64 → spec_horizon ≡ min known cut
     → spec_horizon ≡ spec_horizon_after s v.known.chip v.known.spec_horizon v.ahead
 publish_spec_horizon s v cut cuts known_is small is = is ∙ ap (λ n. min n cut) known_is ∙ sym (cuts v.known.spec_horizon (omega arith))
 
 -- ---- publish_and_speculate
 
 pub both_as : PackingIsOneToOne → (pass : ℕ) {v : View} {es seen : List Event} {last : State} {word spec_horizon : ℕ} {next : CellSnapshot} {old new : List ℕ}
-    → MayPublishAndSpeculate es last word seen spec_horizon v → IsChip last → next ≡ known_with Para last word (word_of_other Para v.known) spec_horizon → old ≡ words_of v.known → new ≡ words_of next
+    → MayPublishAndSpeculate es last word seen spec_horizon v → IsChip last
+    → next ≡ known_with Para last word (word_of_other Para v.known) spec_horizon → old ≡ words_of v.known → new ≡ words_of next
     → Turns CellInvariant pass v (λ x. if pointwise nat_eq x old then new else x) (PublishesAndSpeculates es seen next)
 both_as one pass may well next_is old_is new_is = rw (old_is, new_is) (publishes_and_speculates one pass may well next_is)
 
 -- the own bound with this word, no earlier than it was
-published_bound : (s : Side) (k : CellSnapshot) (c : State) (h : ℕ) (es : List Event) → own_bound s k ≤ h → own_bound s (known_with s c h (word_of_other s k) (spec_horizon_after s k.chip k.spec_horizon es)) ≡ h
+published_bound : (s : Side) (k : CellSnapshot) (c : State) (h : ℕ) (es : List Event) → own_bound s k ≤ h
+    → own_bound s (known_with s c h (word_of_other s k) (spec_horizon_after s k.chip k.spec_horizon es)) ≡ h
 published_bound Host k c h es le = refl
 published_bound Para k c h es le = let spec_horizon = spec_horizon_after_para k.chip k.spec_horizon es in omega arith
 
@@ -89,7 +94,8 @@ horizon_published p h later =
     let last = ap past_last (append-nil (p.events ++ p.ahead)) in
     omega arith
 
-pub horizon_both : (p : PassState) {q : PassState} (seen : List Event) (h t : ℕ) → p.side ≡ Para → own_horizon p ≤ h → h ≤ t → q ≡ after_speculate (after_publish p h) seen t → own_horizon q ≡ t
+pub horizon_both : (p : PassState) {q : PassState} (seen : List Event) (h t : ℕ) → p.side ≡ Para → own_horizon p ≤ h → h ≤ t
+    → q ≡ after_speculate (after_publish p h) seen t → own_horizon q ≡ t
 horizon_both p seen h t side later order is =
     let low = horizon_published p h later in
     horizon_speculated (after_publish p h) seen t side (omega arith) is

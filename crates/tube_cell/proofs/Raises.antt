@@ -47,7 +47,8 @@ chip_with Para c m t a = refl
 
 -- the pass once its events are published
 pub pass_published : (s : Side) {words : List ℕ} {here : State} (end spec_horizon : ℕ) (es : List Event) (v : View) {w : View} → v.role ≡ one_side s → v.speculative ≡ [] → IsChip here
-    → w ≡ published_view v es (known_with s here end (word_of_other s v.known) spec_horizon) → words ≡ words_of (known_with s here end (word_of_other s v.known) spec_horizon) → IsPassOf s words here w
+    → w ≡ published_view v es (known_with s here end (word_of_other s v.known) spec_horizon)
+    → words ≡ words_of (known_with s here end (word_of_other s v.known) spec_horizon) → IsPassOf s words here w
 pass_published s {here} end spec_horizon es v {w} role speculative well w_is words_are =
     let k : w.known ≡ known_with s here end (word_of_other s v.known) spec_horizon = ap (λ u. u.known) w_is in
     let chip : w.known.chip ≡ here = ap (λ x. x.chip) k ∙ chip_with s here end (word_of_other s v.known) spec_horizon in
@@ -73,19 +74,22 @@ module _ {id : TableId} {s : Side} {words : List ℕ} {here : State} {p : PassSt
   may_commit t op speculative later admitted next_is = grind arith
 
   -- the speculative horizon of a commit, as the code has it of its local chip
-  pub commit_spec_horizon : {next : State} (t : ℕ) {spec_horizon known : ℕ} (op : Op) → next ≡ chip_after here s op → known ≡ v.known.spec_horizon → spec_horizon ≡ spec_horizon_next s here next t known
+  pub commit_spec_horizon : {next : State} (t : ℕ) {spec_horizon known : ℕ} (op : Op) → next ≡ chip_after here s op → known ≡ v.known.spec_horizon
+      → spec_horizon ≡ spec_horizon_next s here next t known
       → spec_horizon ≡ spec_horizon_next s v.known.chip (chip_after v.known.chip s op) t v.known.spec_horizon
   commit_spec_horizon t op next_is known_is spec_horizon_is = grind arith
 
   -- and if it had none unpublished
   pub pass_raised : {next : List ℕ} {new : State} {w : View} (cut end spec_horizon : ℕ) (es : List Event) → CutIs s cut v → p.speculative ≡ [] → IsChip new
-      → w ≡ published_view v es (known_with s new end (word_of_other s v.known) spec_horizon) → next ≡ words_of (known_with s new end (word_of_other s v.known) spec_horizon) → IsPassOf s next new w × CutIs s cut w
+      → w ≡ published_view v es (known_with s new end (word_of_other s v.known) spec_horizon)
+      → next ≡ words_of (known_with s new end (word_of_other s v.known) spec_horizon) → IsPassOf s next new w × CutIs s cut w
   pass_raised {w = w} cut end spec_horizon es cuts speculative well w_is next_is = (
     pass_published s end spec_horizon es v is.role (none_of v view speculative) well w_is next_is,
     cut_kept s cut v w cuts bare (ap (λ u. u.ahead) w_is),
   )
 
-  pub is_raised : {id' : TableId} {w : View} (t : ℕ) {spec_horizon : ℕ} → id' ≡ id → spec_horizon ≡ v.known.spec_horizon → w ≡ published_view v [] (known_with s here t (word_of_other s v.known) spec_horizon)
+  pub is_raised : {id' : TableId} {w : View} (t : ℕ) {spec_horizon : ℕ} → id' ≡ id → spec_horizon ≡ v.known.spec_horizon
+      → w ≡ published_view v [] (known_with s here t (word_of_other s v.known) spec_horizon)
       → pass_state_of id' s w ≡ after_raise p t
   is_raised t cell spec_horizon_is w_is =
       (λ i. pass_state_of (cell i) s (w_is i))
@@ -162,7 +166,8 @@ looked_as b t s v w is = grind arith
 pub looked_ahead : {s : Side} {t : ℕ} {words : List ℕ} {v w : View} → LookedAt t s words v w → w.ahead ≡ v.ahead
 looked_ahead {s} {t} {v} {w} f = (looked_as (admits s (other_bound s w.known) t) t s v w f.view_is).1
 
-pub looked_local : {s : Side} {words : List ℕ} {old : State} (new : State) {v : View} (w : View) → IsPassOf s words old v → v.ahead ≡ [] → Local v.known.chip old w.known.chip new → new ≡ w.known.chip
+pub looked_local : {s : Side} {words : List ℕ} {old : State} (new : State) {v : View} (w : View) → IsPassOf s words old v → v.ahead ≡ []
+    → Local v.known.chip old w.known.chip new → new ≡ w.known.chip
 looked_local new w is none local = local_is (bare_local is none) local
 
 pub pass_looked : {s : Side} {words found : List ℕ} {old : State} (new : State) {t : ℕ} {v w : View} → IsPassOf s words old v → v.ahead ≡ [] → v.speculative ≡ []
@@ -174,7 +179,8 @@ pass_looked {s} {found} new {t} {v} {w} is none speculative f local =
 
 -- ---- own horizons
 
-committed_bound : (s : Side) (k : CellSnapshot) (c : State) (t : ℕ) (old new : State) → own_bound s k ≤ t → own_bound s (known_with s c (t + 1) (word_of_other s k) (spec_horizon_next s old new t k.spec_horizon)) ≡ t + 1
+committed_bound : (s : Side) (k : CellSnapshot) (c : State) (t : ℕ) (old new : State) → own_bound s k ≤ t
+    → own_bound s (known_with s c (t + 1) (word_of_other s k) (spec_horizon_next s old new t k.spec_horizon)) ≡ t + 1
 committed_bound Host k c t old new le = refl
 committed_bound Para k c t old new le = omega arith
 
@@ -194,7 +200,8 @@ horizon_committed p t op none later is =
     let o : own_bound p.side k ≡ t + 1 = committed_bound p.side p.known (chip_after p.known.chip p.side op) t p.known.chip (chip_after p.known.chip p.side op) (omega arith) in
     ap own_horizon is ∙ ends_at (own_bound p.side k) p.events (access_at t p.side op p.known.chip) none (omega arith)
 
-pub horizon_looked : (p : PassState) {q : PassState} (t : ℕ) (lines : Lines) → p.ahead ≡ [] → p.speculative ≡ [] → own_horizon p ≤ t → Learns (after_look p t lines) q → own_horizon q ≡ t + 1
+pub horizon_looked : (p : PassState) {q : PassState} (t : ℕ) (lines : Lines) → p.ahead ≡ [] → p.speculative ≡ [] → own_horizon p ≤ t
+    → Learns (after_look p t lines) q → own_horizon q ≡ t + 1
 horizon_looked p {q} t lines none speculative later learns =
     let is = learns.plain speculative in
     let was = ends_at (own_bound p.side p.known) p.events (lines_at t p.side lines) none (omega arith) in

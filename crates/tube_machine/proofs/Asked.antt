@@ -20,7 +20,7 @@ use Rattle.tube_party.specs.Transitions.{PortRun, IsAnswered, IsAnsweredAgain, s
 use Rattle.tube_party.specs.Steps.{port_run_on}
 use Rattle.tube_machine.specs.BusModel.{BusModel, IsWired, StaysPlain}
 use Rattle.tube_machine.specs.Step.{At, at_of, is_break, asks, asks_by, after_look, closed_to, next_state, transitions_of}
-use Rattle.tube_machine.specs.Exchange.{IsAtTube, IsSkipping, owed_at}
+use Rattle.tube_machine.specs.Exchange.{IsAtTube, IsOneCycle, owed_at}
 use Rattle.tube_machine.specs.Lawful.{asked_closed, break_closed, next_closed}
 use Rattle.tube_machine.specs.NoBreak.{no-break, plain-asks}
 use Rattle.tube_machine.specs.Whole.{reach_of, IsMemory, StaysAtRest, IsOnward, IsServed}
@@ -48,7 +48,8 @@ module _ {part : Part} {B D : Type 0} {w : BusModel B} {plain : B → Lines → 
   }
 
   -- none at all
-  served-none : {bound : ℕ} {at : At B} {d : D} → plain at.bus lines ≡ true → w.closed at.bus ≤ at.due + 1 → IsSome (next_cycle part at.cpu) → IsServed part w plain answers lines bound at d at d
+  served-none : {bound : ℕ} {at : At B} {d : D} → plain at.bus lines ≡ true → w.closed at.bus ≤ at.due + 1 → IsSome (next_cycle part at.cpu)
+      → IsServed part w plain answers lines bound at d at d
   served-none first before on = grind arith
 
   -- steps that are served up to a tick are served up to a later one
@@ -65,7 +66,7 @@ module _ (part : Part) {B D : Type 0} {w : BusModel B} (wired : IsWired w) {read
     {rests : B → Lines → Bool → ℕ → Type 0} (stays_at_rest : StaysAtRest w writes rests) {plain : B → Lines → Bool} (stays : StaysPlain w plain)
     (answers : D → ℕ → Op → ℕ → D → Type 0) (bound byte : ℕ) {lines : Lines} {masks : Bool} {quiet n : ℕ} {m : B} {r : Regs} {o : LastAccess} {asked : Op}
     (cycle : n ≡ w.cycle m) (first : plain m lines ≡ true) (free : IsFree part w bound m)
-    (outside : (t : ℕ) → IsOutside part (reach_of w reads writes) t r m o) (skip : IsSkipping w m (access_of o) asked) (some : 1 < n)
+    (outside : (t : ℕ) → IsOutside part (reach_of w reads writes) t r m o) (skip : IsOneCycle w m (access_of o) asked) (some : 1 < n)
     (rest : rests m lines masks quiet) (held : masks ≡ has_flag r.p INTERRUPT) where
   abbrev c : Cycle
   c = access_of o
@@ -170,7 +171,8 @@ module _ (part : Part) {B D : Type 0} {w : BusModel B} (wired : IsWired w) {read
         at-look part wired stays cycle_on ((outside from).over byte) (omega (arith, closed_on)) (free_to (top from + 1) bound free) (plain_to (top from + 1))
         (omega (arith, fits, in_run, some)) (omega (arith, fits, early, some)) (omega (arith, fits, some)) looked
 
-    talk : (until safe_until : ℕ) → bound ≤ until → bound ≤ safe_until → (j : ℕ) × PortRun (transitions_of part w) answers until (shown_lines lines safe_until) j (starts u from) d (ended from) e
+    talk : (until safe_until : ℕ) → bound ≤ until → bound ≤ safe_until
+        → (j : ℕ) × PortRun (transitions_of part w) answers until (shown_lines lines safe_until) j (starts u from) d (ended from) e
     talk until safe_until in_run early =
         let way = to-there until safe_until in_run in
         let v : ℕ = owed_at n from (top from) (w.closed came.0) in
@@ -222,7 +224,8 @@ module _ (part : Part) {B D : Type 0} {w : BusModel B} (wired : IsWired w) {read
     closed_then s t high before = let is = wired.closed m t in omega (arith, is, before, high)
 
     -- the branch
-    branched : (s : ℕ) → w.closed m ≤ s + 1 → s + n * k ≤ bound → (far until safe_until : ℕ) → bound ≤ far → bound ≤ until → bound ≤ safe_until → IsFree part w far (w.close m s) →
+    branched : (s : ℕ) → w.closed m ≤ s + 1 → s + n * k ≤ bound → (far until safe_until : ℕ) → bound ≤ far → bound ≤ until → bound ≤ safe_until
+        → IsFree part w far (w.close m s) →
         IsInProgress part w plain far n until lines safe_until (behind s) (at (s + n * k)) (s + n * k)
     branched s before fits far until safe_until far_on in_run early clear =
         let begun : IsInProgress part w plain far n until lines safe_until (behind s) (behind s) s =

@@ -92,7 +92,8 @@ module _ (part : Part) {B : Type 0} {w : BusModel B} (wired : IsWired w) {plain 
     pub is_plain : plain new.bus lines ≡ true
     pub due : new.due ≡ s.due + 1
 
-  pub after-look : {lines : Lines} (s : At B) {new : At B} (t : ℕ) → w.closed s.bus ≤ t → plain s.bus lines ≡ true → new ≡ after_look part w (closed_to w s t) lines → IsLookedAt lines t s new
+  pub after-look : {lines : Lines} (s : At B) {new : At B} (t : ℕ) → w.closed s.bus ≤ t → plain s.bus lines ≡ true
+      → new ≡ after_look part w (closed_to w s t) lines → IsLookedAt lines t s new
   after-look {lines} s {new} t low is_plain is =
       let x : At B = closed_to w s t in
       let plain_there : plain x.bus lines ≡ true = stays.close s.bus lines t ∙ is_plain in
@@ -122,7 +123,8 @@ module _ (part : Part) {B : Type 0} {w : BusModel B} (wired : IsWired w) {plain 
     look-next lines high is = grind arith
 
   -- a plain look below `safe_until`
-  sees-on : (until : ℕ) (lines : Lines) (safe_until : ℕ) (start : At B) (c : cpu.State) (b : B) (t u : ℕ) (new : At B) → Came part w until lines safe_until start (at_of c (w.close b u) t) → u ≤ t + 1
+  sees-on : (until : ℕ) (lines : Lines) (safe_until : ℕ) (start : At B) (c : cpu.State) (b : B) (t u : ℕ) (new : At B)
+      → Came part w until lines safe_until start (at_of c (w.close b u) t) → u ≤ t + 1
       → next_cycle part c ≡ None → t < until → t < safe_until → w.pending b t ≡ false →
       new ≡ after_look part w (closed_to w (at_of c b t) (t + 1)) lines → Came part w until lines safe_until start new
   sees-on until lines safe_until start c b t u new came high over low early none is =
@@ -131,7 +133,8 @@ module _ (part : Part) {B : Type 0} {w : BusModel B} (wired : IsWired w) {plain 
 
   module _ {far n until : ℕ} {lines : Lines} {safe_until : ℕ} {start s : At B} where
     -- before the next access, if no steps are owed
-    pub caught-up : n ≡ w.cycle s.bus → IsSome (next_cycle part s.cpu) → w.closed s.bus ≤ s.due + 1 → IsFree part w far s.bus → (plain start.bus lines ≡ true → plain s.bus lines ≡ true) →
+    pub caught-up : n ≡ w.cycle s.bus → IsSome (next_cycle part s.cpu) → w.closed s.bus ≤ s.due + 1 → IsFree part w far s.bus
+        → (plain start.bus lines ≡ true → plain s.bus lines ≡ true) →
         Came part w until lines safe_until start s → IsInProgress part w plain far n until lines safe_until start s s.due
     caught-up cycle goes_on before free kept came = grind arith
 
@@ -211,7 +214,8 @@ module _ (part : Part) {B : Type 0} {w : BusModel B} (wired : IsWired w) {plain 
 
         -- after which comes another access
         pub quick-past : w.closed b ≤ s.due + 1 → next_cycle part on ≡ None → plain start.bus lines ≡ true → s.due + (n - 1) < until → s.due + (n - 1) < safe_until →
-            {t : ℕ} → t ≡ s.due + (n - 1) → {new : At B} → new ≡ after_look part w (closed_to w (at_of on b t) (t + 1)) lines → IsInProgress part w plain far n until lines safe_until start new new.due
+            {t : ℕ} → t ≡ s.due + (n - 1) → {new : At B} → new ≡ after_look part w (closed_to w (at_of on b t) (t + 1)) lines
+            → IsInProgress part w plain far n until lines safe_until start new new.due
         quick-past before over first in_run early {t} here {new} there =
             let some : 1 < n = omega (arith, way.cycle, wired.some s.bus) in
             let saw = sees-on until lines safe_until start on b t (s.due + 1) new (quick-last over here) (omega (arith, here, some)) over (omega (arith, here, in_run)) (omega (arith, here, early))

@@ -24,7 +24,8 @@ pub none-spent : {counts : Type 0} {cycle safe_until : ℕ} {old : NoteBudget} �
 none-spent = record { room = λ is. omega arith; late = λ is top high late. late }
 
 -- and on from there
-pub spent-on : {counts : Type 0} {cycle safe_until : ℕ} {old mid new : NoteBudget} → HasSpent counts cycle safe_until old mid → HasSpent counts cycle safe_until mid new → HasSpent counts cycle safe_until old new
+pub spent-on : {counts : Type 0} {cycle safe_until : ℕ} {old mid new : NoteBudget} → HasSpent counts cycle safe_until old mid
+    → HasSpent counts cycle safe_until mid new → HasSpent counts cycle safe_until old new
 spent-on a b = record { room = λ is. omega (arith, a.room is, b.room is); late = λ is top high late. b.late is top high (a.late is top high late) }
 
 -- an access

@@ -39,7 +39,8 @@ alone-parts true true false is = (refl, (refl, refl))
 alone-parts _ _ _ is = cc
 
 -- if no room is left, the run began with little of it
-pub cramped : {counts : Type 0} {n safe_until : ℕ} {first last : NoteBudget} → HasSpent counts n safe_until first last → counts → last.room ≡ 0 → last.seen < 16 → IsBudgetExhausted n safe_until first.due first.room
+pub cramped : {counts : Type 0} {n safe_until : ℕ} {first last : NoteBudget} → HasSpent counts n safe_until first last → counts → last.room ≡ 0
+    → last.seen < 16 → IsBudgetExhausted n safe_until first.due first.room
 cramped {n = n} {safe_until} {first} {last} all is none few =
     let no_room : n * last.room ≡ 0 = ap (λ (k : ℕ). n * k) none ∙ mul-zero n in
     let some_seen : n * last.seen ≤ n * 15 = mul-le-mul_left n (omega (arith, few)) in
@@ -102,7 +103,8 @@ module _ (part : Part) {B : Type 0} (w : BusModel B) (wired : IsWired w) where
     not_safe-by last new ask is late = grind arith
 
     pub stops-at-look : {D : Type 0} {answers : D → ℕ → Op → ℕ → D → Type 0} {d : D} {last new : At B} {ask : Ask} →
-        IsAsk (transitions_of part w) n last ask new → (is_break part w last ≡ true) ⊎ (min n safe_until ≤ last.due) → PortRunToAsk (transitions_of part w) answers n (shown_lines lines safe_until) last d ask new d
+        IsAsk (transitions_of part w) n last ask new → (is_break part w last ≡ true) ⊎ (min n safe_until ≤ last.due)
+        → PortRunToAsk (transitions_of part w) answers n (shown_lines lines safe_until) last d ask new d
     stops-at-look {last = last} {new} {ask} is late = record { accesses = 0; last = last; port_run = (refl, (0, refl)); asked = is; not_safe = not_safe-by last new ask is late }
 
   -- the tick rises

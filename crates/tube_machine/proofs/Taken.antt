@@ -46,12 +46,14 @@ module _ (part : Part) {B : Type 0} (w : BusModel B) where
   at-tube b there (Write at v) same asked = rw same (asked-by (w.has_tube b && w.is_tube at) (op.Write (at % 8) v) asked)
 
   -- if a byte is asked for, the Tube answers it
-  pub asked-at-tube : (wired : IsWired w) (s : At B) (c : Cycle) (t : ℕ) → next_cycle part s.cpu ≡ Some c → is_break part w s ≡ false → IsAskedByte part w s → IsAtTube w (w.close s.bus t) c
+  pub asked-at-tube : (wired : IsWired w) (s : At B) (c : Cycle) (t : ℕ) → next_cycle part s.cpu ≡ Some c → is_break part w s ≡ false
+      → IsAskedByte part w s → IsAtTube w (w.close s.bus t) c
   asked-at-tube wired s c t is none asked =
       at-tube s.bus (w.close s.bus t) c (wired.tube_close s.bus t)
       (rw (plain-asks part w s none, is) at asked)
 
-  given-shown : (s : cpu.State) (b : B) (t byte : ℕ) (c : Cycle) → next_cycle part s ≡ Some c → IsAtTube w b c → after_byte part s byte ≡ after_byte part s (byte_of w b t (Some (Byte byte)) c)
+  given-shown : (s : cpu.State) (b : B) (t byte : ℕ) (c : Cycle) → next_cycle part s ≡ Some c → IsAtTube w b c
+      → after_byte part s byte ≡ after_byte part s (byte_of w b t (Some (Byte byte)) c)
   given-shown s b t byte (Read at) is there = rw there
   given-shown s b t byte (Write at v) is there = after_byte-write part s at v byte is
 

@@ -19,7 +19,8 @@ use Rattle.tube_machine.proofs.InProgress.{IsInProgress, IsFree, begins, caught-
 use Rattle.tube_machine.proofs.WholeSteps.{whole-last}
 
 -- one more
-pub passes_more : {S : Type 0} (m : Transitions S) (over : S → Type 0) (n : ℕ) (v : Shown) (k : ℕ) (s u new : S) → Passes m over n v k s u → over u → ToLook m n v u new → Passes m over n v (suc k) s new
+pub passes_more : {S : Type 0} (m : Transitions S) (over : S → Type 0) (n : ℕ) (v : Shown) (k : ℕ) (s u new : S) → Passes m over n v k s u → over u
+    → ToLook m n v u new → Passes m over n v (suc k) s new
 passes_more m over n v zero s u new h is looks = (rw h is, (new, (rw h looks, refl)))
 passes_more m over n v (suc k) s u new h is looks = (h.0, (h.1.0, (h.1.1.0, passes_more m over n v k h.1.0 u new h.1.1.1 is looks)))
 
@@ -27,7 +28,8 @@ module _ (part : Part) {B : Type 0} {w : BusModel B} (wired : IsWired w) {plain 
     {reads writes : ℕ → Bool} (memory : IsMemory w reads writes) {rests : B → Lines → Bool → ℕ → Type 0} (stays_at_rest : StaysAtRest w writes rests) (masks : Bool) (quiet : ℕ) where
   -- a whole instruction and the look after it
   pub whole-looks : (k due : ℕ) (r new : Regs) (m there : B) → 0 < k → n ≡ w.cycle m → plain m lines ≡ true → IsFree part w far m →
-      IsDone part (reach_of w reads writes) due r m k new there → w.closed m ≤ due + 1 → due + n * k ≤ far → due + n * k ≤ until → due + n * k ≤ safe_until → due + n * k ≤ quiet →
+      IsDone part (reach_of w reads writes) due r m k new there → w.closed m ≤ due + 1 → due + n * k ≤ far → due + n * k ≤ until
+      → due + n * k ≤ safe_until → due + n * k ≤ quiet →
       rests m lines masks quiet → has_flag r.p INTERRUPT ≡ masks →
       ToLook (transitions_of part w) until (shown_lines lines safe_until) (at_of (fresh Instruction r) m due) (at_of (fresh Instruction new) (w.close there (due + n * k)) (due + n * k))
   whole-looks k due r new m there more cycle first free done before far_on in_run early still rest held =

@@ -58,7 +58,8 @@ module _ (part : Part) {B D : Type 0} {w : BusModel B} (wired : IsWired w) {answ
       by : (j : ℕ) (s last : At B) (d e : D) → PortRun (transitions_of part w) answers n v j s d last e → w.cycle last.bus ≡ w.cycle s.bus
       by zero s last d e h = looks-cycle part w wired n v.lines v.safe_until h.1.0 s last h.1.1
       by (suc j) s last d e h =
-          by j h.1 last h.2 e h.5 ∙ ap (λ (x : At B). w.cycle x.bus) h.4.goes ∙ next-cycle part w wired h.0 (Some (Byte h.4.byte)) ∙ looks-cycle part w wired n v.lines v.safe_until h.3.0 s h.0 h.3.1
+          by j h.1 last h.2 e h.5 ∙ ap (λ (x : At B). w.cycle x.bus) h.4.goes ∙ next-cycle part w wired h.0 (Some (Byte h.4.byte))
+          ∙ looks-cycle part w wired n v.lines v.safe_until h.3.0 s h.0 h.3.1
 
   -- and the tick rises
   pub way-rises : s.due ≤ new.due
@@ -76,7 +77,8 @@ pub record IsPortRun (part : Part) {B D : Type 0} (w : BusModel B) (plain : B �
 module _ {part : Part} {B D : Type 0} {w : BusModel B} (wired : IsWired w) {plain : B → Lines → Bool} (stays : StaysPlain w plain) {answers : D → ℕ → Op → ℕ → D → Type 0}
     {far n until : ℕ} {lines : Lines} {safe_until : ℕ} {start : At B} {d : D} where
   -- what is owed is done
-  pub left-off : {s : At B} {e : D} {since : ℕ} {b : B} → IsPortRun part w plain answers far n until lines safe_until start d s e since → b ≡ w.close s.bus (owed_at n since s.due (w.closed s.bus))
+  pub left-off : {s : At B} {e : D} {since : ℕ} {b : B} → IsPortRun part w plain answers far n until lines safe_until start d s e since
+      → b ≡ w.close s.bus (owed_at n since s.due (w.closed s.bus))
       → Way (transitions_of part w) answers until (shown_lines lines safe_until) start d (record s { bus = b }) e
   left-off {s} at is = then-came (transitions_of part w) (shown_lines lines safe_until) at.port_run (rw is at.way.looks)
 

@@ -213,8 +213,10 @@ module _ (part : Part) {B : Type 0} {w : BusModel B} (wired : IsWired w) {reads 
               to-tube k _ since t there top on one.rest (omega (arith, fits, sum)) far_on in_run still
 
         -- an instruction that ends before tick top is done but for its last access
-        walk : (k : ℕ) (s : At B) (since t : ℕ) (last : cpu.State) (there : B) (top : ℕ) → IsMid t s since → Carried reach t part (suc k) s.cpu s.bus last there → next_cycle part last ≡ None →
-            s.due + n * suc k ≡ top → top ≤ far → top ≤ until → top ≤ quiet → (p : At B) × (IsMid t p since × (Carried reach t part (suc zero) p.cpu p.bus last there × (p.due + n ≡ top)))
+        walk : (k : ℕ) (s : At B) (since t : ℕ) (last : cpu.State) (there : B) (top : ℕ) → IsMid t s since
+            → Carried reach t part (suc k) s.cpu s.bus last there → next_cycle part last ≡ None →
+            s.due + n * suc k ≡ top → top ≤ far → top ≤ until → top ≤ quiet
+            → (p : At B) × (IsMid t p since × (Carried reach t part (suc zero) p.cpu p.bus last there × (p.due + n ≡ top)))
         walk zero s since t last there top mid h over fits far_on in_run still = (s, (mid, (h, ap (λ (x : ℕ). s.due + x) (sym (mul-one n)) ∙ fits)))
         walk (suc k) s since t last there top mid h over fits far_on in_run still =
             let sum : n * suc (suc k) ≡ n * suc k + n = next-more n (suc k) in
@@ -299,7 +301,8 @@ module _ (part : Part) {B : Type 0} {w : BusModel B} (wired : IsWired w) {reads 
             )
 
         -- as above, from a bus whose devices need not be closed yet as far as it counts
-        pub whole-behind : (k due u : ℕ) (r new : Regs) (m there : B) → 0 < k → u ≤ due → IsInProgress part w plain far n until lines safe_until start (at_of (fresh Instruction r) (w.close m u) due) due →
+        pub whole-behind : (k due u : ℕ) (r new : Regs) (m there : B) → 0 < k → u ≤ due
+            → IsInProgress part w plain far n until lines safe_until start (at_of (fresh Instruction r) (w.close m u) due) due →
             IsDone part reach due r m k new there → w.closed m ≤ due + 1 → due + n * k ≤ far → due + n * k ≤ until → due + n * k ≤ safe_until → due + n * k ≤ quiet →
             rests (w.close m u) lines masks quiet → has_flag r.p INTERRUPT ≡ masks → plain start.bus lines ≡ true →
             IsInProgress part w plain far n until lines safe_until start (at_of (fresh Instruction new) (w.close there (due + n * k)) (due + n * k))

@@ -29,7 +29,7 @@ module _ {B : Type 0} (w : BusModel B) where
 
   -- An access asks this of the Tube, takes one cycle, and does not change the bus, however far that
   -- is closed.
-  pub record IsSkipping (b : B) (c : Cycle) (op : Op) : Type 0 where
+  pub record IsOneCycle (b : B) (c : Cycle) (op : Op) : Type 0 where
     pub asks : asks_by w b (Some c) ≡ Some (access op)
     pub leaves : (t : ℕ) → w.after (w.close b t) c ≡ w.close b t
     pub fast : (t u : ℕ) → w.takes (w.close b u) t c ≡ w.cycle (w.close b u)
@@ -75,7 +75,7 @@ module _ (part : Part) {B : Type 0} (w : BusModel B) where
     pub cycle : Cycle
     pub op : Op
     pub next : next_cycle part s.cpu ≡ Some cycle
-    pub skip : IsSkipping w s.bus cycle op
+    pub skip : IsOneCycle w s.bus cycle op
 
   -- the next step is an access to the Tube
   abbrev pub IsAskedByte : At B → Type 0

@@ -3,7 +3,7 @@ ghost use Rattle.std.specs.Prelude.{ℕ, Bool, ◌≡◌, ◌≤◌, ◌<◌, �
 ghost use Rattle.cpu_alu.specs.declared.Cycle.{Cycle};
 ghost use Rattle.tube_chip.specs.declared.Lines.{Lines};
 ghost use Rattle.tube_machine.specs.BusModel.{BusModel, IsWired, StaysPlain};
-ghost use Rattle.tube_machine.specs.Exchange.{IsExchanged, IsQuick, IsAtTube, IsSkipping};
+ghost use Rattle.tube_machine.specs.Exchange.{IsExchanged, IsQuick, IsAtTube, IsOneCycle};
 ghost use Rattle.tube_machine.specs.Whole.{reach_of, IsMemory, StaysAtRest};
 ghost use Rattle.cpu_whole.specs.Whole as whole;
 ghost use Rattle.cpu_whole.specs.Outside as outside;
@@ -209,7 +209,7 @@ pub trait TubeBus<N>: Drop {
     /// Returns what an access asks of the Tube, if it does not change the bus, or `None` if nothing
     /// is known.
     fn asked(&self, cycle: Cycle) -> Option<Op>
-        ensures { MatchOption result (Unit {0}) (λ op. IsSkipping bus_model (state self.now) cycle op) };
+        ensures { MatchOption result (Unit {0}) (λ op. IsOneCycle bus_model (state self.now) cycle op) };
 
     /// Returns the number of cycles of the instruction at the program counter, if it is a branch
     /// over plain memory that leads from registers `from` to registers `to`, and otherwise 0. `L`

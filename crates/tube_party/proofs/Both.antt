@@ -53,7 +53,8 @@ kept_alike : {side : Side} {l m : List Event} {keep : ℕ} {list : List Entry} {
 kept_alike {keep = keep} same k = record { list_is = k.list_is ∙ ap (take keep) same; count_is = k.count_is ∙ ap length same }
 
 -- looks that are safe by what a party asks come at most `tie_offset` ticks after its step
-pub in_time : {S : Type 0} (r : Transitions S) (n tie_offset safe_until : ℕ) (s last : S) (ask : Ask) → IsAsk r n last ask s → IsSafe tie_offset ask safe_until → (x : ℕ) → x < n → x < safe_until
+pub in_time : {S : Type 0} (r : Transitions S) (n tie_offset safe_until : ℕ) (s last : S) (ask : Ask) → IsAsk r n last ask s
+    → IsSafe tie_offset ask safe_until → (x : ℕ) → x < n → x < safe_until
     → x < r.due last + tie_offset
 in_time r n tie_offset safe_until s last ask is told x low early = grind arith
 

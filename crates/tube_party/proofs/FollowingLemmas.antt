@@ -109,7 +109,8 @@ module _ {S : Type 0} (m : Transitions S) (lawful : IsLawful m) (side : Side) (t
   -- how a replay ends with the side's entries that are left
   data Ending (last : S) (left : List Numbered) (e : Ended S) : Type 0 where
     Finishes : n ≤ m.due last → e ≡ finish_leaves m n last left → Ending last left e
-    Parts : (op : Op) (line : ℕ) → m.due last < n → m.asks last ≡ Some (access op) → Misses left (length trace) (m.due last) op line → e ≡ differs m side last op line → Ending last left e
+    Parts : (op : Op) (line : ℕ) → m.due last < n → m.asks last ≡ Some (access op) → Misses left (length trace) (m.due last) op line
+        → e ≡ differs m side last op line → Ending last left e
 
   -- the machine and the side's entries agree up to a point, and how it ends there
   record Comes (s : S) (own : List Numbered) (e : Ended S) : Type 0 where

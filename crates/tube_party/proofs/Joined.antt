@@ -80,7 +80,8 @@ pub record IsJoined (c : State) (trace : List Entry) (l : List Event) : Type 0 w
 
 -- The first of the events of both sides, which is of side `one`.
 module _ (one other : Side) (apart : is_side one other ≡ false) (back : is_side other one ≡ false) (which : (x : Side) → (x ≡ one) ⊎ (x ≡ other)) where
-  ahead_of_trace : (x : Event) (trace : List Entry) (l m : List Event) → accesses l ≡ own one trace → accesses m ≡ own other trace → All (IsBefore x) l → All (IsBefore x) m → IsAheadOf x trace
+  ahead_of_trace : (x : Event) (trace : List Entry) (l m : List Event) → accesses l ≡ own one trace → accesses m ≡ own other trace
+      → All (IsBefore x) l → All (IsBefore x) m → IsAheadOf x trace
   ahead_of_trace x [] l m ol om al am = tt
   ahead_of_trace x (e ∷ trace) l m ol om al am = elim (which e.side) [
     | inl is ↦ head_holds (IsAhead x) one e trace l is ol (ahead_of_accesses x l al)

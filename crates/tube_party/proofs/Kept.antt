@@ -13,7 +13,8 @@ use Rattle.tube_party.specs.Logs.{accesses-append, noted_all_take}
 use Rattle.tube_party.specs.Turn.{note_all_leaves}
 use Rattle.tube_party.proofs.Runs.{event}
 
-by_side : (side with_side : Side) (x : Event) (xs ys zs : List Event) → xs ≡ ys ++ zs → (if is_side side with_side then x ∷ xs else xs) ≡ (if is_side side with_side then x ∷ ys else ys) ++ zs
+by_side : (side with_side : Side) (x : Event) (xs ys zs : List Event) → xs ≡ ys ++ zs
+    → (if is_side side with_side then x ∷ xs else xs) ≡ (if is_side side with_side then x ∷ ys else ys) ++ zs
 by_side side with_side x xs ys zs e = grind arith
 
 pub of_side-append : (side : Side) (xs ys : List Event) → of_side side (xs ++ ys) ≡ of_side side xs ++ of_side side ys

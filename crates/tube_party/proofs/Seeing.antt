@@ -19,7 +19,8 @@ module _ {S : Type 0} (m : Transitions S) (n : ℕ) (lines : Lines) (safe_until 
       record { steps = all.0; last = told.last; looks = all.1; asked = told.asked; not_safe = not_safe }
 
   -- or at one, which saw the lines
-  pub sees_one_more : (old cur at new : S) (ask : Ask) (t : Tick) → (k : ℕ) × Looks m n (shown_lines lines safe_until) k old cur → Advances m n cur ask at → ask ≡ Look t → t.0 < safe_until
+  pub sees_one_more : (old cur at new : S) (ask : Ask) (t : Tick) → (k : ℕ) × Looks m n (shown_lines lines safe_until) k old cur
+      → Advances m n cur ask at → ask ≡ Look t → t.0 < safe_until
       → new ≡ m.next at (Some (Seen lines)) →
       (k : ℕ) × Looks m n (shown_lines lines safe_until) k old new
   sees_one_more old cur at new ask t so_far told is early answered =
@@ -49,9 +50,11 @@ module _ {S : Type 0} (m : Transitions S) (n : ℕ) (lines : Lines) (safe_until 
 
 module _ {S D : Type 0} (m : Transitions S) (answers : D → ℕ → Op → ℕ → D → Type 0) (n : ℕ) (lines : Lines) (safe_until : ℕ) where
   -- after some of them the party went on, and stopped at a step to which the port has no answer
-  pub port_run_to_ask_there : (old cur new : S) (d f : D) (ask : Ask) → (j : ℕ) × PortRun m answers n (shown_lines lines safe_until) j old d cur f → LookRunToAsk m n (shown_lines lines safe_until) cur ask new
+  pub port_run_to_ask_there : (old cur new : S) (d f : D) (ask : Ask) → (j : ℕ) × PortRun m answers n (shown_lines lines safe_until) j old d cur f
+      → LookRunToAsk m n (shown_lines lines safe_until) cur ask new
       → PortRunToAsk m answers n (shown_lines lines safe_until) old d ask new f
-  port_run_to_ask_there old cur new d f ask so_far sees = port_run_to_ask_after m answers n lines safe_until old cur new d f f ask so_far (port_run_to_ask_sees m answers n lines safe_until cur new f ask sees)
+  port_run_to_ask_there old cur new d f ask so_far sees =
+      port_run_to_ask_after m answers n lines safe_until old cur new d f f ask so_far (port_run_to_ask_sees m answers n lines safe_until cur new f ask sees)
 
   -- or at an access, which the port answered
   pub port_run_to_ask_one_more : (old cur at new : S) (d f e : D) (ask : Ask) (t : Tick) (op : Op) (byte : ℕ) → (j : ℕ) × PortRun m answers n (shown_lines lines safe_until) j old d cur f

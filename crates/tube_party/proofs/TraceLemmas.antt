@@ -75,7 +75,8 @@ all_answered : (c : State) (l : List Event) → IsAnsweredFrom c l → IsAnswere
 all_answered c [] h = tt
 all_answered c (e ∷ l) h = answered_by c e.tick e.side e.query e.answer (accesses l) h.0 (all_answered (act c e.side e.query).0 l h.1)
 
-pub reference_trace : {S T : Type 0} (h : Transitions S) (p : Transitions T) → IsLawful h → IsLawful p → ((s : S) → MayAsk Host (h.asks s)) → ((t : T) → MayAsk Para (p.asks t)) → ReferenceIsTrace h p
+pub reference_trace : {S T : Type 0} (h : Transitions S) (p : Transitions T) → IsLawful h → IsLawful p → ((s : S) → MayAsk Host (h.asks s))
+    → ((t : T) → MayAsk Para (p.asks t)) → ReferenceIsTrace h p
 reference_trace {S} {T} h p lh lp may_h may_p s t n =
     let w : World S T = reference h p s t n in
     let f = followed h p lh lp s t n in

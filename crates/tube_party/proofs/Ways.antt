@@ -55,7 +55,8 @@ longer_by keep list x = elim (nat_lt (length list) keep) as (λ b. (length list 
       | false ↦ (omega arith, λ n le. refl)
     ]
 
-pub still_kept : (keep : ℕ) (list xs : List Entry) → (length list ≤ length (note_all_leaves keep list xs)) × ((n : ℕ) → n ≤ length list → take n (note_all_leaves keep list xs) ≡ take n list)
+pub still_kept : (keep : ℕ) (list xs : List Entry)
+    → (length list ≤ length (note_all_leaves keep list xs)) × ((n : ℕ) → n ≤ length list → take n (note_all_leaves keep list xs) ≡ take n list)
 still_kept keep list [] = (omega arith, λ n le. refl)
 still_kept keep list (x ∷ xs) =
     let one = longer_by keep list x in

@@ -104,7 +104,8 @@ pub trait Party: Drop {
         port: &mut D,
     ) -> Ask
         requires { until.0 ≤ MOST }
-        ensures { PortRunToAsk transitions D.answers until.0 (shown_lines lines.now safe_until.0) (state self.old) (D.state port.old) result (state self.new) (D.state port.new) }
+        ensures { let shown = shown_lines lines.now safe_until.0 in
+            PortRunToAsk transitions D.answers until.0 shown (state self.old) (D.state port.old) result (state self.new) (D.state port.new) }
     {
         loop {
             let ask = self.advance_seeing(until, lines, safe_until);

@@ -85,7 +85,8 @@ module _ {w : Speculation} (law : IsSpeculation w) (base : List Event) where
   may_speculate p t low same =
       watch_from _ _ (own_horizon p) _ _ t (watch_rest _ p.known.spec_horizon _ _ _ t (law.watches p.known.chip t same)) low
 
-  pub speculating_more : {p q : PassState} (t : ℕ) → IsSpeculating w base p → p.known.spec_horizon ≤ t → q ≡ after_speculate p (from_on p.known.spec_horizon (made t)) t → IsSpeculating w base q
+  pub speculating_more : {p q : PassState} (t : ℕ) → IsSpeculating w base p → p.known.spec_horizon ≤ t
+      → q ≡ after_speculate p (from_on p.known.spec_horizon (made t)) t → IsSpeculating w base q
   speculating_more {p} t is le q_is =
       subst (λ x. IsSpeculating w base x) (sym q_is) (record {
         confirmed = is.confirmed;
@@ -100,7 +101,8 @@ module _ {w : Speculation} (law : IsSpeculation w) (base : List Event) where
   -- what a learn leaves: nothing new is known; or the host has reached the present speculative
   -- horizon, and what lies below it is confirmed
   abbrev Learnt : PassState → PassState → Type 0
-  Learnt p q = ((q.known.host < q.known.spec_horizon) × (q.known.spec_horizon ≡ p.known.spec_horizon)) ⊎ ((q.known.spec_horizon ≤ q.known.host) × (q.speculative ≡ []) × (q.events ≡ base ++ made q.known.spec_horizon))
+  Learnt p q = ((q.known.host < q.known.spec_horizon) × (q.known.spec_horizon ≡ p.known.spec_horizon))
+      ⊎ ((q.known.spec_horizon ≤ q.known.host) × (q.speculative ≡ []) × (q.events ≡ base ++ made q.known.spec_horizon))
 
   pub speculating_learned : {p q : PassState} → p.side ≡ Para → IsSpeculating w base p → Learns p q → IsSpeculating w base q × Learnt p q
   speculating_learned {p} {q} side is learns = go (rw side at learns.spec_horizon) (cases_lt q.known.host q.known.spec_horizon)
@@ -114,7 +116,8 @@ module _ {w : Speculation} (law : IsSpeculation w) (base : List Event) where
             record {
               confirmed = q.known.spec_horizon;
               events = same;
-              speculative = none ∙ sym (ap (from_on q.known.spec_horizon) (sym (part q.known.spec_horizon q.known.spec_horizon (omega arith))) ∙ none_left q.known.spec_horizon (made q.known.spec_horizon));
+              speculative =
+                  none ∙ sym (ap (from_on q.known.spec_horizon) (sym (part q.known.spec_horizon q.known.spec_horizon (omega arith))) ∙ none_left q.known.spec_horizon (made q.known.spec_horizon));
               passed = omega arith;
               order = omega arith;
             },
@@ -145,7 +148,8 @@ module _ {w : Speculation} (law : IsSpeculation w) (base : List Event) where
           let k = learns.taken taken.1 in
           let t = q.known.spec_horizon in
           let all : made is.confirmed ++ below t (from_on is.confirmed (made p.known.spec_horizon)) ≡ made t =
-          ap (λ l. l ++ below t (from_on is.confirmed (made p.known.spec_horizon))) (sym (part is.confirmed p.known.spec_horizon is.order)) ∙ join_parts is.confirmed t (made p.known.spec_horizon) (omega arith)
+          ap (λ l. l ++ below t (from_on is.confirmed (made p.known.spec_horizon))) (sym (part is.confirmed p.known.spec_horizon is.order))
+          ∙ join_parts is.confirmed t (made p.known.spec_horizon) (omega arith)
           ∙ part t p.known.spec_horizon (omega arith) in
           settled t refl (omega arith) k.1
           (k.0 ∙ (λ i. is.events i ++ below t (is.speculative i)) ∙ append_assoc base (made is.confirmed) (below t (from_on is.confirmed (made p.known.spec_horizon))) ∙ ap (λ l. base ++ l) all)
@@ -236,7 +240,8 @@ module _ {w : Speculation} (law : IsSpeculation w) (t : ℕ) (p : PassState) whe
       go (inl x) = absurd (omega arith)
       go (inr x) = (x.1, x.2)
 
-pub passed_of : {q r : PassState} {a b : ℕ} → q.side ≡ Para → Learns q r → a ≡ r.known.spec_horizon → b ≡ word_of_other r.side r.known → a ≤ b → r.known.spec_horizon ≤ r.known.host
+pub passed_of : {q r : PassState} {a b : ℕ} → q.side ≡ Para → Learns q r → a ≡ r.known.spec_horizon → b ≡ word_of_other r.side r.known → a ≤ b
+    → r.known.spec_horizon ≤ r.known.host
 passed_of {r} {b} side learns a_is b_is le =
     let at : r.side ≡ Para = ap (λ x. x.side) learns.rest ∙ side in
     let host : b ≡ r.known.host = b_is ∙ ap (λ x. word_of_other x r.known) at in
@@ -248,5 +253,6 @@ pub tried_told : {w : Speculation} (law : IsSpeculation w) {t : ℕ} {p q : Pass
 tried_told law {t} {p} r true side told f g = told_more law t p told (f refl)
 tried_told law {t} {p} r false side told f g = told_learned law t p side told (g refl)
 
-pub tried_seat : (q r : PassState) (done : Bool) (t : ℕ) (looks : List Event) → (IsTrue done → r ≡ after_speculate q looks t) → (IsFalse done → Learns q r) → (r.cell ≡ q.cell) × (r.side ≡ q.side)
+pub tried_seat : (q r : PassState) (done : Bool) (t : ℕ) (looks : List Event) → (IsTrue done → r ≡ after_speculate q looks t)
+    → (IsFalse done → Learns q r) → (r.cell ≡ q.cell) × (r.side ≡ q.side)
 tried_seat q r done t looks f g = grind arith

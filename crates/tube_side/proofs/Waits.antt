@@ -71,7 +71,8 @@ learned_speculatively p {q} {r} side l paid = go paid (cases_lt q.known.host r.k
     go h side_of t = grind (arith, nat_tests)
 
 -- an exchange that speculates, or the words that it found
-pub tried_speculatively : (p : PassState) {q r : PassState} (t : ℕ) (looks : List Event) (done : Bool) → q.side ≡ Para → q.known.spec_horizon ≤ t → (IsTrue done → r ≡ after_speculate q looks t)
+pub tried_speculatively : (p : PassState) {q r : PassState} (t : ℕ) (looks : List Event) (done : Bool) → q.side ≡ Para → q.known.spec_horizon ≤ t
+    → (IsTrue done → r ≡ after_speculate q looks t)
     → (IsFalse done → Learns q r) → IsPaidSpeculatively p q → IsPaidSpeculatively p r
 tried_speculatively p {q} t looks true side le f g paid = subst (IsPaidSpeculatively p) (sym (f refl)) (go paid)
   where

@@ -105,5 +105,6 @@ pub read_bad_line : {text : List ℕ} {entries : List Entry} {last : Option Entr
 read_bad_line {rest} so_far some none = rw (line_stops rest some none).1 at so_far.whole
 
 pub read_bad_order : {text : List ℕ} {entries : List Entry} {last : Option Entry} {rest : List ℕ} {e : Entry} →
-    ReadSoFar text entries last rest → entry_of (take 20 rest) ≡ Some e → follows last e ≡ false → entries_behind 1 None (map entry_of (text_lines text)) ≡ Err (BadOrder (length entries + 1))
+    ReadSoFar text entries last rest → entry_of (take 20 rest) ≡ Some e → follows last e ≡ false
+    → entries_behind 1 None (map entry_of (text_lines text)) ≡ Err (BadOrder (length entries + 1))
 read_bad_order {rest} so_far is after = rw (line_reads rest is, after) at so_far.whole

@@ -27,7 +27,8 @@ invariant-loop-due g l = record {
   low : l.from ≤ l.due;
   high : l.due ≤ l.end;
   noted : g.B.TubeBus.before l.notes l.bus ≡ g.B.TubeBus.before l.fn.notes l.fn.bus;
-  spent : (safe_until : ℕ) → l.end ≤ safe_until → HasSpent (g.P.Processor.part ≡ Cmos) l.cycle safe_until (spent l.from (g.B.TubeBus.room l.fn.notes) 0) (spent l.due (g.B.TubeBus.room l.notes) 0);
+  spent : (safe_until : ℕ) → l.end ≤ safe_until
+      → HasSpent (g.P.Processor.part ≡ Cmos) l.cycle safe_until (spent l.from (g.B.TubeBus.room l.fn.notes) 0) (spent l.due (g.B.TubeBus.room l.notes) 0);
 }
 
 abbrev pub decreases-loop-due : goal.decreases-loop-due

@@ -13,7 +13,8 @@ invariant-steps g l = record {
   -- looks from here on see the lines below a tick, and from that tick on come after the entries
   -- that are done
   early : (t : ℕ) → g.M.Party.transitions.due (g.M.Party.state l.machine) ≤ t → t < l.safe_until.0 → lines_of (chip_before l.side t power_on l.trace) ≡ l.lines;
-  late : (t : ℕ) → g.M.Party.transitions.due (g.M.Party.state l.machine) ≤ t → l.safe_until.0 ≤ t → t < 1073741824 → chip_before l.side t power_on l.trace ≡ chip_before l.side t l.chip (drop l.seen l.trace);
+  late : (t : ℕ) → g.M.Party.transitions.due (g.M.Party.state l.machine) ≤ t → l.safe_until.0 ≤ t → t < 1073741824
+      → chip_before l.side t power_on l.trace ≡ chip_before l.side t l.chip (drop l.seen l.trace);
 }
 
 abbrev pub decreases-steps : goal.decreases-steps

@@ -5,7 +5,8 @@ use Rattle.tube_trace.specs.Trace.{clock_of, rest_of, lines_read, trace}
 use Rattle.tube_trace.proofs.reading.read.Goals as goal
 
 -- a text means its clock and what its lines mean
-means : (bytes : List ℕ) {rest : List ℕ} {clock : Clock} {entries : List Entry} → clock ≡ clock_of bytes → rest ≡ rest_of bytes → lines_read rest ≡ Ok entries → trace bytes ≡ Ok (clock, entries)
+means : (bytes : List ℕ) {rest : List ℕ} {clock : Clock} {entries : List Entry} → clock ≡ clock_of bytes → rest ≡ rest_of bytes
+    → lines_read rest ≡ Ok entries → trace bytes ≡ Ok (clock, entries)
 unfolding trace
 means bytes clock_is rest_is lines = rw (← rest_is, lines, ← clock_is)
 

@@ -11,7 +11,8 @@ pub loop-preserved : goal.loop-preserved
 loop-preserved c =
     let left = of_both (c.args.keep - (c.loop.counter + 1)) c.in-Some.host_rest.now c.in-Some.para_rest.now in
     let room : c.args.keep - c.loop.counter ≡ suc (c.args.keep - (c.loop.counter + 1)) = omega (arith, c.loop-test.true) in
-    let more : of_both (c.args.keep - c.loop.counter) c.loop.host.now c.loop.para.now ≡ c.in-Some.first ∷ left = rw room (more_of_both (c.args.keep - (c.loop.counter + 1)) c.loop.host.now c.loop.para.now (sym c.in-Some.ensures)) in
+    let more : of_both (c.args.keep - c.loop.counter) c.loop.host.now c.loop.para.now ≡ c.in-Some.first ∷ left =
+    rw room (more_of_both (c.args.keep - (c.loop.counter + 1)) c.loop.host.now c.loop.para.now (sym c.in-Some.ensures)) in
     record {
       text = rw (c.in_ok-push_line.ensures.text, append_assoc c.loop.text.items (line_text c.in-Some.first) (lines_text left)) (rw more at c.loop.invariant.text);
       bytes = λ all. c.loop.invariant.bytes (rw more (All-cons IsOfByte c.in-Some.first left c.in_ok-push_line.ensures.byte all));

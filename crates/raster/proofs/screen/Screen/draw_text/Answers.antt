@@ -22,7 +22,8 @@ returns-clause-drawn c =
     let most = c.bytes_from-bytes.ensures.most in
     let inside = c.inside-n.ensures.most in
     let h = fewer span bytes.count c.args.n s (omega (arith, most, inside)) c.requires.plain in
-    let off : bit s.ula.control 4 ≡ false = ap (λ (t : State). bit t.ula.control 4) (sym c.self.view_is) ∙ ap (λ (k : ℕ). bit k 4) (sym c.mode.ensures) ∙ sym c.bit.ensures ∙ c.if-bit.false in
+    let off : bit s.ula.control 4 ≡ false =
+    ap (λ (t : State). bit t.ula.control 4) (sym c.self.view_is) ∙ ap (λ (k : ℕ). bit k 4) (sym c.mode.ensures) ∙ sym c.bit.ensures ∙ c.if-bit.false in
     let left = c.draw_cells.ensures.text ∙ ap (λ (part : List ℕ). texts (code_in part bytes.step) bytes.count c.self.inside.text) (rest_of bytes.at ram)
     ∙ ap (λ (t : State). texts (code_in (drop bytes.at ram) bytes.step) bytes.count t.text) c.self.view_is in
     let drawn = c.draw_cells.ensures.drawn

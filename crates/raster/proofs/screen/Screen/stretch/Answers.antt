@@ -23,7 +23,8 @@ pass_span-requires-clause-start c = ap (λ (t : State). starts_line t.crtc) (c.d
 pub pass_span-requires-clause-inside : goal.pass_span-requires-clause-inside
 pass_span-requires-clause-inside c =
     let same = c.draw_some-n.ensures.drawn in
-    let inside : c.span-span.result.clocks ≤ inside_clocks c.args.self.now.crtc = subst (λ (t : State). c.span-span.result.clocks ≤ inside_clocks t.crtc) c.self.view_is c.span-span.ensures.inside in
+    let inside : c.span-span.result.clocks ≤ inside_clocks c.args.self.now.crtc =
+    subst (λ (t : State). c.span-span.result.clocks ≤ inside_clocks t.crtc) c.self.view_is c.span-span.ensures.inside in
     let few : c.draw_some-n.result ≤ inside_clocks c.args.self.now.crtc = below _ _ _ _ _ _ c.draw_some-n.ensures.most c.min-most.ensures c.from.ensures inside in
     subst (λ (t : State). c.draw_some-n.result ≤ inside_clocks t.crtc) (sym same) few
 
