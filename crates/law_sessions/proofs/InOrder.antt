@@ -20,7 +20,7 @@ use Rattle.op_table.specs.declared.names.Part.TheVariants.{Nmos, Cmos}
 use Rattle.tube_trace.specs.declared.Entry.{Entry}
 use Rattle.tube_trace.specs.declared.TraceError.{TraceError}
 use Rattle.tube_trace.specs.declared.TraceError.TheVariants as trace_errors
-use Rattle.tube_trace.specs.Trace.{trace}
+use Rattle.tube_trace.specs.Trace.{trace, lines_read}
 use Rattle.tube_trace.specs.FirstWrong.{wrong}
 use Rattle.tube_party.specs.declared.Doing.{Doing}
 use Rattle.tube_party.specs.Reference.{reference}
@@ -83,8 +83,9 @@ use Rattle.cmd_tools.specs.Check as tools_check
 use Rattle.follow.specs.declared.Choice.{Choice}
 use Rattle.cmd_top.specs.Plans.{plan, after, choice_of}
 use Rattle.cmd_top.specs.Commands.{EndsWith}
+use Rattle.law_sessions.proofs.Named.{first_named, causes_named}
 use Rattle.law_sessions.specs.Refusals.{first_of, unread_by, unread, misfit, bad_trace, other_clock, bad_script_by, bad_script, bad_state, bad_source, wrong_by}
-use Rattle.law_sessions.specs.Refusals.{differs_at, held, entries_in, entries_at, events_by, events_in, host_at, trace_causes, entry_causes}
+use Rattle.law_sessions.specs.Refusals.{differs_at, held, entries_in, events_by, events_in, host_at, trace_causes, entry_causes}
 use Rattle.law_sessions.specs.Refusals.{made_causes, replay_causes, follow_causes, bad_points_by, bad_points, pair_causes}
 use Rattle.law_sessions.specs.Refusals.{session_causes, read_causes, causes, NoFault, ComesToWriting, RefusesInOrder, RefusalsInOrder}
 
@@ -149,12 +150,13 @@ module _ (clock : Clock) (g : List Entry → Result (Verdict Ending) (Refusal Ca
   traced_by (Err (trace_errors.BadLine line)) says = refl
   traced_by t says = refl
 
-  para_trace : (bytes : List ℕ) → Says (g (entries_at true bytes)) list → Says (entries_of clock bytes >>= g) (trace_causes true clock bytes ++ list)
+  para_trace : (bytes : List ℕ) → Says (g (entries_in (trace bytes))) list → Says (entries_of clock bytes >>= g) (trace_causes true clock bytes ++ list)
   unfolding entries_of trace_of
   para_trace bytes says = traced_by (trace bytes) says
 
-  host_trace : (tube : Bool) (bytes : List ℕ) → Says (g (entries_at tube bytes)) list → Says (machines.entries_at tube clock bytes >>= g) (trace_causes tube clock bytes ++ list)
-  unfolding machines.entries_at
+  -- the empty file has no entries
+  host_trace : (tube : Bool) (bytes : List ℕ) → Says (g (entries_in (trace bytes))) list → Says (machines.entries_at tube clock bytes >>= g) (trace_causes tube clock bytes ++ list)
+  unfolding machines.entries_at trace lines_read
   host_trace true bytes says = para_trace bytes says
   host_trace false [] says = says
   host_trace false (b ∷ bytes) says = refl
@@ -201,7 +203,7 @@ bound (Err e) f g = refl
 module _ (lengths : LengthsComeFirst) where
   -- the host against its entries, before any further result
   host_told : (set : Setup) (i : Inputs) (last : List (Option Status)) (g : List Entry × host.HostState → Result (Verdict Ending) (Refusal Cause)) →
-      Says (g (entries_at set.tube i.trace, host.with_tube set.tube (host_at set i))) last → Says (host_of set i >>= g) (made_causes set Host i last)
+      Says (g (entries_in (trace i.trace), host.with_tube set.tube (host_at set i))) last → Says (host_of set i >>= g) (made_causes set Host i last)
   unfolding host_of
   host_told set i last g says =
       simp (bound, lengths.host)
@@ -210,7 +212,7 @@ module _ (lengths : LengthsComeFirst) where
 
   -- the second processor against its entries
   para_told : (clock : Clock) (i : Inputs) (last : List (Option Status)) (g : List Entry × para.ParaState → Result (Verdict Ending) (Refusal Cause)) →
-      Says (g (entries_at true i.trace, para.power_on clock i.tube)) last →
+      Says (g (entries_in (trace i.trace), para.power_on clock i.tube)) last →
       Says (para_of clock i >>= g) (map misfit (para_images i) ++ (trace_causes true clock i.trace ++ last))
   unfolding para_of
   para_told clock i last g says =
@@ -227,20 +229,20 @@ module _ (lengths : LengthsComeFirst) where
   replay_told : (set : Setup) (side : Side) (ticks : ℕ) (names : Names) (i : Inputs) → Says (replay_after set side ticks names i) (replay_causes set side ticks i)
   unfolding replay_after replayed machine_verdict
   replay_told set Host ticks names i =
-      host_told set i _ _ (ends_by _ _ (λ s. machine_verdict (host_left set.clock ticks (side_count Host ticks (entries_at set.tube i.trace)) names s)) _ refl)
+      host_told set i _ _ (ends_by _ _ (λ s. machine_verdict (host_left set.clock ticks (side_count Host ticks (entries_in (trace i.trace))) names s)) _ refl)
   replay_told set Para ticks names i =
-      para_told set.clock i _ _ (ends_by _ _ (λ s. machine_verdict (para_left set.clock ticks (side_count Para ticks (entries_at true i.trace)) names s)) _ refl)
+      para_told set.clock i _ _ (ends_by _ _ (λ s. machine_verdict (para_left set.clock ticks (side_count Para ticks (entries_in (trace i.trace))) names s)) _ refl)
 
   follow_told : (set : Setup) (side : Side) (ticks : ℕ) (choice : Choice) (out : List ℕ) (i : Inputs) → Says (follow_after set side ticks choice out i) (follow_causes set side ticks i)
   unfolding follow_after listed_by
   follow_told set Host ticks choice out i =
       let start : host.HostState = host.with_tube set.tube (host_at set i) in
       host_told set i _ _ (pointed choice _ _ (λ chosen.
-      ends_by _ _ (listed_verdict out) (replay_listing host_transitions host_sight Nmos Host (entries_at set.tube i.trace) ticks chosen start) refl) i.points)
+      ends_by _ _ (listed_verdict out) (replay_listing host_transitions host_sight Nmos Host (entries_in (trace i.trace)) ticks chosen start) refl) i.points)
   follow_told set Para ticks choice out i =
       let start : para.ParaState = para.power_on set.clock i.tube in
       para_told set.clock i _ _ (pointed choice _ _ (λ chosen.
-      ends_by _ _ (listed_verdict out) (replay_listing para_transitions para_sight Cmos Para (entries_at true i.trace) ticks chosen start) refl) i.points)
+      ends_by _ _ (listed_verdict out) (replay_listing para_transitions para_sight Cmos Para (entries_in (trace i.trace)) ticks chosen start) refl) i.points)
 
   solo_told : (set : Setup) (ticks keep : ℕ) (names : Names) (i : Inputs) → Says (solo_after set ticks keep names i) (pair_causes set i)
   unfolding solo_after kept_verdict machine_verdict
@@ -434,6 +436,7 @@ module _ (lengths : LengthsComeFirst) (plugs : List Plug) (files : Files) (c : C
         (c, reached.0, reached.1, reached.2, refl, reached.4, reached.5, none_unread files reached.0 reached.3 reached.6);
     starting = λ is. let end : CarriesOut the_plan old new (Err stops.NoThread) = rw is at e in written_behind end.ends.0 end.ends.1;
     writing = λ name is. let end : CarriesOut the_plan old new (Err (stops.WriteFault name)) = rw is at e in written_behind end.ends.0 end.ends.1.0;
+    named = first_named (causes plugs files (Some c)) (causes_named plugs files (Some c));
   }
 
 no_words : (plugs : List Plug) (files : Files) (old new : World) (status : Status) → status ≡ Usage → RefusesInOrder plugs files None old new status
@@ -442,6 +445,7 @@ no_words plugs files old new status is = record {
   reading = λ name other. cc;
   starting = λ other. cc;
   writing = λ name other. cc;
+  named = λ other. cc;
 }
 
 pub refusals_in_order : LengthsComeFirst → RefusalsInOrder

@@ -4,4 +4,7 @@ pub mod Goes
 pub mod Written
 pub mod Beginning
 pub mod Resumed
+pub mod Named
 pub mod InOrder
+pub mod Moving
+pub mod OutputOptions

@@ -1,3 +1,5 @@
 pub mod OneRun
 pub mod Words
+pub mod Arguments
+pub mod OutputOptions
 pub mod Refusals

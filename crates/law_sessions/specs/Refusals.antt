@@ -161,11 +161,6 @@ abbrev pub entries_in : Result (Clock × List Entry) TraceError → List Entry
 entries_in (Ok t) = t.1
 entries_in (Err e) = []
 
--- the entries for a machine, if it has a Tube
-abbrev pub entries_at : Bool → List ℕ → List Entry
-entries_at true bytes = entries_in (trace bytes)
-entries_at false bytes = []
-
 -- the events of a script, or none if the bytes are no script
 abbrev pub events_by : Result (List Event) ScriptError → List Event
 events_by (Ok events) = events
@@ -201,10 +196,10 @@ made_causes set Para i others = map misfit (para_images i) ++ (trace_causes true
 -- the machine's replay
 abbrev pub replayed_causes : Setup → Side → ℕ → Inputs → List (Option Status)
 replayed_causes set Host ticks i =
-    let entries : List Entry = entries_at set.tube i.trace in
+    let entries : List Entry = entries_in (trace i.trace) in
     entry_causes entries (replay_of host_transitions Host entries ticks (host.with_tube set.tube (host_at set i))).place
 replayed_causes set Para ticks i =
-    let entries : List Entry = entries_at true i.trace in
+    let entries : List Entry = entries_in (trace i.trace) in
     entry_causes entries (replay_of para_transitions Para entries ticks (para.power_on set.clock i.tube)).place
 
 abbrev pub replay_causes : Setup → Side → ℕ → Inputs → List (Option Status)
@@ -279,6 +274,8 @@ pub record RefusesInOrder (plugs : List Plug) (files : Files) (spelt : Option Co
   -- Faults of threads and of writing come after all reading.
   pub starting : status ≡ NoThread → ComesToWriting (causes plugs files spelt)
   pub writing : (name : List ℕ) → status ≡ WriteFault name → ComesToWriting (causes plugs files spelt)
+  -- The files never determine that memory runs out.
+  pub named : first_of (causes plugs files spelt) ≡ NoMemory → ⊥
 
 -- The status of each top call has its cause, if the shelf has the files.
 abbrev pub RefusalsInOrder : Type 0

@@ -4,11 +4,13 @@
 #![tactic(auto)]
 
 mod machines;
+mod options;
 mod refusals;
 mod runs;
 mod words;
 
 pub use machines::machines_are_made_again;
+pub use options::{options_move, output_options};
 pub use refusals::refusals_in_order;
 pub use runs::{
     resumed_run_is_one_run, saved_run_is_one_run, saved_run_is_read, session_begins,

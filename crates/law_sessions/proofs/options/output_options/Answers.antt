@@ -1,0 +1,5 @@
+use Rattle.law_sessions.proofs.OutputOptions.{output_options}
+use Rattle.law_sessions.proofs.options.output_options.Goals as goal
+
+pub returns : goal.returns
+returns c = output_options
