@@ -1,3 +1,4 @@
+pub mod Lengths
 pub mod Counts
 pub mod HostTaking
 pub mod ParaTaking

@@ -1,4 +1,5 @@
 pub mod Cycles
+pub mod Further
 pub mod HostTicks
 pub mod ParaTicks
 pub mod Frames
