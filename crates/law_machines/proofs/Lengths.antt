@@ -225,22 +225,21 @@ reason part Shifts row = shift_cause part row.mode
 reason part Branches row = branch_cause row.mnemonic
 reason part _ row = Never
 
-is_sum : Mnemonic → Bool
+abbrev is_sum : Mnemonic → Bool
 is_sum Adc = true
 is_sum Sbc = true
 is_sum _ = false
 
-sum_by : Part → Mnemonic → Bool
+abbrev sum_by : Part → Mnemonic → Bool
 sum_by Nmos name = false
 sum_by Cmos name = is_sum name
 
-is_summed : Part → BusUse → Row → Bool
+abbrev is_summed : Part → BusUse → Row → Bool
 is_summed part Reads row = sum_by part row.mnemonic
 is_summed part _ row = false
 
 longer-by : (part : Part) (name : Mnemonic) (r : Regs) (c : Cycle) →
     length (cond (lasts_longer part name r) (c ∷ []) []) ≡ (if sum_by part name && has_flag r.p 0x08 then 1 else 0)
-unfolding sum_by is_sum
 longer-by part name r c = grind arith
 
 reads : (xs : List Cycle) (a : Cycle) (more : List Cycle) (n k : ℕ) → length xs ≡ n → length more ≡ k → length (xs ++ a ∷ more) ≡ n + 1 + k
@@ -288,7 +287,7 @@ nothing_more n k is = omega (arith, is)
 
 form-is : (part : Part) (u : BusUse) (row : Row) (r : Regs) (seen : List (Option ℕ)) →
     length (form part u row r seen) ≡ base part u row + (amount (reason part u row) r seen + (if is_summed part u row && has_flag r.p 0x08 then 1 else 0))
-unfolding base reason is_summed
+unfolding base reason
 form-is part Implied row r seen = omega (arith, implied-is row row.mode r)
 form-is part Reads row r seen = read-is part row r seen (waits-read part)
 form-is part Stores row r seen = omega (arith, store-is part row r seen (waits-store part))
@@ -324,7 +323,7 @@ abbrev by_opcode : Part → ℕ → Option Row → Option Facts
 by_opcode part op o = option_map (λ row. (row.cycles, (cause part op, summed part op))) o
 
 agree : (part : Part) (op : ℕ) → op < 256 → by_form part (row_at part op) ≡ by_opcode part op (row_at part op)
-unfolding nmos_row cmos_row base reason is_summed sum_by is_sum shift_base shift_cause branch_base_by branch_cause jump_base implied_base modify_base index_cause indexed reach_base
+unfolding nmos_row cmos_row base reason shift_base shift_cause branch_base_by branch_cause jump_base implied_base modify_base index_cause indexed reach_base
 agree Nmos = same_below Facts (λ op. by_form Nmos (row_at Nmos op)) (λ op. by_opcode Nmos op (row_at Nmos op)) refl
 agree Cmos = same_below Facts (λ op. by_form Cmos (row_at Cmos op)) (λ op. by_opcode Cmos op (row_at Cmos op)) refl
 

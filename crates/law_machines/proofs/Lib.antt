@@ -9,3 +9,4 @@ pub mod RomIn
 pub mod Interrupting
 pub mod Shooting
 pub mod Breaking
+pub mod Resetting

@@ -8,3 +8,4 @@ pub mod BootRom
 pub mod Interrupts
 pub mod Shots
 pub mod Breaks
+pub mod Resets
