@@ -98,8 +98,8 @@ pub record ControllerIsReset (before now : disc.State) : Type 0 where
   pub lost_data : now.lost_data ≡ before.lost_data
   pub rises : now.nmis ≡ before.nmis
 
--- The state `now` after a break step from state s, which ran the devices up to its tick, to state
--- `before`.
+-- The state `now` after a break step from state s. The step first runs the devices up to its tick:
+-- that is state `before`.
 pub record IsReset (s before now : HostState) : Type 0 where
   pub processor : ProcessorIsReset (after s.cpu) now.cpu
   -- A halted processor has the registers of its opcode's start.

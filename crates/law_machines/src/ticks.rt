@@ -26,7 +26,8 @@ pub fn para_sequences_take_their_ticks()
     ensures { ParaTakes }
 {}
 
-/// The same of the second processor, with one more for a sum in decimal mode.
+/// An instruction of the second processor has exactly the table's cycles and the same further ones,
+/// and one more for a sum in decimal mode.
 pub fn para_cycles_of_the_table()
     ensures { ParaTakesTheTable }
 {}
