@@ -1,5 +1,5 @@
 -- The ticks of the host, access by access.
-use Rattle.std.proofs.Common.{◌≡◌, ◌∙◌, sym, ap, refl, ℕ, ◌+◌, ◌-◌, ◌*◌, ◌/◌, ◌%◌, ◌<◌, ◌≤◌, ◌==◌, ◌&&◌, ◌||◌, Bool, true, false, List, [], ◌∷◌, ◌++◌, length, arith, inl, inr}
+use Rattle.std.proofs.Common.{◌≡◌, ◌∙◌, sym, ap, subst, refl, ℕ, ◌+◌, ◌-◌, ◌*◌, ◌/◌, ◌%◌, ◌<◌, ◌≤◌, ◌==◌, ◌&&◌, ◌||◌, Bool, true, false, List, [], ◌∷◌, ◌++◌, length, arith, inl, inr}
 use Rattle.std.specs.Prelude.{Option, None, Some, is_none, if◌then◌else◌}
 use Rattle.std.proofs.lemmas.Bool.{cases_Bool, true≢false}
 use Rattle.std.proofs.lemmas.List.{append-nil}
@@ -7,7 +7,7 @@ use Rattle.beeb_bits.specs.declared.clock.Clock.{Clock}
 use Rattle.beeb_bits.specs.Clock.{host, some-host}
 use Rattle.op_table.specs.declared.names.Part.TheVariants.{Nmos}
 use Rattle.cpu_alu.specs.declared.Cycle.{Cycle}
-use Rattle.cpu_core.specs.Sequences.{TakesAtLeast}
+use Rattle.cpu_core.specs.declared.Sequence.TheVariants.{Instruction}
 use Rattle.cpu6502.specs.Sequences.{next_cycle, after_byte, halted}
 use Rattle.tube_chip.specs.declared.Answer.{Answer}
 use Rattle.host_devices.specs.Map.{stretched_in, memory_map}
@@ -17,8 +17,9 @@ use Rattle.host_mach.specs.Step.{address, byte_of, cycle_ticks, is_break, after_
 use Rattle.host_mach.specs.Lawful.{cycle-ticks}
 use Rattle.host_mach.specs.SameClock.{next_cycle-same}
 use Rattle.law_machines.specs.Cycles.{the_cycle}
+use Rattle.law_machines.specs.Further.{further}
 use Rattle.law_machines.specs.HostTicks.{run, cycles, IsAccess, AllAccess, wait, takes, HostTakes, HostTakesTheTable}
-use Rattle.law_machines.proofs.Counts.{never_ends, stays, one_more, same_sequence, table, cycle_more}
+use Rattle.law_machines.proofs.Counts.{never_ends, stays, one_more, same_sequence, same_regs, Fits, fits_first, fits_on, table, cycle_more}
 
 -- the tick of the look, if a sequence is over
 tail : HostState → ℕ
@@ -160,8 +161,26 @@ one_sequence [] s all = refl
 one_sequence (a ∷ answers) s all =
     one_sequence answers (next_state s a) all.1 ∙ ap (λ c. c.sequence) (given_one s a all.0).1 ∙ same_sequence Nmos s.cpu _
 
-pub host_table : (least : (op : ℕ) → op < 256 → TakesAtLeast Nmos op) → HostTakesTheTable
-host_table least s answers op seen row instruction fresh all over saw low is =
-    let enough = table Nmos least _ op seen row (one_sequence answers s all ∙ instruction) over saw low is in
+one_regs : (answers : List (Option Answer)) (s : HostState) → AllAccess answers s → (run answers s).cpu.regs ≡ s.cpu.regs
+one_regs [] s all = refl
+one_regs (a ∷ answers) s all =
+    one_regs answers (next_state s a) all.1 ∙ ap (λ c. c.regs) (given_one s a all.0).1 ∙ same_regs Nmos s.cpu _
+
+fits_all : (answers : List (Option Answer)) (s : HostState) → Fits Nmos s.cpu → s.cpu.sequence ≡ Instruction → AllAccess answers s →
+    next_cycle (run answers s).cpu ≡ None → Fits Nmos (run answers s).cpu
+fits_all [] s here instruction all over = here
+fits_all (a ∷ answers) s here instruction all over =
+    let gave = given_one s a all.0 in
+    let on : Fits Nmos (next_state s a).cpu =
+    subst (Fits Nmos) (sym gave.1) (fits_on Nmos s.cpu gave.0 instruction (runs_on (a ∷ answers) s all over) all.0.1) in
+    let same : (next_state s a).cpu.sequence ≡ Instruction =
+    ap (λ c. c.sequence) gave.1 ∙ same_sequence Nmos s.cpu gave.0 ∙ instruction in
+    fits_all answers (next_state s a) on same all.1 over
+
+pub host_table : HostTakesTheTable
+host_table s answers op seen row instruction fresh all over saw low is =
+    let fitting = fits_all answers s (fits_first Nmos s.cpu fresh) instruction all over in
+    let exactly = table Nmos _ op seen row fitting (one_sequence answers s all ∙ instruction) over saw low is in
+    let same = ap (λ r. further Nmos op r (Some op ∷ seen)) (one_regs answers s all) in
     let none : length s.cpu.seen ≡ 0 = ap length fresh in
-    omega (arith, enough, none, count answers s all over)
+    omega (arith, exactly, same, none, count answers s all over)

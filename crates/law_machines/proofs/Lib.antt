@@ -1,3 +1,4 @@
+pub mod Lengths
 pub mod Counts
 pub mod HostTaking
 pub mod ParaTaking
@@ -8,3 +9,4 @@ pub mod RomIn
 pub mod Interrupting
 pub mod Shooting
 pub mod Breaking
+pub mod Resetting

@@ -1,5 +1,5 @@
 -- The ticks of the second processor, access by access.
-use Rattle.std.proofs.Common.{◌≡◌, ◌∙◌, sym, ap, refl, ℕ, ◌+◌, ◌-◌, ◌*◌, ◌<◌, ◌==◌, Bool, true, false, not, List, [], ◌∷◌, ◌++◌, length, arith}
+use Rattle.std.proofs.Common.{◌≡◌, ◌∙◌, sym, ap, subst, refl, ℕ, ◌+◌, ◌-◌, ◌*◌, ◌<◌, ◌==◌, Bool, true, false, not, List, [], ◌∷◌, ◌++◌, length, arith}
 use Rattle.std.specs.Prelude.{Option, None, Some, is_none, if◌then◌else◌}
 use Rattle.std.proofs.lemmas.Bool.{true≢false}
 use Rattle.beeb_bits.specs.declared.clock.Clock.{Clock}
@@ -7,7 +7,7 @@ use Rattle.beeb_bits.specs.declared.clock.Clock.TheVariants.{Three, Four}
 use Rattle.beeb_bits.specs.Clock.{para, some-para}
 use Rattle.op_table.specs.declared.names.Part.TheVariants.{Cmos}
 use Rattle.cpu_alu.specs.declared.Cycle.{Cycle}
-use Rattle.cpu_core.specs.Sequences.{TakesAtLeast}
+use Rattle.cpu_core.specs.declared.Sequence.TheVariants.{Instruction}
 use Rattle.cpu65c02.specs.State as cpu
 use Rattle.cpu65c02.specs.Sequences.{next_cycle, after_byte}
 use Rattle.tube_chip.specs.declared.Answer.{Answer}
@@ -15,8 +15,9 @@ use Rattle.para_mach.specs.State.{ParaState}
 use Rattle.tube_machine.specs.Step.{byte_of, lines_in, after_step, closed_to}
 use Rattle.para_mach.specs.Step.{para_bus_model, next_state}
 use Rattle.law_machines.specs.Cycles.{the_cycle}
+use Rattle.law_machines.specs.Further.{further}
 use Rattle.law_machines.specs.ParaTicks.{run, cycles, AllAccess, ParaTakes, ParaTakesTheTable}
-use Rattle.law_machines.proofs.Counts.{one_more, same_sequence, table, cycle_more}
+use Rattle.law_machines.proofs.Counts.{one_more, same_sequence, same_regs, Fits, fits_first, fits_on, table, cycle_more}
 
 -- the tick of the look, if a sequence is over
 tail : ParaState → ℕ
@@ -121,8 +122,26 @@ one_sequence (a ∷ answers) s all =
     one_sequence answers (next_state s a) all.1 ∙ ap (λ (c : cpu.State). c.sequence) (given_one s a all.0).1
     ∙ same_sequence Cmos s.cpu (given_one s a all.0).0
 
-pub para_table : (least : (op : ℕ) → op < 256 → TakesAtLeast Cmos op) → ParaTakesTheTable
-para_table least s answers op seen row instruction begun all over saw low is =
-    let enough = table Cmos least _ op seen row (one_sequence answers s all ∙ instruction) over saw low is in
+one_regs : (answers : List (Option Answer)) (s : ParaState) → AllAccess answers s → (run answers s).cpu.regs ≡ s.cpu.regs
+one_regs [] s all = refl
+one_regs (a ∷ answers) s all =
+    one_regs answers (next_state s a) all.1 ∙ ap (λ (c : cpu.State). c.regs) (given_one s a all.0).1
+    ∙ same_regs Cmos s.cpu (given_one s a all.0).0
+
+fits_all : (answers : List (Option Answer)) (s : ParaState) → Fits Cmos s.cpu → s.cpu.sequence ≡ Instruction → AllAccess answers s →
+    Fits Cmos (run answers s).cpu
+fits_all [] s here instruction all = here
+fits_all (a ∷ answers) s here instruction all =
+    let gave = given_one s a all.0 in
+    let on : Fits Cmos (next_state s a).cpu = subst (Fits Cmos) (sym gave.1) (fits_on Cmos s.cpu gave.0 instruction refl all.0) in
+    let same : (next_state s a).cpu.sequence ≡ Instruction =
+    ap (λ (c : cpu.State). c.sequence) gave.1 ∙ same_sequence Cmos s.cpu gave.0 ∙ instruction in
+    fits_all answers (next_state s a) on same all.1
+
+pub para_table : ParaTakesTheTable
+para_table s answers op seen row instruction begun all over saw low is =
+    let fitting = fits_all answers s (fits_first Cmos s.cpu begun) instruction all in
+    let exactly = table Cmos _ op seen row fitting (one_sequence answers s all ∙ instruction) over saw low is in
+    let same = ap (λ r. further Cmos op r (Some op ∷ seen)) (one_regs answers s all) in
     let none : length s.cpu.seen ≡ 0 = ap length begun in
-    omega (arith, enough, none, count answers s all)
+    omega (arith, exactly, same, none, count answers s all)

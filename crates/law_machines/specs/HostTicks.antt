@@ -3,7 +3,7 @@
 -- this look.
 -- (MCS6500 Hardware Manual, summary of single cycle execution; BBC Microcomputer Advanced User
 -- Guide, the 1 MHz bus.)
-use Rattle.std.specs.Prelude.{ℕ, ◌+◌, ◌-◌, ◌*◌, ◌/◌, ◌%◌, ◌||◌, Bool, ◌≡◌, ◌≤◌, ◌<◌, ◌==◌, false, List, [], ◌∷◌, ◌++◌, length, Option, Some, None, is_none, if◌then◌else◌}
+use Rattle.std.specs.Prelude.{ℕ, ◌+◌, ◌-◌, ◌*◌, ◌/◌, ◌%◌, ◌||◌, Bool, ◌≡◌, ◌<◌, ◌==◌, false, List, [], ◌∷◌, ◌++◌, length, Option, Some, None, is_none, if◌then◌else◌}
 use Rattle.beeb_bits.specs.declared.clock.Clock.{Clock}
 use Rattle.beeb_bits.specs.Clock.{host}
 use Rattle.op_table.specs.declared.names.Part.TheVariants.{Nmos}
@@ -22,6 +22,7 @@ use Rattle.host_bus.specs.Bus.{clock_of}
 use Rattle.host_mach.specs.State.{HostState, cycle_of, power_on}
 use Rattle.host_mach.specs.Step.{address, is_break, next_state}
 use Rattle.law_machines.specs.Cycles.{the_cycle}
+use Rattle.law_machines.specs.Further.{further}
 
 -- steps one after the other, each with the Tube's answer, if it was asked
 abbrev pub run : List (Option Answer) → HostState → HostState
@@ -75,11 +76,12 @@ pub record HostKeepsCycles : Type 0 where
       IsOnCycle (power_on clock roms d0 d1 script plugs)
   pub next : (s : HostState) (answer : Option Answer) → IsOnCycle s → IsOnCycle (next_state s answer)
 
--- The number of accesses of an instruction that is over is at least the number of cycles that the
--- instruction table has for its opcode. The opcode is the first byte that the processor read.
+-- The number of accesses of an instruction that is over is exactly the number of cycles that the
+-- instruction table has for its opcode, and its further ones. The opcode is the first byte that the
+-- processor read.
 abbrev pub HostTakesTheTable : Type 0
 HostTakesTheTable =
     (s : HostState) (answers : List (Option Answer)) (op : ℕ) (seen : List (Option ℕ)) (row : Row) →
     s.cpu.sequence ≡ Instruction → s.cpu.seen ≡ [] → AllAccess answers s → next_cycle (run answers s).cpu ≡ None →
     (run answers s).cpu.seen ≡ Some op ∷ seen → op < 256 → row_at Nmos op ≡ Some row →
-    row.cycles ≤ length (cycles answers s)
+    length (cycles answers s) ≡ row.cycles + further Nmos op s.cpu.regs (Some op ∷ seen)

@@ -1,4 +1,5 @@
 pub mod Cycles
+pub mod Further
 pub mod HostTicks
 pub mod ParaTicks
 pub mod Frames
@@ -7,3 +8,4 @@ pub mod BootRom
 pub mod Interrupts
 pub mod Shots
 pub mod Breaks
+pub mod Resets

@@ -1,7 +1,7 @@
 -- The duration of a sequence of the second processor: an instruction, a reset, an NMI or an IRQ,
 -- from its first access to the look after its last one. (MCS6500 Hardware Manual, summary of single
 -- cycle execution, and the 65C02's data sheet.)
-use Rattle.std.specs.Prelude.{ℕ, ◌+◌, ◌*◌, ◌≡◌, ◌≤◌, ◌<◌, false, List, [], ◌∷◌, ◌++◌, length, Option, Some, None, is_none}
+use Rattle.std.specs.Prelude.{ℕ, ◌+◌, ◌*◌, ◌≡◌, ◌<◌, false, List, [], ◌∷◌, ◌++◌, length, Option, Some, None, is_none}
 use Rattle.beeb_bits.specs.Clock.{para}
 use Rattle.op_table.specs.declared.names.Part.TheVariants.{Cmos}
 use Rattle.op_table.specs.declared.rows.Row.{Row}
@@ -13,6 +13,7 @@ use Rattle.tube_chip.specs.declared.Answer.{Answer}
 use Rattle.para_mach.specs.State.{ParaState}
 use Rattle.para_mach.specs.Step.{next_state}
 use Rattle.law_machines.specs.Cycles.{the_cycle}
+use Rattle.law_machines.specs.Further.{further}
 
 -- steps one after the other, each with the Tube's answer, if it was asked
 abbrev pub run : List (Option Answer) → ParaState → ParaState
@@ -40,11 +41,12 @@ pub record ParaTakes : Type 0 where
       (next_state (run answers s) answer).bus.is_held ≡ false →
       (next_state (run answers s) answer).due ≡ s.due + para s.bus.clock * length (cycles answers s)
 
--- The number of accesses of an instruction that is over is at least the number of cycles that the
--- instruction table has for its opcode. The opcode is the first byte that the processor read.
+-- The number of accesses of an instruction that is over is exactly the number of cycles that the
+-- instruction table has for its opcode, and its further ones. The opcode is the first byte that the
+-- processor read.
 abbrev pub ParaTakesTheTable : Type 0
 ParaTakesTheTable =
     (s : ParaState) (answers : List (Option Answer)) (op : ℕ) (seen : List (Option ℕ)) (row : Row) →
     s.cpu.sequence ≡ Instruction → s.cpu.seen ≡ [] → AllAccess answers s → next_cycle (run answers s).cpu ≡ None →
     (run answers s).cpu.seen ≡ Some op ∷ seen → op < 256 → row_at Cmos op ≡ Some row →
-    row.cycles ≤ length (cycles answers s)
+    length (cycles answers s) ≡ row.cycles + further Cmos op s.cpu.regs (Some op ∷ seen)

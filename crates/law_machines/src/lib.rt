@@ -6,7 +6,9 @@ mod lines;
 mod pictures;
 mod ticks;
 
-pub use lines::{break_begins, host_interrupts_begin, para_interrupts_begin, the_boot_rom_is_in};
+pub use lines::{
+    break_begins, break_resets, host_interrupts_begin, para_interrupts_begin, the_boot_rom_is_in,
+};
 pub use pictures::{frames_finish, shots_are_finished, the_cursor_stands};
 pub use ticks::{
     host_cycles_of_the_table, host_sequences_take_their_ticks, para_cycles_of_the_table,

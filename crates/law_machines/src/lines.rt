@@ -2,6 +2,7 @@
 ghost use Rattle.law_machines.specs.BootRom.{RomIsIn};
 ghost use Rattle.law_machines.specs.Breaks.{BreaksBegin};
 ghost use Rattle.law_machines.specs.Interrupts.{ParaInterrupts, HostInterrupts};
+ghost use Rattle.law_machines.specs.Resets.{BreakResets};
 
 use crate::ticks::the_host_keeps_to_its_cycles;
 
@@ -31,3 +32,9 @@ pub fn break_begins()
 {
     the_host_keeps_to_its_cycles();
 }
+
+/// BREAK resets the processor, the user's 6522, the disc controller's latch and the Tube. All else
+/// of the host stays as it was.
+pub fn break_resets()
+    ensures { BreakResets }
+{}

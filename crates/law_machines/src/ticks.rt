@@ -14,12 +14,11 @@ pub fn the_host_keeps_to_its_cycles()
     ensures { HostKeepsCycles }
 {}
 
-/// An instruction of the host has at least the cycles that the instruction table has for it.
+/// An instruction of the host has exactly the cycles that the instruction table has for it, one more
+/// for a crossed page and for a taken branch, and two for a branch to another page.
 pub fn host_cycles_of_the_table()
     ensures { HostTakesTheTable }
-{
-    cpu_core::cycles_of_the_table();
-}
+{}
 
 /// A sequence of the second processor takes two ticks for each of its cycles at 3 MHz, and three at
 /// 4 MHz.
@@ -27,10 +26,8 @@ pub fn para_sequences_take_their_ticks()
     ensures { ParaTakes }
 {}
 
-/// An instruction of the second processor has at least the cycles that the instruction table has
-/// for it.
+/// An instruction of the second processor has exactly the table's cycles and the same further ones,
+/// and one more for a sum in decimal mode.
 pub fn para_cycles_of_the_table()
     ensures { ParaTakesTheTable }
-{
-    cpu_core::cycles_of_the_table();
-}
+{}
