@@ -334,7 +334,7 @@ back : (s : Status) → s ≡ status_by (end_of s)
 back (ReadFault name) = refl
 back s = refl
 
-same_end : (a b : Status) → end_of a ≡ end_of b → a ≡ b
+pub same_end : (a b : Status) → end_of a ≡ end_of b → a ≡ b
 same_end a b is = back a ∙ ap status_by is ∙ sym (back b)
 
 -- a status of an ending is of number 0 or 8

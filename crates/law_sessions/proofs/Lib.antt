@@ -5,3 +5,6 @@ pub mod Written
 pub mod Beginning
 pub mod Resumed
 pub mod InOrder
+pub mod Yielding
+pub mod TraceFile
+pub mod Checked

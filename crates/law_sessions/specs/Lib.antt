@@ -1,3 +1,4 @@
 pub mod OneRun
 pub mod Words
 pub mod Refusals
+pub mod TraceOfRun
