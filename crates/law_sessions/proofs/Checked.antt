@@ -1,6 +1,6 @@
 -- `check` of the trace of a run.
-use Rattle.std.proofs.Common.{◌≡◌, ◌∙◌, sym, refl, ap, subst, ℕ, ◌≤◌, ◌+◌, ◌*◌, min, nat_lt, Bool, true, false, List, [], ◌∷◌, length, take, Option, Some, None}
-use Rattle.std.proofs.Common.{All, IfSome, Result, Ok, Err, arith, if◌then◌else◌}
+use Rattle.std.proofs.Common.{◌≡◌, ◌∙◌, sym, refl, ap, subst, ℕ, ◌≤◌, min, List, length, take, Option, Some}
+use Rattle.std.proofs.Common.{All, IfSome, Ok, arith}
 use Rattle.std.proofs.lemmas.Bool.Decides.{nat_tests}
 use Rattle.std.proofs.lemmas.List.{length-take}
 use Rattle.std.proofs.lemmas.List.Elements.{All-take}
@@ -9,7 +9,6 @@ use Rattle.beeb_files.specs.Files.{Files, bytes_of}
 use Rattle.bus_plug.specs.Plug.{Plug}
 use Rattle.tube_trace.specs.declared.Entry.{Entry}
 use Rattle.tube_trace.specs.Entries.{accesses}
-use Rattle.tube_trace.specs.FirstWrong.{wrong}
 use Rattle.tube_trace.specs.Laws.{IsOfByte, TextReadsBack}
 use Rattle.tube_trace.specs.Text.{text_of}
 use Rattle.tube_trace.specs.Trace.{trace}
@@ -20,36 +19,31 @@ use Rattle.para_mach.specs.State.{ParaState}
 use Rattle.para_mach.specs.Step.{para_transitions}
 use Rattle.save_state.specs.Saved.{Session}
 use Rattle.cmd_words.specs.declared.keys.InputKind.{InputKind}
-use Rattle.cmd_words.specs.declared.keys.InputKind.TheVariants.{Trace}
 use Rattle.cmd_words.specs.Keys.{keys}
 use Rattle.cmd_words.specs.Given.{Values, clock_of, save_of, wav_of}
-use Rattle.cmd_words.specs.Command.{Command, check, solo, run}
-use Rattle.cmd_words.specs.Reads.{files_of, IsWithin}
-use Rattle.cmd_stages.specs.declared.stop.Stop.{Stop}
-use Rattle.cmd_stages.specs.declared.stop.Refusal.{Refusal}
+use Rattle.cmd_words.specs.Command.{check, solo, run}
+use Rattle.cmd_words.specs.Reads.{files_of}
 use Rattle.cmd_stages.specs.Plan as plans
 use Rattle.cmd_stages.specs.Plan.{Verdict, ◌>>=◌, or_refusal, or_stop, read_all, verdict, within}
 use Rattle.cmd_stages.specs.Promise.{World, put_all}
 use Rattle.cmd_status.specs.declared.status.Ending.{Ending}
 use Rattle.cmd_status.specs.declared.status.Ending.TheVariants as endings
 use Rattle.cmd_status.specs.declared.status.Cause.{Cause}
-use Rattle.cmd_status.specs.declared.status.Status.{Status}
-use Rattle.cmd_machines.specs.Inputs.{Inputs, inputs_of}
-use Rattle.cmd_machines.specs.Setup.{Setup, setup_of}
+use Rattle.cmd_machines.specs.Inputs.{inputs_of}
+use Rattle.cmd_machines.specs.Setup.{setup_of}
 use Rattle.cmd_machines.specs.Machines.{machines_of}
 use Rattle.cmd_machines.specs.Sessions.{begun_if}
 use Rattle.cmd_outcome.specs.Names.{names_of}
-use Rattle.cmd_outcome.specs.Trace.{refusal_of, trace_of}
+use Rattle.cmd_outcome.specs.Trace.{trace_of}
 use Rattle.cmd_outcome.specs.Verdicts.{said_verdict, both_left, machine_verdict}
 use Rattle.cmd_ended.specs.Kept.{kept_of, saved_file, kept_verdict}
 use Rattle.cmd_ended.proofs.SaveLemmas.{trace_lines, take_trace}
 use Rattle.cmd_pair.specs.Solo.{solo_after}
-use Rattle.cmd_tools.specs.Check.{ok_text, check_verdict, check_after}
+use Rattle.cmd_tools.specs.Check.{ok_text, check_after}
 use Rattle.cmd_top.specs.Plans.{plan}
-use Rattle.cmd_top.specs.Commands.{EndsWith}
 use Rattle.cmd_top.proofs.HeadlineLemmas.{bound_ok, stage_ok}
 use Rattle.law_sessions.specs.OneRun.{accesses_of}
-use Rattle.law_sessions.specs.TraceOfRun.{trace_name, HasRun, AreMachines, Rereads, Yields, IsChecked, RunIsChecked}
+use Rattle.law_sessions.specs.TraceOfRun.{trace_name, HasRun, AreMachines, OfRun, AfterEach, IsChecked, RunIsChecked}
 use Rattle.law_sessions.proofs.Saved.{none_wrong}
 use Rattle.law_sessions.proofs.Yielding.{done_whole, yields}
 use Rattle.law_sessions.proofs.TraceFile.{trace_put, text_length}
@@ -67,16 +61,20 @@ pub record Ran (plugs : List Plug) (n keep : ℕ) (out : List ℕ) (given : Valu
 
 module _ (plugs : List Plug) (n keep : ℕ) (out : List ℕ) (given : Values) (files written : Files) (old : Option Files) where
   -- the verdict of the run was written
-  was_run : (v : Verdict Ending) → (read_all {C = Cause} files (files_of keys given) >>= λ list. or_stop (solo_after (setup_of given plugs) n keep (names_of out given) (inputs_of list))) ≡ Ok v →
-      Some written ≡ put_all v.files old → (wav_of given ≡ Some (trace_name out) → ⊥) → (save_of given ≡ Some (trace_name out) → ⊥) → Ran plugs n keep out given files written
+  was_run : (v : Verdict Ending) → (read_all {C = Cause} files (files_of keys given) >>= λ list. or_stop
+      (solo_after (setup_of given plugs) n keep (names_of out given) (inputs_of list))) ≡ Ok v →
+      Some written ≡ put_all v.files old → (wav_of given ≡ Some (trace_name out) → ⊥) → (save_of given ≡ Some (trace_name out) → ⊥) →
+      Ran plugs n keep out given files written
   unfolding solo_after kept_verdict
   was_run v is put wav save =
-      let got = bound_ok (read_all files (files_of keys given)) (λ list. or_stop (solo_after (setup_of given plugs) n keep (names_of out given) (inputs_of list))) v is in
+      let got = bound_ok (read_all files (files_of keys given))
+      (λ list. or_stop (solo_after (setup_of given plugs) n keep (names_of out given) (inputs_of list))) v is in
       let made = stage_ok (machines_of (setup_of given plugs) (inputs_of got.0)) _ v got.2 in
       let m : HostState × ParaState = made.0 in
       let w : Worlds HostState ParaState = reference host_transitions para_transitions m.0 m.1 n in
       let begun : Option Session = begun_if (save_of given) (setup_of given plugs) (inputs_of got.0) in
-      let there = trace_put (clock_of given) n (length (accesses w.list)) (names_of out given) w.host w.para (kept_of (clock_of given) (take keep (accesses w.list)))
+      let there = trace_put (clock_of given) n (length (accesses w.list)) (names_of out given) w.host w.para
+      (kept_of (clock_of given) (take keep (accesses w.list)))
       (saved_file begun n keep w.list) old wav save in
       let whole : Some written ≡ put_all (machine_verdict (both_left (clock_of given) n (length (accesses w.list)) (names_of out given) w.host w.para
       (kept_of (clock_of given) (take keep (accesses w.list))) (saved_file begun n keep w.list))).files old =
@@ -85,7 +83,8 @@ module _ (plugs : List Plug) (n keep : ℕ) (out : List ℕ) (given : Values) (f
         list = got.0;
         machines = m;
         made = record { read = got.1; made = made.1 };
-        trace = subst (λ (o : Option Files). IfSome o (λ now. bytes_of now (trace_name out) ≡ Some (text_of (clock_of given) (kept m n keep)))) (sym whole) there;
+        trace = subst (λ (o : Option Files). IfSome o (λ now. bytes_of now (trace_name out) ≡ Some (text_of (clock_of given) (kept m n keep))))
+            (sym whole) there;
       }
 
 -- a run by its call
@@ -101,7 +100,30 @@ ran_run plugs n keep out given files written old new has =
     let got = done_whole plugs (run n out keep given) files old new has.shelf has.done in
     was_run plugs n keep out given files written old.outlet.files got.0 got.1 (sym has.outlet ∙ got.2.files) has.wav has.save
 
+-- what holds of each run with its trace
+pub after_each : (Holds : OfRun) →
+    ((n keep : ℕ) (out : List ℕ) (given : Values) (plugs : List Plug) (list : plans.Inputs InputKind) (m : HostState × ParaState) (written : Files) →
+    n ≤ 1073741824 → keep ≤ 4194304 → machines_of (setup_of given plugs) (inputs_of list) ≡ Ok m →
+    bytes_of written (trace_name out) ≡ Some (text_of (clock_of given) (kept m n keep)) → All IsOfByte (accesses_of m n) →
+    Holds n keep out given plugs list m written) →
+    AfterEach Holds
+after_each Holds holds =
+    record {
+      solo = λ n keep out given inside plugs files written old new has.
+          let r = ran_solo plugs n keep out given files written old new has in
+          (r.list, r.machines, r.made, holds n keep out given plugs r.list r.machines written inside.ticks inside.keep r.made.made r.trace);
+      run = λ n keep out given inside plugs files written old new has.
+          let r = ran_run plugs n keep out given files written old new has in
+          (r.list, r.machines, r.made, holds n keep out given plugs r.list r.machines written inside.ticks inside.keep r.made.made r.trace);
+    }
+
 -- ---- the trace is read
+
+pub capped : (name bytes : List ℕ) → length bytes ≤ 100663296 → within {C = Cause} name 100663296 (Some bytes) ≡ Ok bytes
+capped name bytes short = grind (arith, nat_tests)
+
+pub short : (m : HostState × ParaState) (n keep : ℕ) (clock : Clock) → keep ≤ 4194304 → length (text_of clock (kept m n keep)) ≤ 100663296
+short m n keep clock few = omega (arith, few, text_length clock (kept m n keep), length-take keep (accesses_of m n))
 
 module _ (legal : ReferenceIsTrace host_transitions para_transitions) (reads : TextReadsBack) where
   pub kept_trace : (m : HostState × ParaState) (n keep : ℕ) → IsTraceBelow n (kept m n keep)
@@ -121,33 +143,21 @@ module _ (legal : ReferenceIsTrace host_transitions para_transitions) (reads : T
 
   -- ---- from the file
 
-  capped : (name bytes : List ℕ) → length bytes ≤ 100663296 → within {C = Cause} name 100663296 (Some bytes) ≡ Ok bytes
-  capped name bytes short = grind (arith, nat_tests)
-
-  pub short : (m : HostState × ParaState) (n keep : ℕ) (clock : Clock) → keep ≤ 4194304 → length (text_of clock (kept m n keep)) ≤ 100663296
-  short m n keep clock few = omega (arith, few, text_length clock (kept m n keep), length-take keep (accesses_of m n))
-
-  check_is : (others : List Plug) (name bytes : List ℕ) (shelf : Files) (v : Verdict Ending) → bytes_of shelf name ≡ Some bytes → length bytes ≤ 100663296 → check_after bytes ≡ Ok v →
+  check_is : (others : List Plug) (name bytes : List ℕ) (shelf : Files) (v : Verdict Ending) → bytes_of shelf name ≡ Some bytes →
+      length bytes ≤ 100663296 → check_after bytes ≡ Ok v →
       verdict (plan others (check name)) shelf ≡ Ok v
   unfolding inputs_of
   check_is others name bytes shelf v has short is = rw (has, capped name bytes short, is) refl
 
-  checks : (c : Command) (n keep : ℕ) (out : List ℕ) (given : Values) → n ≤ 1073741824 → keep ≤ 4194304 →
-      ((plugs : List Plug) (files written : Files) (old new : World) → HasRun plugs c out given old new files written → Ran plugs n keep out given files written) →
-      IsChecked c n keep out given
-  checks c n keep out given most few ran inside plugs files written old new has =
-      let r = ran plugs files written old new has in
-      let m : HostState × ParaState = r.machines in (
-        r.list,
-        m,
-        r.made,
-        λ bytes others name shelf start last status again.
-            yields others (check name) shelf _ start last again.shelf
-            (check_is others name _ shelf _ (again.same ∙ r.trace) (short m n keep (clock_of given) few) (checked m n keep (clock_of given) most bytes)) refl status again.ran,
-      )
+  run_is_checked_by : (n keep : ℕ) (out : List ℕ) (given : Values) (plugs : List Plug) (list : plans.Inputs InputKind) (m : HostState × ParaState)
+      (written : Files) →
+      n ≤ 1073741824 → keep ≤ 4194304 → bytes_of written (trace_name out) ≡ Some (text_of (clock_of given) (kept m n keep)) →
+      All IsOfByte (accesses_of m n) →
+      IsChecked n keep out given plugs list m written
+  run_is_checked_by n keep out given plugs list m written most few trace bytes others name shelf start last status again =
+      yields others (check name) shelf _ start last again.shelf
+      (check_is others name _ shelf _ (again.same ∙ trace) (short m n keep (clock_of given) few)
+      (checked m n keep (clock_of given) most bytes)) refl status again.ran
 
   pub run_checked : RunIsChecked
-  run_checked = record {
-    solo = λ n out keep given inside. checks (solo n out keep given) n keep out given inside.ticks inside.keep (λ plugs. ran_solo plugs n keep out given) inside;
-    run = λ n out keep given inside. checks (run n out keep given) n keep out given inside.ticks inside.keep (λ plugs. ran_run plugs n keep out given) inside;
-  }
+  run_checked = after_each IsChecked (λ n keep out given plugs list m written most few made. run_is_checked_by n keep out given plugs list m written most few)

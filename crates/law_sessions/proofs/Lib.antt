@@ -8,3 +8,4 @@ pub mod InOrder
 pub mod Yielding
 pub mod TraceFile
 pub mod Checked
+pub mod Replaying

@@ -1,8 +1,8 @@
 -- The trace among the files of a run.
-use Rattle.std.proofs.Common.{◌≡◌, ◌∙◌, sym, refl, ap, subst, cond, ℕ, zero, suc, ◌+◌, ◌*◌, ◌≤◌, Bool, true, false, List, [], ◌∷◌, ◌++◌, length, map, Option, Some, None}
+use Rattle.std.proofs.Common.{◌≡◌, ◌∙◌, sym, refl, ap, subst, cond, ℕ, zero, suc, ◌+◌, ◌*◌}
+use Rattle.std.proofs.Common.{◌≤◌, Bool, true, false, List, [], ◌∷◌, ◌++◌, length, map, Option, Some, None}
 use Rattle.std.proofs.Common.{IfSome, All, arith, length-append, slice_index_or}
-use Rattle.std.specs.Prelude.{codes, unwrap_or}
-use Rattle.std.specs.List.{flat_map}
+use Rattle.std.specs.Prelude.{codes}
 use Rattle.std.specs.Fmt.{decimal}
 use Rattle.std.specs.Cmp.Lexicographic.{nat_list_cmp_total, bytes_decides, texts_ties}
 use Rattle.std.specs.FinMap.{get-insert}
@@ -16,7 +16,7 @@ use Rattle.beeb_files.specs.Files.{Files, bytes_of, put}
 use Rattle.digits.proofs.HexLaws.{digits_are_hex}
 use Rattle.digits.specs.Hexadecimal.{hex_digits}
 use Rattle.tube_trace.specs.declared.Entry.{Entry}
-use Rattle.tube_trace.specs.Text.{side_letter, op_letter, number_of, line_byte, access_text, line_text, lines_text, text_of}
+use Rattle.tube_trace.specs.Text.{line_byte, access_text, line_text, lines_text, text_of}
 use Rattle.host_mach.specs.State.{HostState}
 use Rattle.para_mach.specs.State.{ParaState}
 use Rattle.cmd_stages.specs.Promise.{put_all}
@@ -25,7 +25,7 @@ use Rattle.cmd_outcome.specs.declared.output.Output.TheVariants.{Report, Memory,
 use Rattle.cmd_outcome.specs.Names.{Names}
 use Rattle.cmd_outcome.specs.Left.{Left, Kept}
 use Rattle.cmd_outcome.specs.Files.{file_of, own_name}
-use Rattle.cmd_outcome.specs.Outputs.{if_there, plugs, front_of, machine_outputs, discs, shots, spills, of_host}
+use Rattle.cmd_outcome.specs.Outputs.{if_there, plugs, machine_outputs, discs, shots, spills, of_host}
 use Rattle.cmd_outcome.specs.Verdicts.{machine_verdict, both_left}
 use Rattle.law_sessions.specs.TraceOfRun.{trace_name}
 
@@ -43,7 +43,8 @@ cond_other true x y differ = absurd (differ refl)
 cond_other false x y differ = refl
 
 -- a file that is put under another name leaves it unchanged
-other_put : (other name put_bytes bytes : List ℕ) (files : Option Files) → (other ≡ name → ⊥) → IfSome files (λ now. bytes_of now name ≡ Some bytes) →
+other_put : (other name put_bytes bytes : List ℕ) (files : Option Files) → (other ≡ name → ⊥) →
+    IfSome files (λ now. bytes_of now name ≡ Some bytes) →
     IfSome (put other put_bytes files) (λ now. bytes_of now name ≡ Some bytes)
 other_put other name put_bytes bytes None differ is = tt
 other_put other name put_bytes bytes (Some files) differ is =
@@ -55,7 +56,8 @@ other_put other name put_bytes bytes (Some files) differ is =
 abbrev Other : Left → List ℕ → Output → Type 0
 Other l name o = (file_of l o).0 ≡ name → ⊥
 
-others_put : (l : Left) (name bytes : List ℕ) (os : List Output) (files : Option Files) → All (Other l name) os → IfSome files (λ now. bytes_of now name ≡ Some bytes) →
+others_put : (l : Left) (name bytes : List ℕ) (os : List Output) (files : Option Files) → All (Other l name) os →
+    IfSome files (λ now. bytes_of now name ≡ Some bytes) →
     IfSome (put_all (map (file_of l) os) files) (λ now. bytes_of now name ≡ Some bytes)
 others_put l name bytes [] files all is = is
 others_put l name bytes (o ∷ os) files all is =
@@ -70,7 +72,8 @@ put_behind (f ∷ fs) gs files = put_behind fs gs (put f.0 f.1 files)
 behind : (l : Left) (os more : List Output) (files : Option Files) →
     put_all (map (file_of l) (os ++ more)) files ≡ put_all (map (file_of l) more) (put_all (map (file_of l) os) files)
 behind l os more files =
-    ap (λ (fs : List (List ℕ × List ℕ)). put_all fs files) (map-append (file_of l) os more) ∙ put_behind (map (file_of l) os) (map (file_of l) more) files
+    ap (λ (fs : List (List ℕ × List ℕ)). put_all fs files) (map-append (file_of l) os more) ∙ put_behind (map (file_of l) os)
+    (map (file_of l) more) files
 
 -- ---- the names of the outputs behind the trace
 
@@ -91,11 +94,13 @@ module _ (l : Left) where
 
   sound_other : (name : List ℕ) (o : Option (List ℕ)) → l.names.wav ≡ o → (o ≡ Some name → ⊥) → All (Other l name) (if_there Sound o)
   sound_other name None is differ = All-nil (Other l name)
-  sound_other name (Some wav) is differ = All-cons (Other l name) Sound [] (λ same. differ (ap Some (sym (ap own_name is) ∙ same))) (All-nil (Other l name))
+  sound_other name (Some wav) is differ = All-cons (Other l name) Sound [] (λ same. differ (ap Some (sym (ap own_name is) ∙ same)))
+      (All-nil (Other l name))
 
   session_other : (name : List ℕ) (o : Option (List ℕ)) → l.names.save ≡ o → (o ≡ Some name → ⊥) → All (Other l name) (if_there Session o)
   session_other name None is differ = All-nil (Other l name)
-  session_other name (Some save) is differ = All-cons (Other l name) Session [] (λ same. differ (ap Some (sym (ap own_name is) ∙ same))) (All-nil (Other l name))
+  session_other name (Some save) is differ = All-cons (Other l name) Session [] (λ same. differ (ap Some (sym (ap own_name is) ∙ same)))
+      (All-nil (Other l name))
 
 -- the trace, some outputs before it, and outputs of other names behind it
 trace_behind : (l : Left) (name bytes : List ℕ) (front spilt sound session : List Output) (old : Option Files) → file_of l Trace ≡ (name, bytes) →
@@ -114,14 +119,17 @@ trace_behind l name bytes front spilt sound session old is all_spilt all_sound a
     subst (λ (files : Option Files). IfSome files (λ now. bytes_of now name ≡ Some bytes)) (sym whole) last
 
 -- the trace is among the files of both machines, under its name
-pub trace_put : (clock : Clock) (n tube : ℕ) (names : Names) (s : HostState) (p : ParaState) (kept : Kept) (saved : Option (List ℕ)) (old : Option Files) →
+pub trace_put : (clock : Clock) (n tube : ℕ) (names : Names) (s : HostState) (p : ParaState) (kept : Kept) (saved : Option (List ℕ))
+    (old : Option Files) →
     (names.wav ≡ Some (trace_name names.out) → ⊥) → (names.save ≡ Some (trace_name names.out) → ⊥) →
-    IfSome (put_all (machine_verdict (both_left clock n tube names s p kept saved)).files old) (λ now. bytes_of now (trace_name names.out) ≡ Some kept.trace)
+    IfSome (put_all (machine_verdict (both_left clock n tube names s p kept saved)).files old)
+    (λ now. bytes_of now (trace_name names.out) ≡ Some kept.trace)
 unfolding machine_verdict machine_outputs
 trace_put clock n tube names s p kept saved old wav save =
     let l : Left = both_left clock n tube names s p kept saved in
     let name : List ℕ = trace_name names.out in
-    let front : List Output = Report ∷ [] ++ if_there (Memory sides.Host) l.host ++ if_there (Memory sides.Para) l.para ++ of_host discs l.host ++ of_host shots l.host in
+    let front : List Output = Report ∷ [] ++ if_there (Memory sides.Host) l.host ++ if_there
+    (Memory sides.Para) l.para ++ of_host discs l.host ++ of_host shots l.host in
     trace_behind l name kept.trace front (of_host spills l.host) (if_there Sound names.wav) (if_there Session names.save) old refl
     (plugs_other l (length s.bus.bus.plugs)) (sound_other l name names.wav refl wav) (session_other l name names.save refl save)
 

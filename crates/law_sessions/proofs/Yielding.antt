@@ -1,14 +1,12 @@
 -- Calls by the verdicts of their commands: one that ended with `Done`, and one of any status.
-use Rattle.std.proofs.Common.{◌≡◌, ◌∙◌, sym, refl, ap, subst, ◌⊎◌, inl, inr, IfSome, Option, Some, None, Result, Ok, Err, List, ℕ}
+use Rattle.std.proofs.Common.{◌≡◌, ◌∙◌, refl, ap, subst, ◌⊎◌, inl, inr, IfSome, Option, Some, None, Result, Ok, Err, List}
 use Rattle.std.specs.Prelude.{IsSomeAnd}
 use Rattle.beeb_files.specs.Files.{Files}
 use Rattle.bus_plug.specs.Plug.{Plug}
-use Rattle.host_mach.specs.State.{HostState}
-use Rattle.para_mach.specs.State.{ParaState}
 use Rattle.cmd_words.specs.Command.{Command}
 use Rattle.cmd_stages.specs.declared.stop.Stop.{Stop}
 use Rattle.cmd_stages.specs.declared.stop.Stop.TheVariants as stops
-use Rattle.cmd_stages.specs.Plan.{Verdict, Plan, verdict, ComesTo}
+use Rattle.cmd_stages.specs.Plan.{Verdict, verdict, ComesTo}
 use Rattle.cmd_stages.specs.Promise.{World, CarriesOut, IsComplete, NoFaultCounted, IsWhole, ending_of}
 use Rattle.cmd_status.specs.declared.status.Ending.{Ending}
 use Rattle.cmd_status.specs.declared.status.Ending.TheVariants as endings
@@ -51,7 +49,8 @@ module _ (plugs : List Plug) (c : Command) (files : Files) (v : Verdict Ending) 
           inl (same_end status Done (named ∙ ap Some (so ∙ ap ending_of is ∙ ap (λ (x : Ending). Ok x) done)))
       by_end (inr so) = inr (same_end status NoMemory (named ∙ ap Some so))
 
-  by_status : (status : Status) (o : Option (Result Ending (Stop Cause))) → end_of status ≡ o → IsSomeAnd o (λ end. CarriesOut (plan plugs c) old new end) →
+  by_status : (status : Status) (o : Option (Result Ending (Stop Cause))) → end_of status ≡ o →
+      IsSomeAnd o (λ end. CarriesOut (plan plugs c) old new end) →
       NoFaultCounted (plan plugs c) files old new → (status ≡ Done) ⊎ (status ≡ NoMemory)
   by_status status None named e none = absurd e
   by_status status (Some end) named e none = ended status end named e none

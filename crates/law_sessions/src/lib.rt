@@ -16,5 +16,5 @@ pub use runs::{
     resumed_run_is_one_run, saved_run_is_one_run, saved_run_is_read, session_begins,
     session_is_written, words_go_on,
 };
-pub use traces::run_is_checked;
+pub use traces::{run_is_checked, run_is_followed, run_is_replayed};
 pub use words::words_begin;
