@@ -85,7 +85,7 @@ use Rattle.cmd_top.specs.Plans.{plan, after, choice_of}
 use Rattle.cmd_top.specs.Commands.{EndsWith}
 use Rattle.law_sessions.proofs.Named.{first_named, causes_named}
 use Rattle.law_sessions.specs.Refusals.{first_of, unread_by, unread, misfit, bad_trace, other_clock, bad_script_by, bad_script, bad_state, bad_source, wrong_by}
-use Rattle.law_sessions.specs.Refusals.{differs_at, held, entries_in, events_by, events_in, host_at, trace_causes, entry_causes}
+use Rattle.law_sessions.specs.Refusals.{differs_at, held, entries_in, events_by, events_in, host_at, trace_causes}
 use Rattle.law_sessions.specs.Refusals.{made_causes, replay_causes, follow_causes, bad_points_by, bad_points, pair_causes}
 use Rattle.law_sessions.specs.Refusals.{session_causes, read_causes, causes, NoFault, ComesToWriting, RefusesInOrder, RefusalsInOrder}
 
@@ -336,7 +336,7 @@ back : (s : Status) → s ≡ status_by (end_of s)
 back (ReadFault name) = refl
 back s = refl
 
-same_end : (a b : Status) → end_of a ≡ end_of b → a ≡ b
+pub same_end : (a b : Status) → end_of a ≡ end_of b → a ≡ b
 same_end a b is = back a ∙ ap status_by is ∙ sym (back b)
 
 -- a status of an ending is of number 0 or 8

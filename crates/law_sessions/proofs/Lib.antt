@@ -8,3 +8,7 @@ pub mod Named
 pub mod InOrder
 pub mod Moving
 pub mod OutputOptions
+pub mod Yielding
+pub mod TraceFile
+pub mod Checked
+pub mod Replaying

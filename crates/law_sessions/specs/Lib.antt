@@ -3,3 +3,4 @@ pub mod Words
 pub mod Arguments
 pub mod OutputOptions
 pub mod Refusals
+pub mod TraceOfRun
