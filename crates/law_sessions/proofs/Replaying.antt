@@ -350,7 +350,8 @@ module _ (legal : ReferenceIsTrace host_transitions para_transitions) (reads_bac
       ParaListingIsReference host_transitions para_transitions para_sight → RunIsFollowed
   run_followed host_lists para_lists =
       after_each IsFollowed (
-      λ n keep out given plugs list m written most few made trace bytes all side others name into options read chosen shelf start last status later has same is_chosen.
+      λ n keep out given plugs list m written most few made trace bytes all side others name into options read
+      chosen shelf start last status later has same is_chosen.
       let text : List ℕ = text_of (clock_of given) (kept m n keep) in
       let is : (inputs_of read).trace ≡ text = trace_is shelf name text options read (later.same ∙ trace) (short m n keep (clock_of given) few) has in
       let entries : entries_of (clock_of given) (inputs_of read).trace ≡ Ok (accesses_of m n) =

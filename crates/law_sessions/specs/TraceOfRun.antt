@@ -75,8 +75,8 @@ pub record Yields (plugs : List Plug) (c : Command) (files : Files) (v : Verdict
   pub ends : NoFaultCounted (plan plugs c) files old new → (status ≡ Done) ⊎ (status ≡ NoMemory)
   pub done : status ≡ Done → IsWhole v old.outlet new.outlet
 
--- Something holds of each run of `solo` or `run` that ended with `Done`: of its machines, and of the
--- files that the outlet then has. Each byte that the run's accesses exchange is below 256.
+-- `Holds` is so of each call of `solo` or `run` that ended with `Done`, if each byte that the run's
+-- accesses exchange is below 256. It speaks of the run's machines and of the outlet's files.
 abbrev pub AfterRun : Command → ℕ → List ℕ → Values → (List Plug → plans.Inputs InputKind → HostState × ParaState → Files → Type 0) →
     Type 0
 AfterRun c n out given Holds =
@@ -110,8 +110,8 @@ RunIsChecked = AfterEach IsChecked
 
 -- ---- `replay`
 
--- Host and second processor of a later call are those of a run: the same bytes, clock, kinds of discs
--- and devices, and there is a Tube.
+-- The host of a later call is that of a run: the same bytes, clock, kinds of discs and devices, and
+-- there is a Tube.
 pub record IsSameHost (set : Setup) (i : Inputs) (again : Setup) (j : Inputs) : Type 0 where
   pub clock : again.clock ≡ set.clock
   pub kinds : again.kinds ≡ set.kinds
@@ -124,6 +124,7 @@ pub record IsSameHost (set : Setup) (i : Inputs) (again : Setup) (j : Inputs) : 
   pub disc1 : j.disc1 ≡ i.disc1
   pub keys : j.keys ≡ i.keys
 
+-- The second processor of a later call is that of a run: the same boot ROM and clock.
 pub record IsSamePara (set : Setup) (i : Inputs) (again : Setup) (j : Inputs) : Type 0 where
   pub clock : again.clock ≡ set.clock
   pub tube : j.tube ≡ i.tube
