@@ -694,7 +694,7 @@ class Questions:
             at = self.rng.choice(whole.log)[2]
         else:
             at = self.rng.choice((0x50, 0x1FE, 0xF800 if whole.side == "para" else 0x7C00))
-        # One byte, or a range: up to 16 bytes are looked for one by one, and more by what is written.
+        # The debugger searches for up to 16 bytes one by one, and for more by what is written.
         more = self.rng.choice((1, 2, 3, 4, 7, 11, 15, 16, 40, 255, 700))
         high = at if self.rng.random() < 0.6 else min(at + more, len(whole.final) - 1)
         at = at if at == high else max(0, at - self.rng.randrange(more))
