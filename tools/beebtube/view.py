@@ -269,7 +269,7 @@ class View:
 
     def storing(self, tick: Optional[int], *ranges: Tuple[int, int]) -> List[int]:
         """Where instructions are that may store to these addresses, by their bytes: in a ROM,
-        or in memory at this tick."""
+        or in memory at this tick. Without a tick those in a ROM alone."""
         images = self.past.inputs.images
         places = [(0xC000, images["os"])]
         places += [(0, self.machine.state(tick).memory)] if tick is not None else []
