@@ -694,11 +694,10 @@ class Questions:
             at = self.rng.choice(whole.log)[2]
         else:
             at = self.rng.choice((0x50, 0x1FE, 0xF800 if whole.side == "para" else 0x7C00))
-        high = (
-            at
-            if self.rng.random() < 0.8
-            else min(at + self.rng.choice((2, 40)), len(whole.final) - 1)
-        )
+        # The debugger searches for up to 16 bytes one by one, and for more by what is written.
+        more = self.rng.choice((1, 2, 3, 4, 7, 11, 15, 16, 40, 255, 700))
+        high = at if self.rng.random() < 0.6 else min(at + more, len(whole.final) - 1)
+        at = at if at == high else max(0, at - self.rng.randrange(more))
         return at, high, f"{at:04X}" if at == high else f"{at:04X}..{high:04X}"
 
     def who(self, whole, side, tick):
@@ -877,8 +876,11 @@ class Questions:
         if not whole.log:
             return None, None
         at = self.rng.choice(whole.log)[2]
-        if at >= 0xF800:
+        last = 0xF7FF if side == "para" else 0x7FFF
+        if at > last:
             return None, None
+        high = min(at + self.rng.choice((0, 0, 1, 4, 9, 15, 300)), last)
+        line = f"readers {at:04X}" if at == high else f"readers {at:04X}..{high:04X}"
         first = whole.at(tick) + 1
         ram = bytearray(whole.ram_at(max(first, 0)))
         images = self.truth.past.inputs.images
@@ -894,9 +896,9 @@ class Questions:
                 if it < len(ram)
                 else (images["os"][it - 0xC000] if it >= 0xC000 else 0),
             ).reads
-            if at in reads:
-                return f"readers {at:04X}", self.goes(whole, number)
-        return f"readers {at:04X}", "refused"
+            if any(at <= it <= high for it in reads):
+                return line, self.goes(whole, number)
+        return line, "refused"
 
 
 QUESTIONS = {

@@ -173,7 +173,7 @@ class Adapter(Shown):
         for word in ("run", "solo", "host"):
             if isinstance(given.get(word), (str, list)):
                 return past_of(self.program, [word] + _list(given, word), self._progress)
-        if "program" not in given:
+        if not given.get("program"):
             raise Fault("launch needs `session`, `program`, or the arguments of `run`, `solo` or"
                         " `host`")
         with own_folder() as place:

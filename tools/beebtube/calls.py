@@ -16,11 +16,11 @@ from typing import TYPE_CHECKING, Dict, Iterator, NamedTuple, Optional, Set, Tup
 from .effects import LEVELS, level_after, sequences
 from .faults import Fault
 from .listings import Start, hexes
-from .machine import FAR
 
 if TYPE_CHECKING:
     from .machine import Machine
 
+LOOK_BACK = 2000000  # ticks; what began before is on the stack
 FEW = 16  # starts that are no interrupt's, and changes of a vector, before all starts are listed
 VECTORS = (0xFFFA, 0xFFFB, 0xFFFE, 0xFFFF)
 TEXT = 256  # bytes after a JSR to which it may come back
@@ -193,8 +193,8 @@ class Calls:
         return self._to
 
     def frames(self, tick: int) -> Iterator[Frame]:
-        """The frames that are open at a tick, the innermost first; of calls that began about 2
-        million ticks before or earlier, those whose return addresses are on the stack."""
+        """The frames that are open at a tick, the innermost first; of calls that began before
+        the last LOOK_BACK ticks or some more, those whose return addresses are on the stack."""
         machine, here = self.machine, self.machine.current(tick)
         if here is None:
             return
@@ -225,7 +225,7 @@ class Calls:
                             yield frame
                 seen, below, later = seen | 1 << s, s, pc
             after = listing.low
-            if here.tick - after >= FAR:
+            if here.tick - after >= LOOK_BACK:
                 yield from self._on_stack(here, after, seen)
                 return
 

@@ -1,7 +1,6 @@
 """The commands of `tools/debug`: a moment of a run, what is there, and the ways to others."""
 from __future__ import annotations
 
-import functools
 import re
 import sys
 from typing import Any, Callable, Dict, List, NamedTuple, Optional, TextIO, Tuple
@@ -13,7 +12,7 @@ from .faults import Fault
 from .files import write_beside
 from .frame import look_at_place
 from .listings import Change, Start
-from .machine import FAR, OVERLAP
+from .machine import FAR
 from .naming import Names
 from .parting import Parting, next_parting, parting
 from .past import Past
@@ -206,10 +205,9 @@ class Debugger(Engine):
         self._moment(start.tick, start.side, start.registers, start.text, what)
 
     def _show_here(self) -> None:
-        machine = self.machine
+        view = self.machine.view
         self.past.look(self.tick, [self.side])
-        self._moment(self.tick, self.side, machine.state(self.tick).registers,
-                 machine.view.text(self.tick))
+        self._moment(self.tick, self.side, view.registers(self.tick), view.text(self.tick))
 
     def _show_access(self, access: Access) -> None:
         self._say(said(access), tick=access.tick, side=SIDE[access.side], way=access.way,
@@ -219,12 +217,12 @@ class Debugger(Engine):
     def do_where(self) -> None:
         past = self.past
         past.look(self.tick, past.sides)
-        states = past.states(self.tick)
         time = self.tick * 1e6 / past.second
         self._say(f"tick {self.tick} of {past.end}, {time:.3f} us; {self.side}")
         self._say("     " + self.beam_text())
         for side in past.sides:
-            registers, told = states[side].registers, past.machines[side].view.text(self.tick)
+            view = past.machines[side].view
+            registers, told = view.registers(self.tick), view.text(self.tick)
             text = self._text(side, registers.pc, told)
             self._say(f"{side} {registers_of(registers)} {flags_of(registers)} {text}",
                       **self._found(side, registers, told))
@@ -291,12 +289,9 @@ class Debugger(Engine):
 
     @word("[N]", "the calls that are open, the innermost first; at most N, else 32")
     def do_backtrace(self, number: str = "32") -> None:
-        machine, tick = self.machine, self.tick
-        if 0 < tick <= self.past.held:
+        if 0 < self.tick <= self.past.held:
             # One listing, and not first a short one.
-            self.past.together(
-                functools.partial(machine.state, tick),
-                lambda: machine.around((), tick - 1, FAR + OVERLAP, backwards=True))
+            self.machine.around((), self.tick - 1, FAR, backwards=True)
         self._show_here()
         for _, frame in zip(range(self._count(number, 256)), self.frames()):
             self._show(frame.start, "" if frame.kind == "call" else f"{frame.kind} after it")
@@ -437,7 +432,7 @@ class Debugger(Engine):
 
     @word("[AAAA [N]]", "instructions, from the next one on without an address")
     def do_list(self, text: str = "", count: str = "8") -> None:
-        address = self._address(text) if text else self.machine.state(self.tick).registers.pc
+        address = self._address(text) if text else self.machine.view.registers(self.tick).pc
         view, number = self.machine.view, self._count(count, 4096)
         for at, told in view.list_at(self.tick, address, number):
             self._say("%04X %s" % (at, self._text(self.side, at, told)), address=at, text=told,
@@ -530,8 +525,8 @@ class Debugger(Engine):
             self._say(f"- {past.name}")
             for tick in (found.tick, found.tick + 1):
                 for side in found.sides:
-                    machine = past.machines[side]
-                    self._moment(tick, side, machine.state(tick).registers, machine.view.text(tick))
+                    view = past.machines[side].view
+                    self._moment(tick, side, view.registers(tick), view.text(tick))
         for side in found.sides:
             one, two = (past.machines[side].state(found.tick + 1).memory
                         for past in (self.past, other))

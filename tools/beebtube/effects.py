@@ -101,8 +101,7 @@ def effects_of(start: Start, peek: Peek) -> Effects:
     if word in PULLS:
         return Effects(stack[3 : 3 + PULLS[word]], [])
     if word in PUSHES:
-        byte = getattr(registers, PUSHES[word]) | (0x30 if word == "PHP" else 0)
-        return Effects([], [(stack[2], byte)])
+        return Effects([], [(stack[2], written(start, 0) or 0)])
     if word in ("JSR", "BRK"):
         back = registers.pc + 2 & 0xFFFF
         writes = [(stack[2], back >> 8), (stack[1], back & 0xFF)]
@@ -112,11 +111,26 @@ def effects_of(start: Start, peek: Peek) -> Effects:
     if at is None or word == "JMP":
         return Effects(reads, [])
     if word in STORES:
-        byte = getattr(registers, STORES[word]) if STORES[word] else 0
-        return Effects(reads, [(at, byte)])
+        return Effects(reads, [(at, written(start, 0) or 0)])
     if word in CHANGES:
-        return Effects(reads + [at], [(at, _changed(word, peek(at), registers.a, registers.p & 1))])
+        return Effects(reads + [at], [(at, written(start, peek(at)) or 0)])
     return Effects(reads + [at], [])
+
+
+def may_write(start: Start) -> bool:
+    """An instruction may write to memory."""
+    word = start.word
+    return word in STORES or word in PUSHES or word in CHANGES or word in ("JSR", "BRK")
+
+
+def written(start: Start, byte: int) -> Optional[int]:
+    """What an instruction makes of the one byte that it changes; None if it may change several."""
+    word, registers = start.word, start.registers
+    if word in STORES:
+        return int(getattr(registers, STORES[word])) if STORES[word] else 0
+    if word in PUSHES:
+        return int(getattr(registers, PUSHES[word])) | (0x30 if word == "PHP" else 0)
+    return _changed(word, byte, registers.a, registers.p & 1) if word in CHANGES else None
 
 
 def _changed(word: str, byte: int, a: int, carry: int) -> int:

@@ -9,10 +9,11 @@ from typing import Callable, Dict, Iterable, Iterator, List, NamedTuple, Optiona
 from .accesses import is_status
 from .calls import Calls, Frame
 from .conditions import Condition
-from .effects import Effects, address_of, effects_of, sequences, touching
+from .effects import (
+    CHANGES, Effects, address_of, effects_of, may_write, sequences, touching)
 from .faults import Fault
 from .listings import Change, Start
-from .machine import FAR, SOME, Machine
+from .machine import SOME, Machine
 from .past import LETTERS, Past
 from .trace import Access
 
@@ -80,6 +81,14 @@ class Engine:
         """Fault after the tick up to which accesses are at hand."""
         if self.tick > self.past.held:
             raise Fault(f"accesses to the Tube are at hand up to tick {self.past.held}")
+
+    # Up to where a search went.
+    def _ends(self, back: bool) -> str:
+        if back:
+            return "before"
+        held = self.past.held
+        return "before the run ends" if held == self.past.end else (
+            f"before tick {held}, up to which accesses are at hand")
 
     # --- By instructions and calls ---
 
@@ -173,77 +182,102 @@ class Engine:
         """The next change of a byte of a range, or the last one before; with its address."""
         self.watched(low, high)
         machine, tick = self.machine, self.tick
-        if high - low < FEW:
-            way = machine.last_change if back else machine.next_change
-            if not machine.view.is_under_rom(high):
-                listed = machine.last_of if back else machine.next_of
-                self.past.together(*(functools.partial(listed, "watch", at, tick + back)
-                                     for at in range(low, high + 1)))
-            changes = [(at, way(at, tick)) for at in range(low, high + 1)]
-            found = [(at, it) for at, it in changes if it is not None]
-            if not found:
-                return None
-            return (max if back else min)(found, key=lambda it: (it[1].start.tick, -it[0]))
+        one = machine.last_change if back else machine.next_change
+        if low == high:
+            change = one(low, tick)
+            return None if change is None else (low, change)
         under_way, after = machine.current(tick), machine.following(tick)
         if under_way is not None and under_way.tick < tick:
             # In the midst of an instruction, which may have done it already, or do it still.
             end = self.past.held if after is None else after.tick
             first, last = (under_way.tick, tick) if back else (tick, end)
-            for at in range(low, high + 1):
-                change = self._change(at, under_way, first, last)
-                if change is not None:
-                    return at, change
+            if may_write(under_way) or after is None or machine.view.is_between(under_way, after):
+                for at in range(low, high + 1):
+                    change = self._change(at, under_way, first, last)
+                    if change is not None:
+                        return at, change
             tick = under_way.tick if back else end
-        touched = self._touching(low, high, tick, back, lambda effects: [
-            it[0] for it in effects.writes], True)
-        for start, at in touched:
-            after = machine.following(start.tick) if start.tick < self.past.held else None
-            end = self.past.held if after is None else after.tick
-            change = self._change(at, start, start.tick, end)
-            if change is not None:
-                return at, change
+        for first, last in self._windows(tick, back):
+            writes = self._writes(first, last, low, high)
+            for write in reversed(list(writes)) if back else writes:
+                change = self._done(*write)
+                if change is not None:
+                    return write[1], change
+            far = machine.following(first - 1) if back and first > 0 else None
+            if high - low < FEW and (far is not None or not back and last <= self.past.held):
+                tick = last if far is None else far.tick
+                if not machine.view.is_under_rom(high):
+                    listed = machine.last_of if back else machine.next_of
+                    self.past.together(*(functools.partial(listed, "watch", at, tick + back)
+                                         for at in range(low, high + 1)))
+                found = [(at, it) for at in range(low, high + 1)
+                         for it in [one(at, tick)] if it is not None]
+                found.sort(key=lambda it: it[1].start.tick, reverse=back)
+                return found[0] if found else None
         return None
+
+    # The ticks of each listing, from a tick on or back.
+    def _windows(self, tick: int, back: bool) -> Iterator[Tuple[int, int]]:
+        for listing in self.machine.parts(tick, back):
+            yield (listing.low, tick) if back else (tick, listing.covers)
+            tick = listing.low if back else listing.covers
 
     def _change(self, at: int, start: Start, first: int, last: int) -> Optional[Change]:
         old, new = (it.memory[at] for it in self.machine.states_at([first, last]))
         return Change(start, last, old, new) if old != new else None
 
-    # The starts of instructions that touch a range, with each address there; with `pushes` those
-    # before an interrupt, too.
-    def _touching(self, low: int, high: int, tick: int, back: bool,
-                  touched: Callable[[Effects], List[int]], pushes: bool
-                  ) -> Iterator[Tuple[Start, int]]:
-        bound, ticks = self.machine.bound, FAR
-        while tick > 0 if back else tick < bound:
-            first, last = (max(0, tick - ticks), tick) if back else (tick, tick + ticks)
-            parts = self._touched(first, min(last, bound), low, high, touched, pushes)
-            yield from reversed(list(parts)) if back else parts
-            tick, ticks = first if back else last, SOME
+    # The change by a write, if it is one.
+    def _done(self, start: Start, at: int, old: Optional[int], new: Optional[int]
+                 ) -> Optional[Change]:
+        if old is not None and old == new:
+            return None
+        after = self.machine.following(start.tick) if start.tick < self.past.held else None
+        if old is None or new is None or after is None:
+            end = self.past.held if after is None else after.tick
+            return self._change(at, start, start.tick, end)
+        return Change(start, after.tick, old, new)
 
-    def _touched(self, first: int, last: int, low: int, high: int,
-                 touched: Callable[[Effects], List[int]], pushes: bool
-                 ) -> Iterator[Tuple[Start, int]]:
-        machine, form = self.machine, touching(low, high)
-        machine.around((), first, last - first)
-        begin = machine.current(first) or machine.following(first)
-        if begin is None or begin.tick >= last:
-            return
-        memory = bytearray(machine.view.bytes_at(begin.tick, 0, 65536))
-        before: Optional[Start] = None
-        for start in machine.view.starts(begin.tick, last, form):
-            if before is not None and pushes and form is None:
-                for number in range(3 * (sequences(before, start))):
-                    at = 0x100 | start.registers.s + 1 + number & 255
-                    if low <= at <= high and before.tick >= first:
-                        yield before, at
+    # The starts from a tick on and below another of instructions that may touch a range, each
+    # with its effects and the memory before it.
+    def _touching(self, first: int, last: int, low: int, high: int
+                  ) -> Iterator[Tuple[Start, Effects, bytearray]]:
+        view, memory = self.machine.view, bytearray()
+        for start in view.starts(first, last, touching(low, high)):
+            memory = memory or bytearray(view.bytes_at(start.tick, 0, 65536))
             effects = effects_of(start, memory.__getitem__)
-            for at in touched(effects):
-                if low <= at <= high and start.tick >= first:
-                    yield start, at
+            yield start, effects, memory
             for at, byte in effects.writes:
                 if self.side == "para" or at < 0x8000:
                     memory[at] = byte
+
+    # The writes to a range by instructions that start from a tick on and below another: the
+    # instruction, the address, and the byte before and after it; None for one that is not known.
+    def _writes(self, first: int, last: int, low: int, high: int
+                ) -> Iterator[Tuple[Start, int, Optional[int], Optional[int]]]:
+        machine, before = self.machine, None
+        has_stack = low < 0x200 and high >= 0x100
+        unknown = {at for at in range(low, high + 1) if machine.view.is_under_rom(at)}
+        for start, effects, memory in self._touching(first, last, low, high):
+            for at in self._pushed(before, start) if has_stack else ():
+                unknown.add(at)
+                if before is not None and low <= at <= high:
+                    yield before, at, None, None
+            for at, byte in effects.writes:
+                if low <= at <= high:
+                    yield start, at, None if at in unknown else memory[at], byte
+                if start.word not in CHANGES and not machine.view.is_under_rom(at):
+                    unknown.discard(at)
             before = start
+        if has_stack and before is not None:
+            after = machine.following(before.tick) if before.tick < self.past.held else None
+            stack = self._pushed(before, after) if after else range(0x100, 0x200)
+            yield from ((before, at, None, None) for at in stack if low <= at <= high)
+
+    # What interrupts push between a start and the next one.
+    @staticmethod
+    def _pushed(one: Optional[Start], other: Start) -> List[int]:
+        number = 0 if one is None else 3 * sequences(one, other)
+        return [0x100 | other.registers.s + 1 + more & 255 for more in range(number)]
 
     def change(self, low: int, high: int) -> Tuple[int, Change]:
         """To where a byte of a range has become another."""
@@ -264,10 +298,12 @@ class Engine:
     def find_reader(self, low: int, high: int, back: bool = False) -> Optional[Start]:
         """The next instruction that reads a byte of a range, or the last one before. Pointers and
         the stack are followed."""
-        for start, _ in self._touching(low, high, self.tick, back,
-                                       lambda effects: effects.reads, False):
-            if start.tick < self.tick if back else start.tick > self.tick:
-                return start
+        for first, last in self._windows(self.tick + (not back), back):
+            reads = (start for start, effects, _ in self._touching(first, last, low, high)
+                     if any(low <= at <= high for at in effects.reads))
+            found = next(reversed(list(reads)) if back else reads, None)
+            if found is not None:
+                return found
         return None
 
     # --- To accesses to the Tube ---
@@ -276,13 +312,12 @@ class Engine:
         """To the next access of this form, as ` H R 1 `, or back to the last one. At one tick the
         host's comes before the second processor's."""
         self.need_tube()
+        self.need_accesses()
         traffic, letter = self.past.traffic, LETTERS[self.side]
         place = traffic.split(self.tick, letter, not back)
         found = traffic.trace.rfind(form, 0, place) if back else traffic.trace.find(form, place)
         if found < 0:
-            ends = "before the run ends" if self.past.held == self.past.end else (
-                f"before tick {self.past.held}, up to which accesses are at hand")
-            raise Fault(f"there is no such access {'before' if back else ends}")
+            raise Fault(f"there is no such access {self._ends(back)}")
         return self.to_access(traffic.access(found))
 
     def to_access(self, access: Access) -> Access:
@@ -306,7 +341,7 @@ class Engine:
         traffic = self.past.traffic
         place = traffic.loss(traffic.split(self.tick, LETTERS[self.side], not back), back)
         if place < 0:
-            raise Fault("no byte is lost " + ("before" if back else "before the run ends"))
+            raise Fault(f"no byte is lost {self._ends(back)}")
         return self.to_access(traffic.access(place))
 
     # --- To interrupts and resets ---
@@ -318,18 +353,19 @@ class Engine:
 
     def reset(self, back: bool = False) -> Start:
         """To the first instruction after the next reset, or back to that after the last one."""
-        machine = self.machine
-        resets = self.past.resets(self.side)
+        self.need_accesses()
+        machine, resets = self.machine, self.past.resets(self.side)
         for reset in reversed(resets) if back else resets:
             start = machine.following(reset) if reset < self.past.held else None
             if start is not None and (start.tick < self.tick if back else start.tick > self.tick):
                 return self._to(start, "")
-        raise Fault("no reset comes " + ("before" if back else "before the run ends"))
+        raise Fault(f"no reset comes {self._ends(back)}")
 
     def held(self, back: bool = False) -> None:
         """To the next tick at which the second processor begins to be held by its reset line, or
         back to the last one."""
         self.need_tube()
+        self.need_accesses()
         machine, resets = self.past.machines["para"], self.past.resets("held")
         for reset in reversed(resets) if back else resets:
             if reset >= self.tick if back else reset + FAR_HELD < self.tick:
@@ -346,8 +382,7 @@ class Engine:
             if low < self.tick if back else low > self.tick:
                 self.side, self.tick = "para", low
                 return
-        raise Fault("no reset line holds the second processor " + (
-            "before" if back else "before the run ends"))
+        raise Fault(f"no reset line holds the second processor {self._ends(back)}")
 
     # --- Where a byte came from ---
 

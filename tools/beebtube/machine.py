@@ -8,6 +8,7 @@ from collections import OrderedDict
 from typing import (
     TYPE_CHECKING, Iterator, List, NamedTuple, NoReturn, Optional, Sequence, Tuple, Union)
 
+from .effects import may_write, written
 from .faults import Fault, Refused
 from .listings import Change, Listing, Start
 from .report import Registers
@@ -23,6 +24,7 @@ FAR = 1 << 21
 SOME = 1 << 23
 WIDE = 1 << 27
 OVERLAP = 256  # a listing begins so many ticks earlier: a change is seen from the start before it
+FEW = 16  # addresses that are looked for in a listing one by one
 MANY = 200000  # so many instructions are counted, and not gone through
 KEPT = 1 << 29  # bytes of listings that are kept
 LISTED = re.compile(rb"listed ([0-9]+) of ([0-9]+)\n")
@@ -71,10 +73,14 @@ class Machine:
         past.program.done(words + past.options(self.side), past.folder)
         found = past.state_of(out, self.side)
         past.remove(out)
-        self._states[tick] = found
+        self.note(tick, found)
+        return found
+
+    def note(self, tick: int, state: State) -> None:
+        """Keeps the state at a tick."""
+        self._states[tick] = state
         while len(self._states) > 64:
             self._states.popitem(last=False)
-        return found
 
     def states_at(self, ticks: List[int]) -> List[State]:
         """The states at several ticks."""
@@ -126,13 +132,12 @@ class Machine:
                backwards: bool = False) -> Listing:
         """A listing that has all starts of its kind at a tick and after it, or before it: of so
         many ticks, unless there is one already."""
-        with self._lock:
-            for place in range(len(self._lists) - 1, -1, -1):
-                kind, listing = self._lists[place]
-                if kind == extra and listing.low <= tick < listing.covers:
-                    self._lists.append(self._lists.pop(place))
-                    return listing
-        before, behind = (ticks, NEAR // 2) if backwards else (NEAR // 2, ticks)
+        known = self._known(extra, tick)
+        if known is not None:
+            return known
+        near = max(NEAR, min(FAR, tick // 32))  # a long replay is worth a long listing
+        ticks = max(ticks, near)
+        before, behind = (ticks, near // 2) if backwards else (near // 2, ticks)
         low, high = max(0, tick - before), min(self.past.held + 1, tick + behind)
         while True:
             self.past.progress(f"tick {low}")
@@ -149,8 +154,28 @@ class Machine:
                 return listing
             low = listing.covers
 
+    # A listing that there is already of starts around a tick.
+    def _known(self, extra: Tuple[str, ...], tick: int) -> Optional[Listing]:
+        with self._lock:
+            for place in range(len(self._lists) - 1, -1, -1):
+                kind, listing = self._lists[place]
+                if kind == extra and listing.low <= tick < listing.covers:
+                    self._lists.append(self._lists.pop(place))
+                    return listing
+        return None
+
+    def listed_after(self, tick: int) -> Optional[Start]:
+        """The first start after a tick if it is in the listing that has this tick."""
+        listing = self._known((), tick)
+        if listing is None:
+            return None
+        place = listing.place_of(tick + 1)
+        return listing.start(place) if place < listing.size else None
+
     def parts(self, tick: int, backwards: bool = False, ticks: int = NEAR) -> Iterator[Listing]:
         """Listings one after another: from a tick on, or back from below it."""
+        if backwards and tick > self.past.held + 1:
+            self.outside()
         while 0 < tick if backwards else tick < self.bound:
             listing = self.around((), tick - 1 if backwards else tick, ticks, backwards)
             yield listing
@@ -174,6 +199,13 @@ class Machine:
 
     def following(self, tick: int, count: int = 1) -> Optional[Start]:
         """The `count`th start after a tick; None if the run ends before it."""
+        found = self.at_hand(tick, count)
+        if found is None:
+            self._nothing()
+        return found
+
+    def at_hand(self, tick: int, count: int = 1) -> Optional[Start]:
+        """The same; None too if the instructions at hand end before it."""
         low, left = tick + 1, count
         while low < self.bound:
             if left > MANY:
@@ -184,7 +216,6 @@ class Machine:
             if place < listing.size:
                 return listing.start(place)
             low, left = listing.covers, left - found
-        self._nothing()
         return None
 
     def preceding(self, tick: int, count: int = 1) -> Optional[Start]:
@@ -230,7 +261,10 @@ class Machine:
     def next_of(self, kind: str, places: Places, tick: int) -> Optional[Start]:
         """The first start after a tick at an address or at one of several ("at"), or after a
         change of the byte at an address ("watch")."""
-        extra, low, ticks = self._chosen(kind, places), tick + 1, SOME
+        near = self._near(kind, places, tick, False)
+        if isinstance(near, Start):
+            return near
+        extra, low, ticks = self._chosen(kind, places), near, max(SOME, near)
         while low < self.bound:
             listing = self.around(extra, low, ticks)
             place = listing.place_of(low)
@@ -244,7 +278,12 @@ class Machine:
         """The last such start below a tick."""
         if tick > self.past.held + 1:
             self.outside()
-        extra, high, ticks = self._chosen(kind, places), min(tick, self.bound), SOME
+        near = self._near(kind, places, tick, True)
+        if isinstance(near, Start):
+            return near
+        extra, high = self._chosen(kind, places), min(near, self.bound)
+        is_hot = kind == "watch" and isinstance(places, int) and self._is_hot(places, high)
+        ticks = SOME if is_hot else max(SOME, high)
         while high > 0:
             listing = self.around(extra, high - 1, ticks, backwards=True)
             place, found = listing.before(listing.place_of(min(high, self.bound)), 1)
@@ -252,6 +291,29 @@ class Machine:
                 return listing.start(place)
             high, ticks = listing.low, WIDE
         return None
+
+    # The next start at such an address, or the last one before, if it is in a listing of all
+    # starts that there is already; otherwise where to search on.
+    def _near(self, kind: str, places: Places, tick: int, back: bool) -> Union[Start, int]:
+        many = (places,) if isinstance(places, int) else places
+        listing = self._known((), tick - 1 if back else tick + 1)
+        if listing is None or kind != "at" or len(many) > FEW:
+            return tick if back else tick + 1
+        place = listing.place_of(tick if back else tick + 1)
+        forms = [b" %04X A=" % address for address in many]
+        found = [at for at in (
+            listing.data.rfind(form, listing.first, place) if back else
+            listing.data.find(form, place) for form in forms) if at >= 0]
+        if found:
+            return listing.start((max if back else min)(found) - 10)
+        return listing.low if back else listing.covers
+
+    # An instruction around a tick writes to the address, and may change the byte often.
+    def _is_hot(self, address: int, tick: int) -> bool:
+        listing = self._known((), tick - 1)
+        at = b"(?:00)?%02X" % address if address < 256 else b"%04X" % address
+        form = re.compile(rb" (?:ST.|ASL|LSR|RO[LR]|INC|DEC|T[RS]B) &" + at + rb"\n")
+        return listing is not None and form.search(listing.data, listing.first) is not None
 
     def every(self, kind: str, places: Places, high: int) -> List[Start]:
         """All such starts below a tick."""
@@ -271,17 +333,16 @@ class Machine:
         if tick > self.past.held + 1:
             self.outside()
         is_hidden = self.view.is_under_rom(address)
-        self.past.together(lambda: self.preceding(tick), lambda: None if is_hidden else
+        self.past.together(lambda: self.current(tick), lambda: None if is_hidden else
                            self.last_of("watch", address, tick + 1))
-        before = self.preceding(tick)
-        if before is None:
-            return None
         here = self.current(tick)
-        if tick <= self.past.held and (here is None or here.tick < tick):
+        if here is None:
+            return None
+        if here.tick < tick <= self.past.held and self.view.may_have_written(tick):
             # In the midst of an instruction, which may have done it already.
-            old, new = (state.memory[address] for state in self.states_at([before.tick, tick]))
+            old, new = (state.memory[address] for state in self.states_at([here.tick, tick]))
             if old != new:
-                return Change(before, tick, old, new)
+                return Change(here, tick, old, new)
         if is_hidden:
             return self.view.last_change_under_rom(address, tick)
         return self._changed(address, self.last_of("watch", address, tick + 1))
@@ -294,12 +355,14 @@ class Machine:
         tick, listing = after.tick, self.around(self._chosen("watch", address), after.tick)
         place, found = listing.before(listing.place_of(tick), 1)
         since = listing.tick_at(place) if found else listing.low
-        self.past.together(lambda: self.preceding(tick), lambda: self.state(tick),
-                           lambda: self.state(since))
+        self.past.together(lambda: self.preceding(tick), lambda: self.state(since))
         before = self.preceding(tick)
         if before is None:
             return None
-        old, new = (self._byte(address, it) for it in (min(since, before.tick), tick))
+        old = self._byte(address, min(since, before.tick))
+        new = None if self.view.is_between(before, after) else written(before, old)
+        if new is None or new == old:
+            new = self._byte(address, tick)
         return Change(before, tick, old, new)
 
     def next_change(self, address: int, tick: int) -> Optional[Change]:
@@ -310,10 +373,11 @@ class Machine:
         here, after = self.current(tick), self.following(tick)
         low = tick
         if here is not None and here.tick < tick and after is not None:
-            # The instruction under way may have done it already, or do it still.
-            old, new = (it.memory[address] for it in self.states_at([tick, after.tick]))
-            if old != new:
-                return Change(here, after.tick, old, new)
+            if may_write(here) or self.view.is_between(here, after):
+                # The instruction under way may have done it already, or do it still.
+                old, new = (it.memory[address] for it in self.states_at([tick, after.tick]))
+                if old != new:
+                    return Change(here, after.tick, old, new)
             low = after.tick
         found = None
         if is_hidden:
@@ -324,7 +388,8 @@ class Machine:
             return found
         # The last instruction of the run may have done it, and no start comes after it.
         last = self.current(self.past.held)
-        if last is None or last.tick == self.past.held:
+        if last is None or last.tick == self.past.held or (
+                not self.view.may_have_written(self.past.held)):
             return None
         old, new = (it.memory[address] for it in
                     self.states_at([max(tick, last.tick), self.past.held]))

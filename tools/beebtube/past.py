@@ -103,8 +103,10 @@ class Past:
                           "--keep", str(MOST_ACCESSES)] + kept)
             session = read_file(place + ".session", SESSION_CAP)
             trace = read_file(place + ".trace", OUTPUT_CAP)
-        end = int(call.alone["TICKS"])
-        return Past(program, Fields(session), " ".join(words), progress, trace, end)
+            end = int(call.alone["TICKS"])
+            past = Past(program, Fields(session), " ".join(words), progress, trace, end)
+            past._note_end(place)
+        return past
 
     @staticmethod
     def _of_host(program: Program, words: List[str],
@@ -112,7 +114,7 @@ class Past:
         given = [word for word in words if word != "--no-tube"]
         inputs = Inputs.of_host(Call(["replay", "host", os.devnull] + given))
         past = Past(program, inputs, " ".join(["host"] + words), progress)
-        past.machines["host"].state(past.end)
+        past.machines["host"].state(0)  # refused if a file or a word is wrong
         return past
 
     @staticmethod
@@ -131,7 +133,18 @@ class Past:
             except Refused as refused:
                 raise _explained(refused, os.fspath(name)) from None
             trace = read_file(os.path.join(folder, "whole.trace"), OUTPUT_CAP)
-        return Past(program, fields, os.fspath(name), progress, trace)
+            past = Past(program, fields, os.fspath(name), progress, trace)
+            past._note_end(os.path.join(folder, "whole"))
+        return past
+
+    # The last states are in the outputs of the run itself.
+    def _note_end(self, out: str) -> None:
+        states = {side: self.state_of(out, side) for side in SIDES}
+        if self.end > self.held:
+            self._beyond[self.end] = states
+            return
+        for side, state in states.items():
+            self.machines[side].note(self.end, state)
 
     @property
     def has_tube(self) -> bool:
@@ -211,11 +224,10 @@ class Past:
         list(self.pool.map(tried, calls))
 
     def look(self, tick: int, sides: Sequence[str]) -> None:
-        """Finds the states at a tick and the instructions around it."""
+        """Finds what the processors are at, side by side."""
         if tick <= self.held:
-            machines = [self.machines[side] for side in sides]
-            self.together(*(functools.partial(way, tick) for machine in machines
-                            for way in (machine.state, machine.current)))
+            self.together(*(functools.partial(self.machines[side].view.phase, tick)
+                            for side in sides))
 
     def options(self, side: str, keys: str = "keys") -> List[str]:
         """The options of a replay of one side."""
@@ -295,10 +307,12 @@ class Past:
         if tick > self.held:
             raise Fault(f"where the beam is cannot be found after tick {self.held}")
         view = self.machines["host"].view
+        if at_once and self.held > AT_ONCE:
+            # The ROMs come first: they need no state.
+            for moment in (None, tick):
+                if not all(map(view.knows, view.storing(moment, *BEAM))):
+                    return None
         addresses = view.storing(tick, *BEAM)
-        is_known = all(view.knows(address) for address in addresses)
-        if at_once and not is_known and self.held > AT_ONCE:
-            return None
         beam = Beam(self.second // 1000000)
         for start in view.stores_at(addresses):
             if start.tick >= tick:

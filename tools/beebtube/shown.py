@@ -91,7 +91,7 @@ class Shown:
         debugger = self.debugger
         side = SIDE_OF.get(given.get("threadId", 0), debugger.side)
         with debugger.on(side):
-            registers = debugger.machine.state(debugger.tick).registers
+            registers = debugger.machine.view.registers(debugger.tick)
             places: List[Tuple[int, Optional[Frame], int]] = [(registers.pc, None, debugger.tick)]
             if debugger.tick <= debugger.past.held:
                 current = debugger.machine.current(debugger.tick)
@@ -250,7 +250,7 @@ class Shown:
             return {"result": self._command(text), "variablesReference": 0}
         with debugger.on(side):
             if text.lower() in REGISTERS:
-                value = getattr(debugger.machine.state(debugger.tick).registers, text.lower())
+                value = getattr(debugger.machine.view.registers(debugger.tick), text.lower())
                 return {"result": f"{value:04X}" if text.lower() == "pc" else f"{value:02X}",
                         "variablesReference": 0}
             if frame and self.sources[side].function_at(self._frames[frame - 1][1]):

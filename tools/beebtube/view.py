@@ -5,9 +5,10 @@ from __future__ import annotations
 import re
 from typing import TYPE_CHECKING, Dict, Iterator, List, NamedTuple, Optional, Tuple
 
-from .effects import effects_of, leaves_all, sequences
+from .effects import effects_of, leaves_all, may_write, sequences
 from .listings import Change, Start
 from .naming import length_of
+from .report import Registers
 
 if TYPE_CHECKING:
     from .machine import Machine
@@ -53,12 +54,16 @@ class View:
     def phase(self, tick: int) -> Phase:
         """What the processor is at once all ticks below this one are done."""
         machine = self.machine
-        state, start = machine.state(tick), machine.current(tick)
-        if state.registers.halted:
-            return Phase("halted", start)
+        start = machine.current(tick)
         if start is not None and start.tick == tick and tick < machine.bound:
             return Phase("instruction", start)
-        after = machine.following(tick) if tick < self.past.held else None
+        after = machine.listed_after(tick)
+        if start is not None and after is not None and not self.is_between(start, after):
+            return Phase("instruction", start)
+        state = machine.state(tick)
+        if state.registers.halted:
+            return Phase("halted", start)
+        after = machine.at_hand(tick) if tick < self.past.held else None
         if state.held:
             return Phase("held", start, after)
         if start is None:
@@ -74,6 +79,23 @@ class View:
                 return Phase("instruction", start)
         kind = self._kind(start, after, tick if begun is None else begun)
         return Phase(kind, start, after, begun)
+
+    def is_between(self, one: Start, other: Start) -> bool:
+        """Something begins between a start and the next one: an interrupt or a reset."""
+        return sequences(one, other) > 0 or any(
+            one.tick <= reset < other.tick for reset in self.past.resets(self.side))
+
+    def may_have_written(self, tick: int) -> bool:
+        """What is under way at a tick may have written to memory."""
+        found = self.phase(tick)
+        return found.kind != "instruction" or found.start is None or may_write(found.start)
+
+    def registers(self, tick: int) -> Registers:
+        """The registers at a tick: those at the start of the instruction under way."""
+        found = self.phase(tick) if tick <= self.past.held else None
+        if found is not None and found.kind == "instruction" and found.start is not None:
+            return found.start.registers
+        return self.machine.state(tick).registers
 
     # How many ticks an instruction takes that leaves all registers; one that halts says so.
     def _jump(self, start: Start) -> int:
@@ -245,11 +267,12 @@ class View:
 
     # --- Stores to the 6845, the video ULA, and the latch of the paged ROM ---
 
-    def storing(self, tick: int, *ranges: Tuple[int, int]) -> List[int]:
-        """Where instructions stand that may store to these addresses, by their bytes: in a ROM,
-        or in memory at this tick."""
-        images, memory = self.past.inputs.images, self.machine.state(tick).memory
-        places = [(0xC000, images["os"]), (0, memory)]
+    def storing(self, tick: Optional[int], *ranges: Tuple[int, int]) -> List[int]:
+        """Where instructions are that may store to these addresses, by their bytes: in a ROM,
+        or in memory at this tick. Without a tick those in a ROM alone."""
+        images = self.past.inputs.images
+        places = [(0xC000, images["os"])]
+        places += [(0, self.machine.state(tick).memory)] if tick is not None else []
         places += [(0x8000, (data * 2)[:16384]) for name, data in images.items()
                    if name.startswith("rom")]
         found = set()

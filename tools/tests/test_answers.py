@@ -244,6 +244,17 @@ class Answers(Case):
         self.said(debugger, "previous")
         self.assertEqual(self.pc(debugger), labels["next"] + 6)
 
+    def test_how_many_replays(self):
+        """One listing for a moment and what is near, and one search for a change."""
+        debugger, labels = self.calls(), self.labels
+        program = debugger.past.program
+        for words, most in (("go 20001", 1), ("step; back; next; previous", 0),
+                            ("until %04X; before %04X" % (labels["sub"], labels["loop"]), 0),
+                            ("go 20001; backtrace", 1), ("who 81", 2), ("change 70..73", 1)):
+            with mock.patch.object(program, "done", wraps=program.done) as done:
+                self.said(debugger, words)
+            self.assertLessEqual(done.call_count, most, words)
+
     def test_changes_of_a_short_range(self):
         """More bytes than replays side by side."""
         debugger, labels = self.calls(), self.labels

@@ -429,6 +429,7 @@ class Hosts(Adapters):
         self.assertIn("nothing is launched", client.refused("threads"))
         self.assertIn("no such request", client.refused("nonsense"))
         self.assertIn("launch needs", client.refused("launch"))
+        self.assertIn("launch needs", client.refused("launch", program=""))
         self.assertIn("cannot read", client.refused("launch", session="missing"))
         self.assertIn("not a folder", client.refused("launch", session="x", cwd="missing"))
         self.assertTrue(client.refused("launch", program="missing"))

@@ -389,6 +389,18 @@ class Ways(Debugged):
             debugger.side = "host"
             with self.assertRaisesRegex(Fault, "at hand|hold", msg=words):
                 debugger.do(words)
+        for words in ("access H R 1 back", "reset", "reset back", "break", "break back", "held",
+                      "held back", "lost", "lost back", "readers 70", "before if A=1",
+                      "change 70..7F", "who 70..7F", "change 100..1FF", "interrupt back"):
+            debugger.do("go end; host")
+            with self.assertRaisesRegex(Fault, "at hand|the session holds", msg=words):
+                debugger.do(words)
+        # What does not come up to the last access may come after it.
+        for words in ("reset", "break", "held", "lost", "access H R 5", "readers FFF0",
+                      "change 7000..7FFF", "interrupt", "until if A=1 and X=77"):
+            debugger.do("go %d; host" % (one.held - 1))
+            with self.assertRaisesRegex(Fault, "at hand|the session holds", msg=words):
+                debugger.do(words)
 
 
 def beebtube_starts(one, side, address):
