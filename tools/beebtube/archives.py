@@ -116,7 +116,7 @@ def folders_in(path: str, recursive: bool, notes: List[str], begin: str = "") ->
     for what, them in others.items():
         notes.extend("%s: %s" % (shown(name), what) for name in them[:5])
         if len(them) > 5:
-            notes.append("%d more are each %s" % (len(them) - 5, what))
+            notes.append("and %d more: %s" % (len(them) - 5, what))
     for name in below:
         yield from folders_in(os.path.join(path, name), recursive, notes, begin + name + "/")
 
