@@ -109,7 +109,7 @@ class Suite:
 
     def row(self, entry: Entry, result: Optional[Result], fault: str) -> Row:
         """The row of a run. A fault names files from the list's folder on, which may move."""
-        fault = re.sub(r"(?<![\w./])" + re.escape(self.folder), "", fault)
+        fault = re.sub(r"(?<![\w./])" + re.escape(told(self.folder)), "", fault)
         return row_of(entry, result, fault, self.stored)
 
     def say(self, row: Row) -> None:

@@ -724,15 +724,16 @@ class Against(Suite):
         put(self.at("discs/bad.zip"), b"no archive")
         put(self.at("discs/b.set"), b"--oss x\n")
         put(self.at("list.csv"), b"name,words\nlost,solo --disc0 lost.ssd\n")
+        moved = "moved" + "-and-long" * 8
         for name in ("discs", "list.csv"):
             self.suite(name=name, status=1)
             os.rename(self.at("results/results.csv"), self.at("stored.csv"))
-            os.mkdir(self.at("moved"))
-            os.rename(self.at(name), self.at("moved/" + name))
-            where = os.path.abspath(self.at("moved/" + name)) if name == "discs" else "moved/" + name
+            os.mkdir(self.at(moved))
+            os.rename(self.at(name), self.at(moved + "/" + name))
+            where = os.path.abspath(self.at(moved + "/" + name)) if name == "discs" else moved + "/" + name
             done = self.suite("--against", "stored.csv", name=where)
             self.assertEqual({line.split()[0] for line in self.lines(done)} - {"same"}, {"failing"}, done.out)
-            shutil.rmtree(self.at("moved"))
+            shutil.rmtree(self.at(moved))
 
     def test_each_state_is_told_for_what_it_is(self):
         self.discs("bad.ssd", "breaks.ssd", "mends.ssd", "same.ssd", "moves.ssd", "twin.ssd")
