@@ -997,7 +997,7 @@ class Elsewhere(Suite):
 
     def test_a_job_loads_what_it_needs_alone(self):
         self.discs("a.ssd")
-        done = call(["python3", "-X", "importtime", *shlex.split(self.jobs()[0])], "/")
+        done = call(["python3", "-S", "-X", "importtime", *shlex.split(self.jobs()[0])], "/")
         self.assertEqual((done.status, done.out), (0, "done a.ssd\n"))
         loaded = {line.rpartition("|")[2].strip() for line in done.err.splitlines() if line.startswith("import time:")}
         self.assertIn("beebtube.jobs", loaded)
