@@ -421,10 +421,10 @@ def page_of(numbers):
         "    valgrind --tool=cachegrind --branch-sim=yes --cache-sim=no release/beebtube \\\n",
         "        %s\n\n" % of_pair("solo", "demo").format(PAIR_TICKS),
         wrapped("""`bench/speed.py --counts PROGRAM` prints the counts of any program.
-            `bench/run.sh` compares `run`, `solo` and both replays for any pair, `bench/replay.sh`
-            the replays with devices, `bench/session.sh` resumed runs, `bench/check.sh` and
-            `bench/asm.sh` the largest trace and source, and `bench/cell.sh` the cell that both
-            threads share."""),
+            `bench/run.sh` compares `run`, `solo` and both replays for any pair. `bench/replay.sh`
+            measures the replays with devices, `bench/session.sh` resumed runs, and `bench/check.sh`
+            and `bench/asm.sh` the largest trace and source. `bench/cell.sh` measures the cell that
+            both threads share."""),
     ))
 
 
@@ -432,8 +432,8 @@ def line_of(numbers):
     """The README's paragraph about speed."""
     middle = [seconds(statistics.median(numbers.used[it]))
               for it in ("alone-screen", "run-demo", "run-stream")]
-    return wrapped("""A second of machine time takes %s CPU seconds for a Model B alone, %s for two
-        machines, and %s if they exchange bytes without pause
+    return wrapped("""A second of machine time takes %s CPU seconds for a Model B alone, and %s for
+        two machines. With bytes without pause it takes %s
         ([measured %s](docs/SPEED.md#what-to-expect))."""
                    % (*middle, numbers.facts["date"]))
 

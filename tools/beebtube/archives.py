@@ -11,7 +11,7 @@ from typing import Dict, Iterator, List, NamedTuple, Optional, Set, Tuple
 
 from .faults import Fault
 from .files import open_file, read_file
-from .words import shown
+from .words import shown, told
 
 DISCS = (".ssd", ".dsd")
 # Files that somebody may take for discs, and that no run reads.
@@ -61,9 +61,9 @@ def read_disc(path: str, most: int) -> bytes:
                 with zipfile.ZipFile(packed) as archive, archive.open(member) as unpacked:
                     data = unpacked.read(most + 1)
     except (OSError, EOFError, KeyError, ValueError, NotImplementedError, RuntimeError, zipfile.BadZipFile, zlib.error) as error:
-        raise Fault("cannot unpack %s: %s" % (shown(path), shown(str(error)))) from None
+        raise Fault("cannot unpack %s: %s" % (told(path), shown(str(error)))) from None
     if len(data) > most:
-        raise Fault("too long %s: it has more than %s bytes" % (shown(path), "{:,}".format(most)))
+        raise Fault("too long %s: it has more than %s bytes" % (told(path), "{:,}".format(most)))
     return data
 
 
@@ -74,9 +74,9 @@ def _members(path: str) -> Tuple[List[str], str]:
         with open_file(path, plain=True) as packed, zipfile.ZipFile(packed) as archive:
             names = archive.namelist()
     except (Fault, OSError, ValueError, NotImplementedError, RuntimeError, zipfile.BadZipFile) as error:
-        return [], "cannot unpack %s: %s" % (shown(path), shown(str(error)))
+        return [], "cannot unpack %s: %s" % (told(path), shown(str(error)))
     if len(names) > MOST_MEMBERS:
-        return [], "%s has more than %s files" % (shown(path), "{:,}".format(MOST_MEMBERS))
+        return [], "%s has more than %s files" % (told(path), "{:,}".format(MOST_MEMBERS))
     return sorted({name for name in names if bare(name) == name and is_disc(name)}), ""
 
 
@@ -116,7 +116,7 @@ def folders_in(path: str, recursive: bool, notes: List[str], begin: str = "") ->
     for what, them in others.items():
         notes.extend("%s: %s" % (shown(name), what) for name in them[:5])
         if len(them) > 5:
-            notes.append("%d more are each %s" % (len(them) - 5, what))
+            notes.append("and %d more: %s" % (len(them) - 5, what))
     for name in below:
         yield from folders_in(os.path.join(path, name), recursive, notes, begin + name + "/")
 

@@ -20,7 +20,7 @@ from .files import IMAGE_CAP, SESSION_CAP, TEXT_CAP, TRACE_CAP, Sum, read_text, 
 from .program import version
 from .script import BadScript, Event, Script, typed
 from .sets import input_name, read_set
-from .words import COMMANDS, OPTIONS, number_of, shown
+from .words import COMMANDS, OPTIONS, number_of, shown, told
 
 SET = ".set"
 # Commands whose words have TICKS and OUT.
@@ -291,7 +291,7 @@ class Input(NamedTuple):
         try:
             return typed(text.decode("utf-8"), speed=self.speed or 3).text().encode()
         except (Fault, ValueError) as fault:
-            raise Fault("%s: %s" % (shown(self.path or ""), fault if isinstance(fault, Fault) else "it is no text")) from None
+            raise Fault("%s: %s" % (told(self.path or ""), fault if isinstance(fault, Fault) else "it is no text")) from None
 
 
 def _with_shot(script: bytes, tick: int) -> bytes:
@@ -318,7 +318,7 @@ class Sums:
         try:
             state = os.stat(file)
         except (OSError, ValueError):
-            raise Fault("cannot read %s" % shown(given.path)) from None
+            raise Fault("cannot read %s" % told(given.path)) from None
         mark = (given.path, state.st_size, state.st_mtime_ns, state.st_ino)
         if mark not in self._known:
             self._known[mark] = Sum([given.data()])
@@ -360,7 +360,7 @@ def plan_of(entry: Entry, program: str, shot: bool, sums: Sums) -> Plan:
     for it in inputs:
         last = Script.parse(it.data()).events[-1:] if it.speed is not None else []
         if last and last[0].tick >= (number_of(entry.order.alone["TICKS"]) or 0):
-            raise Fault("%s types up to tick %s: the run is too short" % (shown(it.path or ""), "{:,}".format(last[0].tick)))
+            raise Fault("%s types up to tick %s: the run is too short" % (told(it.path or ""), "{:,}".format(last[0].tick)))
     return Plan(words, inputs, found, key_of(program, words, inputs, found))
 
 

@@ -20,9 +20,10 @@ from .words import told as told_name
 
 METADATA = "ro-crate-metadata.json"
 CRATE = "https://w3id.org/ro/crate/1.1"
-CONTEXT = [CRATE + "/context", {"sha256": "https://schema.org/sha256"}]
-FORMATS = {".png": "image/png", ".wav": "audio/wav", ".ppm": "image/x-portable-pixmap",
-           ".report": "text/plain", ".trace": "text/plain", ".manifest": "text/plain"}
+CONTEXT = [CRATE + "/context", {"sha256": "http://schema.org/sha256"}]
+# The media types of files, by their endings or, without an ending, by their names.
+FORMATS = {"png": "image/png", "wav": "audio/wav", "ppm": "image/x-portable-pixmap",
+           **dict.fromkeys(("report", "trace", "manifest", "keys"), "text/plain")}
 # What stands for the license, which each crate has to have.
 NO_LICENSE = "Not stated: discs and ROM images may have owners. Ask whoever made this crate."
 ENDS = "http://schema.org/%sActionStatus"
@@ -94,12 +95,11 @@ class Crate:
 
     def _data(self, name: str, wanted: str) -> Entity:
         digits, _, length = wanted.partition(" ")
-        entity: Entity = {"@id": _quoted(name), "@type": "File", "sha256": digits,
-                          "name": told_name(os.path.basename(name)), "contentSize": length}
-        form = FORMATS.get(os.path.splitext(name)[1])
-        if form:
-            entity["encodingFormat"] = form
-        return self.files.setdefault(name, entity)
+        ending = os.path.basename(name).rpartition(".")[2]
+        return self.files.setdefault(name, {
+            "@id": _quoted(name), "@type": "File", "sha256": digits, "contentSize": length,
+            "name": told_name(os.path.basename(name)),
+            "encodingFormat": FORMATS.get(ending, "application/octet-stream")})
 
     # The program as the manifest names it: by its sources' checksum, or by its own.
     def _program(self, told: Dict[str, List[str]]) -> Entity:

@@ -3,6 +3,7 @@ from __future__ import annotations
 
 import argparse
 import os
+import re
 import shlex
 import sys
 import tempfile
@@ -90,6 +91,7 @@ class Suite:
         self.entries, notes = listing_of(self.list, common, asked.recursive, asked.text)
         self.stored = Stored(read_table(asked.against), self.entries) if asked.against is not None else None
         self.wanted = Wanted(asked.pages, asked.keep)
+        self.folder = os.path.join(self.list if os.path.isdir(self.list) else os.path.dirname(self.list), "")
         self.sum, self.sums = program_sum(), Sums()
         self.places = [os.path.join(self.store.folder, name) for name in ("results.csv", "index.html")]
         look_at_places(self.places)
@@ -106,6 +108,8 @@ class Suite:
         return plan, result if result is not None and self.store.has(result, entry.name, self.wanted) else None
 
     def row(self, entry: Entry, result: Optional[Result], fault: str) -> Row:
+        """The row of a run. A fault names files from the list's folder on, which may move."""
+        fault = re.sub(r"(?<![\w./])" + re.escape(told(self.folder)), "", fault)
         return row_of(entry, result, fault, self.stored)
 
     def say(self, row: Row) -> None:
@@ -350,7 +354,10 @@ def gather(asked: argparse.Namespace) -> int:
 
 def clear(asked: argparse.Namespace) -> int:
     suite = Suite(asked)
-    used = {plan_of(entry, suite.sum, asked.shot, suite.sums).key for entry in suite.entries}
+    try:
+        used = {plan_of(entry, suite.sum, asked.shot, suite.sums).key for entry in suite.entries}
+    except Fault as fault:
+        raise Fault("no result is removed, since a run of the list is wrong: %s" % fault) from None
     results, files = suite.store.clear(used)
     print("suite: removed %d results, %d files; %d results are of runs of %s" % (results, files, len(used), shown(suite.list)))
     return 0

@@ -292,6 +292,9 @@ class Running(Suite):
         done = self.suite()
         self.assertEqual(sorted(done.err.splitlines()), ["suite: below: a folder, which --recursive looks into", "suite: c.ADL: a file that beebtube does not read",
                                                          "suite: d.hfe: a file that beebtube does not read", "suite: f.zip: an archive without a disc"])
+        for number in range(6):
+            put(self.at("discs/%d.uef" % number))
+        self.assertIn("suite: and 3 more: a file that beebtube does not read\n", self.suite().err)
         self.assertEqual(self.lines(self.suite("--recursive", "--keep", "kept")), ["done a.ssd", "done below/b.ssd"])
         self.assertTrue(os.path.exists(self.at("kept/below/b.ssd/out.manifest")))
 
@@ -306,10 +309,11 @@ class Running(Suite):
         put(self.at("discs/e.zip"), b"none")
         done = self.suite(status=1)
         self.assertEqual([line[:36] for line in self.lines(done)],
-                         ["done a.ssd", "failed b.zip/../up.ssd: b.zip/../up.s", "done b.zip/B.DSD", "failed b.zip/bomb.ssd: too long disc", "done b.zip/in/a.ssd", "done c.dsd.gz",
-                          "failed d.ssd.gz: cannot unpack discs", "failed e.zip: cannot unpack discs/e."][:1]
-                         + [line[:36] for line in ("failed b.zip/../up.ssd: b.zip/../up.ssd: each", "done b.zip/B.DSD", "failed b.zip/bomb.ssd: too long discs/b.zip/bomb.ssd", "done b.zip/in/a.ssd",
-                                                   "done c.dsd.gz", "failed d.ssd.gz: cannot unpack discs/d", "failed e.zip: cannot unpack discs/e.zip")])
+                         ["done a.ssd", *(line[:36] for line in (
+                             "failed b.zip/../up.ssd: b.zip/../up.ssd: each", "done b.zip/B.DSD",
+                             "failed b.zip/bomb.ssd: too long b.zip/bomb.ssd", "done b.zip/in/a.ssd",
+                             "done c.dsd.gz", "failed d.ssd.gz: cannot unpack d.ssd.gz",
+                             "failed e.zip: cannot unpack e.zip: File is not"))])
         table = self.table()
         self.assertEqual((table["b.zip/in/a.ssd"]["key"], table["c.dsd.gz"]["key"]), (table["a.ssd"]["key"], table["b.zip/B.DSD"]["key"]))
         self.assertIn("disc0.dsd=", table["c.dsd.gz"]["inputs"])
@@ -510,7 +514,8 @@ class Once(Suite):
         put(self.at("results/runs/notes.json"), b"mine")
         put(self.at("results/runs/%064d.json" % 0), b"no result")
         put(self.at("discs/broken.set"), b"--oss x\n")
-        self.suite("--clear", "--shot", status=1)
+        done = self.suite("--clear", "--shot", status=1)
+        self.assertIn("suite: no result is removed, since a run of the list is wrong: ", done.err)
         self.assertEqual(len(self.runs("png")), 2)
         os.unlink(self.at("discs/broken.set"))
         self.assertEqual(self.suite("--clear", "--shot").out, "suite: removed 1 results, 3 files; 1 results are of runs of discs\n")
@@ -629,7 +634,7 @@ class Lists(Suite):
         put(self.at("discs/tube"), text_of(self.at("tube")))
         put(self.at("discs/c.txt"), b"HI")
         done = self.suite("--text", words=("--", "--os", "os"), status=1)
-        self.assertEqual(self.lines(done), ["done a.ssd", "done b.ssd", "failed c.ssd: discs/c.txt types up to tick 13,200,000: the run is too short"])
+        self.assertEqual(self.lines(done), ["done a.ssd", "done b.ssd", "failed c.ssd: c.txt types up to tick 13,200,000: the run is too short"])
         table = self.table()
         self.assertEqual(table["a.ssd"]["words"], "replay host /dev/null 2000 --os os --no-tube --disc0 discs/a.ssd")
         self.assertNotIn("para=", table["b.ssd"]["outputs"])
@@ -713,6 +718,23 @@ class Against(Suite):
         self.assertEqual([line.split(":")[0] for line in self.lines(done)], ["differs b.ssd", "failing c.ssd", "differs d.ssd", "differs z.ssd"])
         self.assertEqual(self.table()["b.ssd"]["differs"].split()[-1], "words")
 
+    def test_a_collection_may_move(self):
+        """A run that failed before the program ran has the same fault in another folder."""
+        self.discs("a.ssd")
+        put(self.at("discs/bad.zip"), b"no archive")
+        put(self.at("discs/b.set"), b"--oss x\n")
+        put(self.at("list.csv"), b"name,words\nlost,solo --disc0 lost.ssd\n")
+        moved = "moved" + "-and-long" * 8
+        for name in ("discs", "list.csv"):
+            self.suite(name=name, status=1)
+            os.rename(self.at("results/results.csv"), self.at("stored.csv"))
+            os.mkdir(self.at(moved))
+            os.rename(self.at(name), self.at(moved + "/" + name))
+            where = os.path.abspath(self.at(moved + "/" + name)) if name == "discs" else moved + "/" + name
+            done = self.suite("--against", "stored.csv", name=where)
+            self.assertEqual({line.split()[0] for line in self.lines(done)} - {"same"}, {"failing"}, done.out)
+            shutil.rmtree(self.at(moved))
+
     def test_each_state_is_told_for_what_it_is(self):
         self.discs("bad.ssd", "breaks.ssd", "mends.ssd", "same.ssd", "moves.ssd", "twin.ssd")
         put(self.at("discs/twin.ssd"), text_of(self.at("discs/same.ssd")))
@@ -746,7 +768,7 @@ class Against(Suite):
         # Another failure than the stored one is told.
         put(self.at("discs/lacks.set"), b"--font elsewhere\n")
         done = self.suite("--against", "stored.csv", "--only", "failed", status=1)
-        self.assertEqual(self.lines(done), ["failed lacks.set: cannot read discs/elsewhere"])
+        self.assertEqual(self.lines(done), ["failed lacks.set: cannot read elsewhere"])
         self.tool("suite", "--only", "fine", "discs", "results", status=2)
 
     def test_a_table_of_other_columns(self):
@@ -835,47 +857,56 @@ class Reports(Suite):
 
 
 class Crates(Suite):
-    # The terms of the context of RO-Crate 1.1 (schema.org's) that a crate of runs has.
-    TERMS = {"about", "actionStatus", "conformsTo", "contentSize", "datePublished", "description", "encodingFormat", "error", "hasPart",
-             "identifier", "instrument", "license", "mentions", "name", "object", "result"}
-    TYPES = {"CreateAction", "CreativeWork", "Dataset", "File", "SoftwareApplication"}
-
     def crate(self, folder):
-        """The entities of a folder's metadata, by their ids, once the rules of RO-Crate 1.1 are looked at, as they are known here."""
+        """The entities of a folder's metadata, by their ids; bench/crate.py finds that each rule holds."""
+        done = call([os.path.join(TOP, "bench", "crate.py"), self.at(folder)], self.folder)
+        self.assertEqual((done.status, done.err), (0, ""), done.out)
         text = json.loads(text_of(self.at(folder + "/ro-crate-metadata.json")).decode())
-        # Flattened and compacted JSON-LD: a context and one list of entities, each with an id of its own and a type.
-        self.assertEqual(set(text), {"@context", "@graph"})
-        context, own = text["@context"]
-        self.assertEqual(context, "https://w3id.org/ro/crate/1.1/context")
-        graph = text["@graph"]
-        found = {entity["@id"]: entity for entity in graph}
-        self.assertEqual(len(found), len(graph))
-        for entity in graph:
-            self.assertIn(entity["@type"], self.TYPES)
-            self.assertIsNone(re.search("[^!#-;=?-Z_a-z~\\[\\]]|%(?![0-9A-F]{2})", entity["@id"]), entity["@id"])
-            for name in set(entity) - {"@id", "@type"}:
-                self.assertIn(name, self.TERMS | set(own))
-                for it in entity[name] if isinstance(entity[name], list) else [entity[name]]:
-                    # A text, or a reference to an entity of the list, or to the standard itself; no entity is inside of another.
-                    if not isinstance(it, str):
-                        self.assertEqual(list(it), ["@id"])
-                        self.assertIn(it["@id"], {*found, "https://w3id.org/ro/crate/1.1"})
-        # The descriptor: its id and type, what it is about, and to what it conforms.
-        about = found["ro-crate-metadata.json"]
-        self.assertEqual((about["@type"], about["about"], about["conformsTo"]), ("CreativeWork", {"@id": "./"}, {"@id": "https://w3id.org/ro/crate/1.1"}))
-        # The root: its id ends with a slash, and it has a name, a description, a date of ISO 8601 and a license.
-        root = found["./"]
-        self.assertEqual(root["@type"], "Dataset")
-        self.assertTrue(all(root[name] for name in ("name", "description", "license")))
-        self.assertRegex(root["datePublished"], "^[0-9]{4}-[0-9]{2}-[0-9]{2}$")
-        # Each data entity is a part of the root and no other entity is, and its file is there, by a path from the root.
-        parts = [it["@id"] for it in root["hasPart"]]
-        self.assertEqual(sorted(parts), sorted(entity["@id"] for entity in graph if entity["@type"] == "File"))
-        for part in parts:
-            name = urllib.parse.unquote_to_bytes(part)
-            self.assertFalse(name.startswith(b"/") or b".." in name.split(b"/") or ":" in part.split("/")[0], part)
-            self.assertTrue(os.path.isfile(os.path.join(os.fsencode(self.at(folder)), name)))
-        return found
+        return {entity["@id"]: entity for entity in text["@graph"]}
+
+    def test_each_rule_of_the_standard_can_fail(self):
+        self.discs("one.ssd")
+        put(self.at("discs/long.ssd"), bytes(204801))
+        self.suite("--keep", "kept", status=1)
+        self.tool("manifest", "--crate", "kept")
+        good = self.crate("kept")
+        context = json.loads(text_of(self.at("kept/ro-crate-metadata.json")).decode())["@context"]
+        program = next(name for name in good if name.startswith("#beebtube-"))
+        # A changed entity, a term of it and its value (None: the term is removed), and a word of what is said.
+        for name, term, value, word in (
+            ("ro-crate-metadata.json", "about", {"@id": "kept"}, "is about ./"),
+            ("ro-crate-metadata.json", "conformsTo", "1.1", "conforms to"),
+            ("./", "datePublished", "2 December 2026", "of ISO 8601"),
+            ("./", "license", None, "it has license"),
+            ("./", "hasPart", [], "a part of the root"),
+            ("./", "mentions", [], "the root mentions"),
+            ("./", "mentions", [{"@id": "#nobody"}], "leads to an entity"),
+            ("./", "sum", "1", "is a term"),
+            ("#run-one.ssd", "instrument", None, "it has instrument"),
+            ("#run-one.ssd", "instrument", {"@id": "one.ssd/os"}, "right type"),
+            ("#run-one.ssd", "object", {"@id": program}, "right type"),
+            ("#run-one.ssd", "result", None, "it has result"),
+            ("#run-one.ssd", "agent", {"@id": program}, "right type"),
+            ("#run-one.ssd", "actionStatus", "good", "its status is known"),
+            ("#run-long.ssd", "error", None, "if and only if it failed"),
+            (program, "name", {"@value": "beebtube"}, "text or a reference"),
+            ("one.ssd/os", "@id", "/one.ssd/os", "relative path"),
+            ("one.ssd/os", "@id", "one ssd/os", "a URI reference"),
+            ("one.ssd/os", "@id", "one.ssd/nothing", "it is here"),
+            ("one.ssd/os", "@id", "one.ssd/tube", "each entity is there once"),
+            ("one.ssd/os", "@type", "Datei", "its type is known"),
+            ("one.ssd/os", "contentSize", "1", "its length is right"),
+            ("one.ssd/os", "sha256", "0" * 64, "its checksum is right"),
+            ("one.ssd/os", "encodingFormat", "binary", "a media type"),
+        ):
+            bad = {**good[name], term: value}
+            if value is None:
+                del bad[term]
+            put(self.at("kept/ro-crate-metadata.json"), json.dumps(
+                {"@context": context, "@graph": [*(it for it in good.values() if it != good[name]), bad]}).encode())
+            done = call([os.path.join(TOP, "bench", "crate.py"), self.at("kept")], self.folder)
+            self.assertEqual((done.status, done.err), (1, ""), (name, term, value))
+            self.assertIn(word, done.out, (name, term, value))
 
     def test_each_file_of_a_suite_with_its_checksum(self):
         self.discs("one.ssd", "a <b>\n#%41.ssd")
@@ -966,7 +997,7 @@ class Elsewhere(Suite):
 
     def test_a_job_loads_what_it_needs_alone(self):
         self.discs("a.ssd")
-        done = call(["python3", "-X", "importtime", *shlex.split(self.jobs()[0])], "/")
+        done = call(["python3", "-S", "-X", "importtime", *shlex.split(self.jobs()[0])], "/")
         self.assertEqual((done.status, done.out), (0, "done a.ssd\n"))
         loaded = {line.rpartition("|")[2].strip() for line in done.err.splitlines() if line.startswith("import time:")}
         self.assertIn("beebtube.jobs", loaded)
