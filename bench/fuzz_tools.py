@@ -385,7 +385,10 @@ class Judge:
         return ["it changed %s" % name for name in sorted(names) if not (is_killed and LEFT.fullmatch(name.rstrip("/")))]
 
     def of_trace(self, name, status, err):
-        done = subprocess.run([self.program, "check", os.path.join(self.sandbox.at, name)], cwd=self.sandbox.at, stdin=subprocess.DEVNULL, stdout=subprocess.PIPE, stderr=subprocess.PIPE)
+        place = os.path.join(self.sandbox.at, name)
+        if not os.path.isfile(place):
+            return [] if status == 1 else ["a pipe is taken for a trace"]
+        done = subprocess.run([self.program, "check", place], cwd=self.sandbox.at, stdin=subprocess.DEVNULL, stdout=subprocess.PIPE, stderr=subprocess.PIPE)
         told = done.stderr.decode("utf-8", "replace").strip().replace(self.sandbox.at + "/", "")
         if done.returncode in (0, 8):
             return [] if status == 0 else ["the program takes the trace: %r" % err]

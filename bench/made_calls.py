@@ -323,7 +323,8 @@ class Generator:
         words = dice.choice(([], ["--all"], ["--at", dice.choice(("0", "100", "1999", "9" * 15, "x", "-1", "9" * 16))]))
 
         def good(made, at, out):
-            ticks = [int(line[:10], 16) for line in files["t"].splitlines() if line[10:11] == b" "]
+            # (the tool reads no line after the tick that is asked for)
+            ticks = [int(line[:10], 16) for line in files["t"].splitlines() if re.match(rb"[0-9A-F]{10} ", line)]
             said = re.search(rb"after access ([0-9]+)\n", out) if "--at" in words else None
             return "" if said is None or int(said[1]) == sum(tick < int(words[1]) for tick in ticks) else "it is after another access"
         return Made("tube", words + ["t"], files, good=good, wanted={2} if words[1:] in (["x"], ["-1"], ["9" * 16]) else None)
