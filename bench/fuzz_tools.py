@@ -387,7 +387,7 @@ class Judge:
     def of_trace(self, name, status, err):
         place = os.path.join(self.sandbox.at, name)
         if not os.path.isfile(place):
-            return [] if status == 1 else ["a pipe is taken for a trace"]
+            return [] if status == 0 else ["a pipe without a writer has bytes"]
         done = subprocess.run([self.program, "check", place], cwd=self.sandbox.at, stdin=subprocess.DEVNULL, stdout=subprocess.PIPE, stderr=subprocess.PIPE)
         told = done.stderr.decode("utf-8", "replace").strip().replace(self.sandbox.at + "/", "")
         if done.returncode in (0, 8):
@@ -418,7 +418,9 @@ def work(asked, numbers, program, version):
     beebtube_program.version = lambda: version
     plain = Plain(program)
     generator = Generator(plain, program)
-    codecs.lookup("ascii")
+    # (a copy without rights may not see the encodings' modules)
+    for name in ("ascii", "cp437", "utf-8-sig"):
+        codecs.lookup(name)
     codes = {}
     for name in TOOLS:
         with open(os.path.join(TOP, "tools", name)) as file:

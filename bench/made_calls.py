@@ -182,6 +182,8 @@ class Generator:
         made.good = None
         if any(it == "\udce9" for it in (new,)) and made.tool in ("cover", "profile"):
             made.wanted = None  # (words of the program are UTF-8)
+        if made.tool == "catalogue" and made.words[0] in ("--make", "--put"):
+            made.wanted = None  # (the disc has the file by its name)
         sources = {name for option, name in zip(made.words, made.words[1:]) if option in ("--host", "--para")}
         if made.tool == "cover" and made.wanted == {0} and new in sources and "\n" in new:
             made.wanted = {1}  # (lcov has no form for it)
