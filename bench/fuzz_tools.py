@@ -478,6 +478,8 @@ def main():
                 os._exit(status)
         workers.append(pid)
     ends = [os.waitstatus_to_exitcode(os.waitpid(pid, 0)[1]) for pid in workers]
+    if not {*ends} <= {0, 1}:
+        sys.exit("it ended before all calls were made")
     print("calls %d of seed %d in %d seconds: %s" % (asked.count, asked.seed, time.time() - begun, "nothing differs" if not any(ends) else "some differ"))
     sys.exit(1 if any(ends) else 0)
 
