@@ -385,7 +385,10 @@ class Judge:
         return ["it changed %s" % name for name in sorted(names) if not (is_killed and LEFT.fullmatch(name.rstrip("/")))]
 
     def of_trace(self, name, status, err):
-        done = subprocess.run([self.program, "check", os.path.join(self.sandbox.at, name)], cwd=self.sandbox.at, stdin=subprocess.DEVNULL, stdout=subprocess.PIPE, stderr=subprocess.PIPE)
+        place = os.path.join(self.sandbox.at, name)
+        if not os.path.isfile(place):
+            return [] if status == 0 else ["a pipe without a writer has bytes"]
+        done = subprocess.run([self.program, "check", place], cwd=self.sandbox.at, stdin=subprocess.DEVNULL, stdout=subprocess.PIPE, stderr=subprocess.PIPE)
         told = done.stderr.decode("utf-8", "replace").strip().replace(self.sandbox.at + "/", "")
         if done.returncode in (0, 8):
             return [] if status == 0 else ["the program takes the trace: %r" % err]
@@ -415,7 +418,9 @@ def work(asked, numbers, program, version):
     beebtube_program.version = lambda: version
     plain = Plain(program)
     generator = Generator(plain, program)
-    codecs.lookup("ascii")
+    # (a copy without rights may not see the encodings' modules)
+    for name in ("ascii", "cp437", "utf-8-sig"):
+        codecs.lookup(name)
     codes = {}
     for name in TOOLS:
         with open(os.path.join(TOP, "tools", name)) as file:
@@ -473,6 +478,8 @@ def main():
                 os._exit(status)
         workers.append(pid)
     ends = [os.waitstatus_to_exitcode(os.waitpid(pid, 0)[1]) for pid in workers]
+    if not {*ends} <= {0, 1}:
+        sys.exit("it ended before all calls were made")
     print("calls %d of seed %d in %d seconds: %s" % (asked.count, asked.seed, time.time() - begun, "nothing differs" if not any(ends) else "some differ"))
     sys.exit(1 if any(ends) else 0)
 

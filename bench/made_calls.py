@@ -182,6 +182,8 @@ class Generator:
         made.good = None
         if any(it == "\udce9" for it in (new,)) and made.tool in ("cover", "profile"):
             made.wanted = None  # (words of the program are UTF-8)
+        if made.tool == "catalogue" and made.words[0] in ("--make", "--put"):
+            made.wanted = None  # (the disc has the file by its name)
         sources = {name for option, name in zip(made.words, made.words[1:]) if option in ("--host", "--para")}
         if made.tool == "cover" and made.wanted == {0} and new in sources and "\n" in new:
             made.wanted = {1}  # (lcov has no form for it)
@@ -323,7 +325,8 @@ class Generator:
         words = dice.choice(([], ["--all"], ["--at", dice.choice(("0", "100", "1999", "9" * 15, "x", "-1", "9" * 16))]))
 
         def good(made, at, out):
-            ticks = [int(line[:10], 16) for line in files["t"].splitlines() if line[10:11] == b" "]
+            # (the tool reads no line after the tick that is asked for)
+            ticks = [int(line[:10], 16) for line in files["t"].splitlines() if re.match(rb"[0-9A-F]{10} ", line)]
             said = re.search(rb"after access ([0-9]+)\n", out) if "--at" in words else None
             return "" if said is None or int(said[1]) == sum(tick < int(words[1]) for tick in ticks) else "it is after another access"
         return Made("tube", words + ["t"], files, good=good, wanted={2} if words[1:] in (["x"], ["-1"], ["9" * 16]) else None)

@@ -105,11 +105,9 @@ def main(function: Callable[[List[str]], Optional[int]], doc: Optional[str], wor
     # The collector looks at nothing that was loaded, at the end neither: that takes an eighth of a short call.
     gc.freeze()
     gc.enable()
-    for number in (signal.SIGTERM, signal.SIGHUP):
+    for number in STOPS:
         if signal.getsignal(number) is not signal.SIG_IGN:
             signal.signal(number, _stop)
-    if signal.getsignal(signal.SIGINT) is signal.SIG_DFL:
-        signal.signal(signal.SIGINT, signal.default_int_handler)
     _hold_streams()
     if doc is None:
         doc = sys.modules["__main__"].__doc__ = _doc_of_tool()
@@ -158,6 +156,6 @@ def main(function: Callable[[List[str]], Optional[int]], doc: Optional[str], wor
         _give_up(1)
     # All is cleared away: from here on a signal ends Python without a traceback.
     for it in STOPS:
-        if signal.getsignal(it) in (_stop, signal.default_int_handler):
+        if signal.getsignal(it) is _stop:
             signal.signal(it, signal.SIG_DFL)
     sys.exit(status if isinstance(status, int) else 1)

@@ -151,6 +151,18 @@ def completions(debugger: Debugger, line: str, text: str) -> List[str]:
 
 
 @contextlib.contextmanager
+def interrupts() -> Iterator[None]:
+    """Here a Ctrl-C ends a command, not the tool."""
+    before = signal.getsignal(signal.SIGINT)
+    if before is not signal.SIG_IGN:
+        signal.signal(signal.SIGINT, signal.default_int_handler)
+    try:
+        yield
+    finally:
+        signal.signal(signal.SIGINT, before)
+
+
+@contextlib.contextmanager
 def interruptible() -> Iterator[None]:
     """Here a Ctrl-C is noticed within 0.2 s. `input` waits in select(), and notices a signal only
     if it interrupts this call, not if it comes just before: so a timer interrupts it again."""
@@ -173,18 +185,19 @@ def ask(debugger: Debugger, progress: Progress) -> None:
         readline.parse_and_bind("tab: complete")
     debugger.try_to("where")
     debugger.forget()
-    while not debugger.ended:
-        try:
-            progress.end()
-            with interruptible():
-                line = input(f"{debugger.side} {debugger.tick}> ")
-            progress.begin()
-            debugger.try_to(line)
-        except EOFError:
-            print()
-            return
-        except KeyboardInterrupt:
-            print()
+    with interrupts():
+        while not debugger.ended:
+            try:
+                progress.end()
+                with interruptible():
+                    line = input(f"{debugger.side} {debugger.tick}> ")
+                progress.begin()
+                debugger.try_to(line)
+            except EOFError:
+                print()
+                return
+            except KeyboardInterrupt:
+                print()
 
 
 @contextlib.contextmanager

@@ -322,9 +322,10 @@ def _main(given: List[str]) -> None:
 
 
 if __name__ == "__main__":
-    # The folder of the package is not on the path where this is called as a script.
+    # This is called as a script: the modules that it needs are loaded without the rest of the package.
     sys.dont_write_bytecode = True
-    sys.path[0] = os.path.dirname(os.path.dirname(os.path.realpath(__file__)))
+    sys.modules["beebtube"] = package = type(sys)("beebtube")
+    package.__path__ = [os.path.dirname(os.path.realpath(__file__))]
     from beebtube.explain import _main as _run
 
     if isinstance(sys.stdout, io.TextIOWrapper):

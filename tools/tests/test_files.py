@@ -1,6 +1,7 @@
 """Files and folders of a tool's own: what is left of them where it is ended, and what is never waited for or followed."""
 import os
 import subprocess
+import sys
 
 from common import TOP, Case, beebtube, call, put, signal, text_of, unittest
 from beebtube import files
@@ -30,6 +31,28 @@ class Ended(Case):
     def test_two_signals(self):
         """The second signal does not end what the first one began."""
         self.ended("os", "unlink", ["manifest", "gen", "1"], " and (how.get('dir_fd') is not None or 'beebtube-' in str(words[0])) and not os.kill(os.getpid(), signal.SIGTERM)", "SIGTERM")
+
+    def test_a_signal_as_a_tool_begins_and_ends(self):
+        """Python itself prints a traceback there."""
+        script = """import os, signal, sys
+from beebtube import command
+def send(*words):
+    setattr(*place, old)
+    os.kill(os.getpid(), getattr(signal, sys.argv[2]))
+    return old(*words)
+place = {"begins": (command, "_hold_streams"), "ends": (signal, "getsignal")}[sys.argv[1]]
+old = getattr(*place)
+def tool(words):
+    if sys.argv[1] == "ends":
+        setattr(*place, send)
+if sys.argv[1] == "begins":
+    setattr(*place, send)
+command.main(tool, "Help.", [])
+"""
+        for moment in ("begins", "ends"):
+            for number in ("SIGTERM", "SIGHUP", "SIGINT"):
+                done = call([sys.executable, "-c", script, moment, number], self.folder, env={"PYTHONPATH": os.path.join(TOP, "tools")})
+                self.assertEqual((moment, done.status, done.err), (moment, 128 + getattr(signal, number), ""))
 
 
 class Opened(Case):

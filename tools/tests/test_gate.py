@@ -4,6 +4,7 @@ import importlib.util
 import os
 import shutil
 import subprocess
+import sys
 
 from common import TOP, Case, call, pretend_clone, put, signal, text_of, unittest, wait_until
 
@@ -112,6 +113,31 @@ class Gate(Case):
         self.stub(top, b'sleep 1000 & echo $! >"%s"; echo "examples: 5 passed, 0 failed"\n' % self.at("pid").encode())
         self.call(top, "test", "examples", status=0)
         os.kill(int(text_of(self.at("pid"))), signal.SIGKILL)
+
+    def test_what_is_made_while_it_ends(self):
+        """A thread may still make a folder after the first removal."""
+        top = self.clone("test")
+        shutil.copy(os.path.join(TOP, ".ci/examples"), os.path.join(top, ".ci"))
+        put(os.path.join(top, "docs/PAGE.md"), b'# A page\n\n    $ touch "%s"; sleep 1000\n' % self.at("begun").encode())
+        os.mkdir(self.at("site"))
+        put(self.at("site/sitecustomize.py"), b"""import os, shutil
+old, done = shutil.rmtree, []
+def rmtree(path, *words, **how):
+    old(path, *words, **how)
+    if os.path.basename(path).startswith(("tests-", "examples-")) and not done:
+        done.append(os.makedirs(path + "/late"))
+shutil.rmtree = rmtree
+""")
+        for script, word in (("examples", "PAGE"), ("test", "examples")):
+            if script == "test":
+                self.stub(top, b'touch "%s"; sleep 1000\n' % self.at("begun").encode())
+            child = subprocess.Popen([sys.executable, os.path.join(top, ".ci", script), word], stdout=subprocess.DEVNULL, stderr=subprocess.DEVNULL, cwd=self.folder,
+                                     env={**os.environ, "TMPDIR": self.at("tmp"), "XDG_CACHE_HOME": self.at("cache"), "PYTHONPATH": self.at("site")})
+            self.assertTrue(wait_until(lambda: os.path.exists(self.at("begun"))))
+            child.terminate()
+            self.assertEqual(child.wait(300), 128 + signal.SIGTERM)
+            self.assertEqual(os.listdir(self.at("tmp")), [], script)
+            os.unlink(self.at("begun"))
 
     def test_without_the_toolchain(self):
         """The program's stored output and the examples are tried, and what is left out is named."""

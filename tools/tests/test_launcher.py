@@ -388,13 +388,16 @@ class Stubs(Case):
 
     def test_a_build_that_is_ended(self):
         self.building(b'echo $$ >"%s"; exec sleep 1000\n' % self.at("pid").encode())
-        for number in (signal.SIGTERM, signal.SIGINT, signal.SIGHUP):
+        for number in (signal.SIGTERM, signal.SIGINT, signal.SIGHUP, signal.SIGKILL):
             child = subprocess.Popen([os.path.join(self.top, "beebtube")], stdin=subprocess.DEVNULL, stdout=subprocess.DEVNULL, stderr=subprocess.DEVNULL, restore_signals=True,
                                      env={**os.environ, "PATH": self.at("bin") + ":" + os.environ["PATH"], "XDG_CACHE_HOME": self.at("cache")}, cwd=self.folder)
             self.assertTrue(wait_until(lambda: os.path.exists(self.at("pid")) and text_of(self.at("pid")).endswith(b"\n")))
             prover = int(text_of(self.at("pid")))
             child.send_signal(number)
             self.assertEqual(child.wait(300), -number)
+            if number == signal.SIGKILL:
+                self.assertTrue(wait_until(lambda: not is_alive(prover)))
+                break
             self.assertFalse(is_alive(prover))
             os.unlink(self.at("pid"))
             self.assertEqual(os.listdir(self.at("cache/beebtube-build"))[0][-5:], ".lock")
