@@ -10,7 +10,7 @@ import zlib
 from typing import Dict, Iterator, List, NamedTuple, Optional, Set, Tuple
 
 from .faults import Fault
-from .files import open_file, read_file
+from .files import open_file, read_file, too_long
 from .words import shown, told
 
 DISCS = (".ssd", ".dsd")
@@ -63,7 +63,7 @@ def read_disc(path: str, most: int) -> bytes:
     except (OSError, EOFError, KeyError, ValueError, NotImplementedError, RuntimeError, zipfile.BadZipFile, zlib.error) as error:
         raise Fault("cannot unpack %s: %s" % (told(path), shown(str(error)))) from None
     if len(data) > most:
-        raise Fault("too long %s: it has more than %s bytes" % (told(path), "{:,}".format(most)))
+        raise too_long(told(path), most)
     return data
 
 

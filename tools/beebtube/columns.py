@@ -16,7 +16,7 @@ from itertools import compress, islice
 from typing import Callable, Dict, Iterator, List, NamedTuple, Optional, Tuple
 
 from .faults import Fault
-from .files import TRACE_CAP, Name, is_plain, open_file
+from .files import TRACE_CAP, Name, is_plain, open_file, reading
 from .frame import either
 from .trace import LENGTH, Trace
 from .words import MOST_TICKS
@@ -47,14 +47,11 @@ def columns_of(name: Name) -> Columns:
     codes: List[bytes] = []
     values: List[bytes] = []
     left = TRACE_CAP
-    with open_file(name) as file:
+    with open_file(name) as file, reading(name):
         if trace.speed == 4:
             file.read(3)
         while True:
-            try:
-                block = file.read(LENGTH * LINES)
-            except OSError:
-                raise Fault("cannot read %s" % name) from None
+            block = file.read(LENGTH * LINES)
             if not block:
                 return Columns(trace.second, orders, b"".join(codes), b"".join(values))
             left -= len(block)

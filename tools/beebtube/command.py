@@ -20,7 +20,7 @@ import sys
 from typing import Callable, List, NoReturn, Optional, Sequence
 
 from .faults import Fault
-from .files import STOPS
+from .files import STOPS, too_long
 
 
 class Usage(Fault):
@@ -71,7 +71,7 @@ def read_standard_input(most: int) -> bytes:
             data += block
     except OSError:
         raise Fault("cannot read -") from None
-    raise Fault("too long -: it has more than %s bytes" % "{:,}".format(most))
+    raise too_long("-", most)
 
 
 def tell(text: str) -> None:
@@ -81,6 +81,12 @@ def tell(text: str) -> None:
         sys.stderr.flush()
     except (OSError, ValueError):
         _give_up(2)
+
+
+def note(text: str) -> None:
+    """Writes a text to standard error, each line after the tool's name."""
+    for line in text.splitlines():
+        tell(f"{tool_name()}: {line}")
 
 
 # A stream goes nowhere from here on, so that nothing fails once more when Python ends.

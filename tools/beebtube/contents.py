@@ -5,12 +5,12 @@ import csv
 import io
 import json
 import os
-from typing import Any, Dict, Iterable, Iterator, List, NamedTuple, Optional, Tuple
+from typing import Any, Dict, Iterable, Iterator, List, NamedTuple, Tuple
 
 from .archives import folders_in, read_disc
-from .disc import BOOTS, Catalogue, Disc, File, file_name, is_double, shown_address, text_of_inf
+from .disc import BOOTS, NO_CATALOGUE, Catalogue, Disc, File, file_name, is_double, shown_address, text_of_inf
 from .faults import Fault
-from .files import IMAGE_CAP, Sum, inside, write_beside
+from .files import IMAGE_CAP, Sum, inside, make_folder, make_new_folder, write_beside
 from .table import cell_text
 from .words import shown, told
 
@@ -43,13 +43,10 @@ def contents_of(names: Iterable[Tuple[str, str]], faults: List[str]) -> Iterator
         except Fault as fault:
             faults.append(str(fault))
             continue
-        disc, digits, sides = Disc(image, is_double(path)), Sum([image]).digits, {}
-        for side in range(1 + disc.double):
-            try:
-                sides[side] = disc.catalogue(side)
-            except Fault as fault:
-                if side == 0:
-                    faults.append("%s: %s" % (shown(name), fault))
+        disc, digits = Disc(image, is_double(path)), Sum([image]).digits
+        sides = disc.catalogues()
+        if 0 not in sides:
+            faults.append(f"{shown(name)}: {NO_CATALOGUE}")
         faults.extend("%s ends before %s" % (shown(name), file.whole_name) for catalogue in sides.values() for file in catalogue.files if catalogue.lacking(file))
         if disc.is_sequential:
             faults.append("%s: its second side seems to follow the whole first side: beebtube reads a DSD track by track, both sides in turn" % shown(name))
@@ -115,22 +112,19 @@ def _word(value: Any) -> str:
 def extract(disc: Disc, folder: str, faults: List[str]) -> int:
     """Writes all files of a disc into a new folder, each with an .inf beside it; of a DSD into `0` and `1` below it. How many there were;
     what is wrong is put into the faults."""
-    try:
-        if os.path.lexists(folder) and (not os.path.isdir(folder) or os.listdir(folder)):
-            raise Fault("%s is there, and is not empty: files of a disc come into a new folder" % folder)
-        os.makedirs(folder, exist_ok=True)
-        for side in range(disc.double + 1 if disc.double else 0):
-            os.makedirs(os.path.join(folder, str(side)), exist_ok=True)
-    except OSError as error:
-        raise Fault("cannot write %s: %s" % (folder, error.strerror)) from None
-    count = 0
+    make_new_folder(folder, "files of a disc come into")
+    count, catalogues = 0, disc.catalogues()
     for side in range(1 + disc.double):
-        catalogue = _catalogue(disc, side, faults)
-        taken: Dict[str, int] = {}
-        for file in catalogue.files if catalogue is not None else ():
-            lacking, name = catalogue.lacking(file) if catalogue is not None else 0, file_name(file)
+        if disc.double:
+            make_folder(os.path.join(folder, str(side)))
+        if side not in catalogues:
+            faults.append(f"side {side}: {NO_CATALOGUE}")
+            continue
+        catalogue, taken = catalogues[side], {}  # type: Catalogue, Dict[str, int]
+        for file in catalogue.files:
+            lacking, name = catalogue.lacking(file), file_name(file)
             taken[name] = taken.get(name, 0) + 1
-            if lacking or catalogue is None:
+            if lacking:
                 faults.append("the image ends before %s: %d of its %d bytes are past the end" % (file.whole_name, lacking, file.length))
                 continue
             place = inside(os.path.join(folder, str(side)) if disc.double else folder, name if taken[name] == 1 else "%s%%%d" % (name, taken[name]))
@@ -138,11 +132,3 @@ def extract(disc: Disc, folder: str, faults: List[str]) -> int:
             write_beside(place + ".inf", text_of_inf(file), follow=False)
             count += 1
     return count
-
-
-def _catalogue(disc: Disc, side: int, faults: List[str]) -> Optional[Catalogue]:
-    try:
-        return disc.catalogue(side)
-    except Fault as fault:
-        faults.append("side %d: %s" % (side, fault))
-        return None

@@ -10,7 +10,7 @@ from .conditions import Condition, condition, range_of
 from .engine import FULL, SIDE, Engine
 from .faults import Fault
 from .files import write_beside
-from .frame import look_at_place
+from .frame import look_at_picture
 from .listings import Change, Start
 from .machine import FAR
 from .naming import Names
@@ -477,7 +477,7 @@ class Debugger(Engine):
 
     @word("FILE.png", "writes the last whole frame of the screen as a picture")
     def do_frame(self, name: str) -> None:
-        look_at_place(name)
+        look_at_picture(name)
         write_beside(name, self.past.frame(self.tick).png())
 
     # --- Two runs, and the rest ---

@@ -9,10 +9,11 @@ from typing import Deque, Dict, Iterator, List, NamedTuple, Optional, Tuple
 
 from .disc import LARGEST, SECTOR, TRACK, Catalogue, Disc
 from .faults import Fault
-from .files import BLOCK, OUTPUT_CAP, Name, is_plain, open_file, read_file
-from .frame import HEIGHT, WIDTH, Frame
+from .files import BLOCK, OUTPUT_CAP, Name, is_plain, open_file, read_file, reading
+from .frame import Frame
 from .trace import Access, Trace
 from .tube import line_of
+from .words import counted
 
 # What a call writes, by the ending of its name, in the program's order; then the sound and the session, where they are named so.
 ENDING = re.compile(r"report|host|para|d[01]|[0-9]{3}\.ppm|trace|plug[0-9]|list|wav|save")
@@ -78,12 +79,9 @@ def difference_of(ending: str, one: Name, other: Name) -> List[str]:
 
 def is_same(one: Name, other: Name) -> bool:
     """Both files have the same bytes; they are read in blocks."""
-    with open_file(one) as first, open_file(other) as second:
+    with open_file(one) as first, open_file(other) as second, reading(one):
         while True:
-            try:
-                block, beside = first.read(BLOCK), second.read(BLOCK)
-            except OSError as error:
-                raise Fault("cannot read %s: %s" % (one, error.strerror)) from None
+            block, beside = first.read(BLOCK), second.read(BLOCK)
             if block != beside:
                 return False
             if not block:
@@ -120,7 +118,7 @@ def _of_report(one: bytes, other: bytes) -> List[str]:
     lines = ["  %s | %s" % (_shown(here), _shown(there)) for here, there in zip(first, second) if here != there]
     lines += ["  only the %s has: %s" % (which, _shown(line)) for which, longer, shorter in (("first", first, second), ("second", second, first))
               for line in longer[len(shorter) :]]
-    return [_count(len(lines), "line")] + lines if lines else []
+    return [counted(len(lines), "line")] + lines if lines else []
 
 
 def _of_traces(one: Trace, other: Trace) -> List[str]:
@@ -169,24 +167,13 @@ def _hex(data: bytes, most: int = 16) -> str:
 def _of_memories(one: bytes, other: bytes) -> List[str]:
     found = ranges_of(one, other)
     count = sum(left != right for left, right in zip(one, other))
-    lines = ["%s in %s" % (_count(count, "byte"), _count(len(found), "range"))]
+    lines = ["%s in %s" % (counted(count, "byte"), counted(len(found), "range"))]
     lines += ["  %04X to %04X  %s | %s" % (first, last, _hex(one[first : last + 1]), _hex(other[first : last + 1])) for first, last in found[:RANGES]]
     if len(found) > RANGES:
         lines.append("  and %d more, up to %04X" % (len(found) - RANGES, found[-1][1]))
     if len(one) != len(other):
         lines.append("  %s bytes | %s bytes" % ("{:,}".format(len(one)), "{:,}".format(len(other))))
     return lines
-
-
-def _count(number: int, what: str) -> str:
-    return "%s %s%s" % ("{:,}".format(number), what, "" if number == 1 else "s")
-
-
-def _catalogue_of(disc: Disc, side: int) -> Optional[Catalogue]:
-    try:
-        return disc.catalogue(side)
-    except Fault:
-        return None
 
 
 # The name of the file of a catalogue that has a sector, or what else is there.
@@ -207,11 +194,11 @@ def _of_discs(one: bytes, other: bytes) -> List[str]:
     sectors = (max(len(one), len(other)) + SECTOR - 1) // SECTOR
     owners: Dict[Tuple[int, str], List[int]] = {}
     for side in range(1 + double):
-        catalogue = _catalogue_of(second, side) or _catalogue_of(first, side)
+        catalogue = second.catalogues().get(side, first.catalogues().get(side))
         for sector in range(TRACK * ((sectors + 2 * TRACK - 1) // (2 * TRACK)) if double else sectors):
             if first.sector(sector, side) != second.sector(sector, side):
                 owners.setdefault((side, _owner_of(catalogue, sector)), []).append(sector)
-    lines = [_count(sum(map(len, owners.values())), "sector")]
+    lines = [counted(sum(map(len, owners.values())), "sector")]
     for (side, owner), numbers in list(owners.items())[:SECTORS]:
         where = "side %d, " % side if double else ""
         lines.append("  %s%s: %s %s" % (where, owner, "sector" if len(numbers) == 1 else "sectors", _numbers(numbers)))
@@ -225,8 +212,8 @@ def _of_discs(one: bytes, other: bytes) -> List[str]:
 # Of an image that is no longer than one side: it is double if both sides have catalogues, of as many sectors as sides have.
 def _looks_double(one: bytes, other: bytes) -> bool:
     def has_both(image: bytes) -> bool:
-        sides = [_catalogue_of(Disc(image, True), side) for side in (0, 1)]
-        return all(side is not None and side.sectors in (400, 800) for side in sides)
+        sides = Disc(image, True).catalogues().values()
+        return len(sides) == 2 and all(side.sectors in (400, 800) for side in sides)
 
     return has_both(one) or has_both(other)
 
@@ -242,28 +229,13 @@ def _numbers(numbers: List[int]) -> str:
     return ", ".join(told[:SECTORS]) + (" and more" if len(told) > SECTORS else "")
 
 
-def box_of(one: Frame, other: Frame) -> Optional[Tuple[int, int, int, int]]:
-    """The smallest box that has all pixels that differ: its first and last column, its first and last row; None where none does."""
-    rows = [y for y in range(HEIGHT) if one.row(y) != other.row(y)]
-    if not rows:
-        return None
-    columns = [x for y in rows for x, (left, right) in enumerate(zip(one.row(y), other.row(y))) if left != right]
-    return min(columns), max(columns), rows[0], rows[-1]
-
-
 def _of_frames(one: Frame, other: Frame) -> List[str]:
-    box = box_of(one, other)
+    box = one.box(other)
     if box is None:
         return []
-    count = sum(left != right for left, right in zip(one.colours, other.colours))
-    return ["%s: columns %d to %d, rows %d to %d" % ((_count(count, "pixel"),) + box)]
-
-
-def picture_frames(one: Frame, other: Frame) -> List[Frame]:
-    """Both frames, and a third in which the pixels that differ are white."""
-    header = b"P6\n%d %d\n255\n" % (WIDTH, HEIGHT)
-    pixels = b"".join((b"\xff\xff\xff" if left != right else b"\0\0\0") for left, right in zip(one.colours, other.colours))
-    return [one, other, Frame(header + pixels)]
+    left, top, right, bottom = box
+    pixels = counted(one.differing(other), "pixel")
+    return [f"{pixels}: columns {left} to {right}, rows {top} to {bottom}"]
 
 
 def _samples_of(sound: bytes) -> Tuple[int, bytes]:

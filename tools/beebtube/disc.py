@@ -1,9 +1,10 @@
 """Discs: their sectors, and the catalogue of Acorn's DFS."""
 from __future__ import annotations
 
+import contextlib
 import os
 import re
-from typing import Iterable, List, NamedTuple, Optional, Tuple
+from typing import Dict, Iterable, List, NamedTuple, Optional, Tuple
 
 from .faults import Fault
 from .files import IMAGE_CAP, Name, read_file
@@ -12,6 +13,7 @@ SECTOR, TRACK = 256, 10
 LARGEST = {False: 204800, True: 409600}
 MOST_FILES = 31
 WATFORD = b"\xaa" * 8
+NO_CATALOGUE = "no catalogue of the DFS is there"
 BOOTS = ("none", "load", "run", "exec")
 
 
@@ -87,10 +89,8 @@ class Disc:
     def is_sequential(self) -> bool:
         """A DSD whose second side seems to follow the whole first one: its catalogue is there."""
         def has_catalogue(disc: "Disc", side: int) -> bool:
-            try:
-                return bool(disc.catalogue(side).files)
-            except Fault:
-                return False
+            catalogue = disc.catalogues().get(side)
+            return catalogue is not None and bool(catalogue.files)
 
         halves = [Disc(self.image[at:]) for at in (LARGEST[False] // 2, LARGEST[False]) if at < len(self.image)]
         return self.double and not has_catalogue(self, 1) and any(has_catalogue(half, 0) for half in halves)
@@ -98,6 +98,14 @@ class Disc:
     def catalogue(self, side: int = 0) -> "Catalogue":
         """What is on a side; Fault if there is no catalogue of the DFS."""
         return Catalogue(self, side)
+
+    def catalogues(self) -> Dict[int, "Catalogue"]:
+        """The catalogues of the sides that have one."""
+        found = {}
+        for side in range(1 + self.double):
+            with contextlib.suppress(Fault):
+                found[side] = self.catalogue(side)
+        return found
 
 
 class File(NamedTuple):
@@ -153,7 +161,7 @@ class Catalogue:
         count = places[5]
         self.sectors = places[7] | (places[6] & 3) << 8
         if count % 8 or count > 248 or self.sectors == 0:
-            raise Fault("no catalogue of the DFS is there")
+            raise Fault(NO_CATALOGUE)
         self.title = _text_of(names[:8] + places[:4])
         self.cycle = places[4]
         self.option = places[6] >> 4 & 3

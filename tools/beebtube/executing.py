@@ -9,13 +9,13 @@ import stat
 import sys
 from typing import Callable, Dict, List, Optional, Tuple
 
-from .command import Usage, read_standard_input, tell
+from .command import Usage, note, read_standard_input
 from .disc_program import DiscImage, DiscRunner, disc_of
 from .execution import CPUS, DECK, KEPT, NOT_RUN, SLOT, Executed, Image, Runner
 from .execution import images_of, labels_of, ticks_of
 from .faults import Fault, Refused
 from .files import same_file, write_beside
-from .frame import look_at_place
+from .frame import look_at_picture
 from .labels import Labels
 from .program import Program, Side, Speed
 from .reading import Reader
@@ -43,8 +43,8 @@ def _seconds(word: str) -> float:
     return value
 
 
-def _reader(doc: str) -> Reader:
-    reader = Reader(doc)
+def _reader() -> Reader:
+    reader = Reader()
     for option in ("--at", "--start", "--host-at", "--host-start"):
         reader.add_argument(option, type=_address)
     for option in FLAGS:
@@ -135,24 +135,24 @@ def execute(words: List[str]) -> int:
     try:
         return _execute(words)
     except Usage as fault:
-        _tell(f"{fault} (--help lists the arguments)")
+        note(f"{fault} (--help lists the arguments)")
     except Refused as refused:
         text = refused.text or f"the emulator ended with {refused.status}"
-        _tell("\n".join([text] + refused.why))
+        note("\n".join([text] + refused.why))
     except Fault as fault:
-        _tell(str(fault))
+        note(str(fault))
     except MemoryError:
-        _tell("no memory")
+        note("no memory")
     except OSError as error:
         if error.errno == errno.EPIPE:
             raise
-        _tell("cannot write -")
+        note("cannot write -")
     return NOT_RUN
 
 
 def _execute(words: List[str]) -> int:
     own, rest = _parted(words)
-    given = _reader(sys.modules["__main__"].__doc__ or "").parse_args(own)
+    given = _reader().parse_args(own)
     fault = _fault_of(given)
     if fault:
         raise Usage(fault)
@@ -197,7 +197,7 @@ def _execute(words: List[str]) -> int:
         _write(1, done.out)
         _write(2, done.err)
         if done.text:
-            _tell(done.text)
+            note(done.text)
         _leave(done, given, read)
         if given.disc and (image != disc.image or not os.path.exists(given.disc)):
             write_beside(given.disc, image, read)
@@ -210,10 +210,10 @@ def _execute(words: List[str]) -> int:
 def _leave(done: Executed, given: argparse.Namespace, read: List[str]) -> None:
     for number, frame in enumerate(done.frames if given.shots else []):
         name = f"{given.shots}.{number:03d}.png"
-        look_at_place(name)
+        look_at_picture(name)
         write_beside(name, frame.png(), read)
     if (given.save or given.trace) and len(done.trace) < 20 * done.accesses:
-        _tell(f"the run has {done.accesses:,} accesses to the Tube, of which {KEPT:,} are kept")
+        note(f"the run has {done.accesses:,} accesses to the Tube, of which {KEPT:,} are kept")
     if given.trace:
         write_beside(given.trace, done.trace, read)
     if given.save:
@@ -230,17 +230,12 @@ def _leave(done: Executed, given: argparse.Namespace, read: List[str]) -> None:
 def _tell_time(name: str, cycles: Callable[[], int], clock: int) -> None:
     try:
         count = cycles()
-        _tell(f"{name}{count:,} cycles, {count / clock / 1000000:.6f} seconds at {clock} MHz")
+        note(f"{name}{count:,} cycles, {count / clock / 1000000:.6f} seconds at {clock} MHz")
     except Fault as fault:
-        _tell(f"{name}{fault}")
+        note(f"{name}{fault}")
 
 
 def _write(number: int, data: bytes) -> None:
     (sys.stdout if number == 1 else sys.stderr).flush()
     while data:
         data = data[os.write(number, data) :]
-
-
-def _tell(text: str) -> None:
-    for line in text.splitlines():
-        tell("execute: " + line)

@@ -18,13 +18,13 @@ from typing import Callable, Dict, List, NamedTuple, Optional, Sequence, Tuple, 
 from .disc import Disc
 from .faults import Fault
 from .files import IMAGE_CAP, OUTPUT_CAP, Name, own_folder, read_file
-from .frame import Frame
+from .frame import Frame, frames_in
 from .labels import Labels
 from .program import TOP, Data, Part, Program, Side, Source, Speed, bytes_of
 from .report import Registers
 from .report import parse as parse_report
 from .script import Script
-from .words import MOST_TICKS
+from .words import MOST_TICKS, second_of
 
 SOURCES = os.path.join(TOP, "examples", "c")
 TIMED_OUT, NOT_RUN, NO_OPCODE, BROKEN, TOO_MUCH = 124, 125, 132, 134, 153
@@ -217,7 +217,7 @@ class Runner:
         self.close = weakref.finalize(self, stack.close)
         self.program, self.images, self.speed = program, images, speed
         self.has_tube = images[0].machine == "para"
-        self.second = 12000000 if speed == 4 else 6000000
+        self.second = second_of(speed)
         self.more: List[str] = []
         self.slots = self.input_at = 0
         self._make_roms(arguments)
@@ -269,8 +269,7 @@ class Runner:
         errors = int.from_bytes(host[0xF5:0xF8], "little")
         report = parse_report(self.output("report"))
         return Left(ticks, host, self.output("para") if self.has_tube else None,
-                    {side: it for side, it in (("host", report.host), ("para", report.para)) if it is not None},
-                    self.output("plug1"), self.output("plug0")[:errors], host[0xF0], host[0xF1])
+                    report.registers, self.output("plug1"), self.output("plug0")[:errors], host[0xF0], host[0xF1])
 
     def seen_by_host(self, left: Left) -> bytes:
         """The host's memory, where the text of an error is."""
@@ -300,8 +299,7 @@ class Runner:
     @property
     def frames(self) -> List[Frame]:
         """The frames of the script's shots, of the last run."""
-        names = sorted(name for name in os.listdir(self.folder) if re.fullmatch(r"out\.[0-9]{3}\.ppm", name))
-        return [Frame(self.output(name[4:])) for name in names]
+        return [Frame(self.output(name[4:])) for name in frames_in(self.folder)]
 
     def until(self, most: int, is_over: Callable[[Left], bool] = lambda left: left.ended) -> Left:
         """Runs of 1, 2, 4 .. seconds of machine time, until the program has ended, or all of the time was had."""
@@ -529,7 +527,7 @@ def name_of(data: Data, other: str) -> str:
 
 def ticks_of(limit: Optional[float], speed: Speed) -> int:
     """The ticks of a limit in seconds; Fault where a run has fewer."""
-    second = 12000000 if speed == 4 else 6000000
+    second = second_of(speed)
     if limit is not None and not 0 < limit * second <= MOST_TICKS:
         raise Fault("the limit is above 0, and at most %g seconds of machine time" % (MOST_TICKS // second))
     return int(limit * second) if limit else MOST_TICKS

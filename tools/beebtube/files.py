@@ -44,6 +44,20 @@ os.umask(_mask)
 MODE_OF_NEW = 0o666 & ~_mask
 
 
+@contextlib.contextmanager
+def reading(name: Name) -> Iterator[None]:
+    """What fails meanwhile is the fault `cannot read NAME`."""
+    try:
+        yield
+    except (OSError, ValueError):
+        raise Fault(f"cannot read {os.fspath(name)}") from None
+
+
+def too_long(name: Name, most: int) -> Fault:
+    """The fault of a file that has more bytes than a tool takes."""
+    return Fault(f"too long {os.fspath(name)}: it has more than {most:,} bytes")
+
+
 # A file that has no bytes yet gives none: it is not waited for.
 class _Reading(io.FileIO):
     def readinto(self, buffer) -> int:  # type: ignore[no-untyped-def]
@@ -73,16 +87,13 @@ def open_file(name: Name, plain: bool = False) -> BinaryIO:
 
 def read_file(name: Name, most: int = IMAGE_CAP, plain: bool = False) -> bytes:
     """The bytes of a file, `most` of them at most; no more than one byte above is read, however long it is."""
-    with open_file(name, plain) as file:
-        try:
-            # No more room than a plain file needs; another kind of file has no length before it is read.
-            data = file.read(min(most, os.fstat(file.fileno()).st_size) + 1)
-            if data:
-                data += file.read(most + 1 - len(data))
-        except (OSError, ValueError):
-            raise Fault("cannot read %s" % os.fspath(name)) from None
+    with open_file(name, plain) as file, reading(name):
+        # No more room than a plain file needs; another kind of file has no length before it is read.
+        data = file.read(min(most, os.fstat(file.fileno()).st_size) + 1)
+        if data:
+            data += file.read(most + 1 - len(data))
     if len(data) > most:
-        raise Fault("too long %s: it has more than %s bytes" % (os.fspath(name), "{:,}".format(most)))
+        raise too_long(name, most)
     return data
 
 
@@ -97,18 +108,12 @@ def read_text(name: Name, most: int = TEXT_CAP, plain: bool = False) -> str:
 def blocks_of(name: Name, most: Optional[int] = None) -> Iterator[bytes]:
     """The bytes of a file in blocks, so that a large one is never held whole."""
     left = most
-    with open_file(name) as file:
-        while True:
-            try:
-                block = file.read(BLOCK)
-            except (OSError, ValueError):
-                raise Fault("cannot read %s" % os.fspath(name)) from None
-            if not block:
-                return
+    with open_file(name) as file, reading(name):
+        for block in iter(lambda: file.read(BLOCK), b""):
             if left is not None:
                 left -= len(block)
                 if left < 0:
-                    raise Fault("too long %s: it has more than %s bytes" % (os.fspath(name), "{:,}".format(most or 0)))
+                    raise too_long(name, most or 0)
             yield block
 
 
@@ -118,19 +123,13 @@ LONGEST = 4096  # bytes of a line of a listing or a trace
 def lines_of(name: Name, most: int = OUTPUT_CAP) -> Iterator[bytes]:
     """The lines of a file without their ends, one after another; Fault where it has more than `most` bytes, or a line is too long."""
     read = 0
-    with open_file(name) as file:
-        while True:
-            try:
-                line = file.readline(LONGEST)
-            except (OSError, ValueError):
-                raise Fault("cannot read %s" % os.fspath(name)) from None
-            if not line:
-                return
+    with open_file(name) as file, reading(name):
+        for line in iter(lambda: file.readline(LONGEST), b""):
             read += len(line)
             if read > most:
-                raise Fault("too long %s: it has more than %s bytes" % (os.fspath(name), "{:,}".format(most)))
+                raise too_long(name, most)
             if len(line) == LONGEST:
-                raise Fault("%s has a line of %s bytes or more" % (os.fspath(name), "{:,}".format(LONGEST)))
+                raise Fault(f"{os.fspath(name)} has a line of {LONGEST:,} bytes or more")
             yield line.rstrip(b"\r\n")
 
 
@@ -168,6 +167,32 @@ def same_file(one: Name, other: Name) -> bool:
         return os.path.samefile(one, other)
     except (OSError, ValueError):
         return os.path.realpath(one) == os.path.realpath(other)
+
+
+def look_at_place(name: Name, what: str, is_own: Callable[[bytes], bool], most: int = 4096) -> None:
+    """Fault if a file of another kind has the name of one that is to be written: the name came there by a mistake, or the file is
+    somebody's own. `is_own` says of its first bytes whether it is a `what`; an empty file is no other one."""
+    if is_plain(name):
+        with open_file(name) as file, reading(name):
+            begin = file.read(most)
+        if begin and not is_own(begin):
+            raise Fault(f"{os.fspath(name)} is there, and is no {what}: it is not overwritten")
+
+
+def make_folder(name: Name) -> None:
+    """Makes a folder, and those above it, if it is missing; Fault if it cannot be made."""
+    try:
+        os.makedirs(name, exist_ok=True)
+    except (OSError, ValueError) as error:
+        raise writing_fault(name, error) from None
+
+
+def make_new_folder(name: Name, what: str) -> None:
+    """The same; Fault if there is something in it."""
+    make_folder(name)
+    with reading(name):
+        if os.listdir(name):
+            raise Fault(f"{os.fspath(name)} is there, and is not empty: {what} a new folder")
 
 
 def inside(folder: Name, name: str) -> str:

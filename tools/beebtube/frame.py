@@ -3,12 +3,13 @@ from __future__ import annotations
 
 import functools
 import os
+import re
 import struct
 import zlib
 from typing import Iterator, List, Optional, Sequence, Tuple
 
 from .faults import Fault
-from .files import Name, is_plain, open_file, read_file
+from .files import Name, look_at_place, read_file
 
 WIDTH, HEIGHT = 640, 256
 HEADER = b"P6\n640 256\n255\n"
@@ -88,6 +89,10 @@ class Frame:
         apart = (int.from_bytes(self.colours, "big") ^ int.from_bytes(other.colours, "big")).to_bytes(size, "big")
         return Frame.of_colours(apart.translate(bytes([0]) + bytes([7]) * 255))
 
+    def differing(self, other: "Frame") -> int:
+        """How many pixels differ in this frame and another."""
+        return len(self.colours) - self.difference(other).colours.count(0)
+
     def pixel(self, x: int, y: int) -> int:
         """The colour of a pixel; x from 0 to 639 to the right, y from 0 to 255 down."""
         if not (0 <= x < WIDTH and 0 <= y < HEIGHT):
@@ -149,16 +154,17 @@ def picture_of(frames: Sequence[Frame], delay: Optional[int] = None) -> bytes:
     return SIGNATURE + b"".join(parts) + _part(b"IEND", b"")
 
 
-def look_at_place(name: Name) -> None:
-    """Fault if a file that is no picture of frames has the name of one that is to be written: the name came there by a
-    mistake, or the picture is somebody's own."""
-    if is_plain(name):
-        begin, palette = SIGNATURE + _part(b"IHDR", SIZE), _part(b"PLTE", PALETTE)
-        with open_file(name) as file:
-            found = file.read(len(begin) + 20 + len(palette))
-        # The part `acTL` of a moving picture, 20 bytes, may come before its colours.
-        if found and not (found.startswith(begin) and found[len(begin) :].startswith((palette, b"\0\0\0\10acTL"))):
-            raise Fault("%s is there, and is no picture that was made here: it is not overwritten" % os.fspath(name))
+def look_at_picture(name: Name) -> None:
+    """Fault if a file that is no picture of frames has the name of one that is to be written."""
+    begin = SIGNATURE + _part(b"IHDR", SIZE)
+    # The part `acTL` of a moving picture may come before its colours.
+    forms = begin + _part(b"PLTE", PALETTE), begin + b"\0\0\0\10acTL"
+    look_at_place(name, "picture that was made here", lambda found: found.startswith(forms))
+
+
+def frames_in(folder: Name) -> List[str]:
+    """The names of the frames in the folder of a run `out`, in their order."""
+    return sorted(name for name in os.listdir(folder) if re.fullmatch(r"out\.[0-9]{3}\.ppm", name))
 
 
 # The parts of a picture, by their names; Fault where it ends inside one, or a part has another sum.
@@ -201,15 +207,3 @@ def lines_in(picture: bytes, name: str = "the picture") -> List[bytes]:
     if kinds[:1] != [b"IHDR"] or kinds.count(b"IHDR") != 1 or kinds.count(b"PLTE") != 1 or kinds[-1:] != [b"IEND"]:
         raise Fault("%s is no picture that was made here" % name)
     return frames
-
-
-def box_of(one: bytes, other: bytes) -> Optional[Tuple[int, int, int, int]]:
-    """The box of pixels that differ in the lines of two frames: x from, x to, y from, y to, as a frame has them; None where none does."""
-    long = 1 + WIDTH // 2
-    rows, columns = [], []
-    for y in range(HEIGHT):
-        first, second = one[2 * y * long : (2 * y + 1) * long], other[2 * y * long : (2 * y + 1) * long]
-        if first != second:
-            rows.append(y)
-            columns += [2 * at + right for at, (a, b) in enumerate(zip(first[1:], second[1:])) for right in (0, 1) if (a ^ b) >> 4 * (1 - right) & 15]
-    return (min(columns), max(columns), rows[0], rows[-1]) if rows else None

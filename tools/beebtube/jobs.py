@@ -11,13 +11,13 @@ import tempfile
 from typing import List, Sequence, Tuple
 
 from .collection import Entry, Sums, name_fault, order_of, packed, plan_of, unpacked, words_for_job
-from .command import Usage
+from .command import Usage, note
 from .faults import Fault, NoRoom
 from .files import clear_left
 from .program import Version, know, version
 from .results import PAGES, Fixed, Store, Wanted, carry_out
-from .table import Row, row_of, shown_line
-from .words import shown, told
+from .table import Row, row_of
+from .words import printable, shown, told
 
 NEXT = "++"  # between the runs of a command
 
@@ -66,7 +66,7 @@ def job(words: List[str]) -> int:
         except Fault as fault:
             if isinstance(fault, NoRoom) or len(runs) == 1:
                 raise
-            print("suite: %s: %s" % (told(name), shown_line(str(fault))), file=sys.stderr)
+            note(f"{told(name)}: {printable(str(fault))}")
             status = 1
     return status
 

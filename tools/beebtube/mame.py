@@ -16,6 +16,7 @@ from typing import Deque, Dict, List, NamedTuple, Optional, Sequence, Tuple
 
 from .faults import Fault
 from .files import Name, lines_of
+from .words import printable
 
 AT = re.compile(rb"\b([0-9A-Fa-f]{4}): \S")
 LOOPS = re.compile(rb"\(loops for ([0-9]{1,12}) instructions\)")
@@ -37,7 +38,7 @@ class Step(NamedTuple):
 
 
 def _shown(line: bytes) -> str:
-    return "".join(letter if letter.isprintable() else "?" for letter in line.decode("latin-1").strip()[:100])
+    return printable(line.decode("latin-1").strip()[:100])
 
 
 def _registers_in(text: bytes) -> Dict[str, int]:

@@ -11,15 +11,14 @@ import zlib
 from typing import Iterable, Sequence, Tuple
 
 from .files import read_text
+from .words import printable
 
 HERE = os.path.dirname(os.path.realpath(__file__))
 
 
 def shown(text: str) -> str:
     """A text of somebody else as a page may have it: what cannot be shown is `?`, and signs of HTML are escaped."""
-    if not text.isprintable():
-        text = "".join(letter if letter.isprintable() else "?" for letter in text)
-    return html.escape(text)
+    return html.escape(printable(text))
 
 
 def grouped(number: int) -> str:

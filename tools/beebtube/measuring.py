@@ -6,7 +6,7 @@ import contextlib
 import sys
 from typing import Iterator, List
 
-from .command import Usage
+from .command import Usage, note
 from .counting import Counting
 from .cover import Cover
 from .files import write_beside
@@ -20,7 +20,7 @@ DIFFERS = 8
 
 
 def _reader() -> Reader:
-    reader = Reader(sys.modules["__main__"].__doc__ or "")
+    reader = Reader()
     reader.add_argument("--host", action="append", default=[])
     reader.add_argument("--para", action="append", default=[])
     reader.add_argument("-o", dest="out")
@@ -56,7 +56,7 @@ def cover(words: List[str]) -> int:
                 found.add(Sources(program, getattr(given, side)), Counting(past, side))
     missing = found.missing()
     if missing:
-        print(f"cover: not here, and left out: {' '.join(missing)}", file=sys.stderr)
+        note(f"not here, and left out: {' '.join(missing)}")
     _write(given, found.info())
     return 0
 

@@ -10,11 +10,14 @@ from __future__ import annotations
 
 import itertools
 import re
+import sys
 from typing import Dict, Iterator, List, Optional
 
+from .command import Usage
 from .faults import Fault
-from .files import Name, read_text
+from .files import Name, lines_of, read_text
 from .labels import Labels
+from .program import Part, Program
 
 LD65 = re.compile(r"al ([0-9A-Fa-f]{6}) \.([^\s]+)")
 PLAIN = re.compile(r"([0-9A-F]{4}) ([^\s]+)")
@@ -156,3 +159,16 @@ def _named_source(lines: List[str], names: Names) -> Iterator[str]:
             others += names.labels.names_at(target)[:1]
         line = "%s: %s" % (standing[place], line) if place in standing else line
         yield "%-40s; %s" % (line, " ".join(others)) if others else line
+
+
+def labels(words: List[str]) -> None:
+    """tools/labels."""
+    if len(words) == 3 and words[0] == "--in":
+        names = Names([read(words[1])])
+        for line in named((line.decode("latin-1") for line in lines_of(words[2])), names):
+            print(line)
+    elif len(words) == 2 and not words[0].startswith("-") and words[1] in ("6502", "65c02"):
+        part: Part = "6502" if words[1] == "6502" else "65c02"
+        sys.stdout.write(ld65_of(Program().labels_of(part, words[0])))
+    else:
+        raise Usage("the arguments are a source and 6502 or 65c02, or --in, labels and a listing")

@@ -1,4 +1,4 @@
-"""A run as one page: a text of HTML that opens from a file, and needs no network and nothing from elsewhere.
+"""`tools/page`: a run as one page, a text of HTML that opens from a file, and needs no network and nothing from elsewhere.
 
 What is named or read is data: every name is escaped, everything else is in one block of JSON that nothing runs, and the page's
 policy lets it run the one script of `page.js` and use the one style of `page.css`, by their sums, and load nothing.
@@ -15,7 +15,7 @@ from typing import TYPE_CHECKING, Any, Dict, List, NamedTuple, Optional, Tuple
 
 from .disc import LARGEST, Disc
 from .faults import Fault
-from .files import IMAGE_CAP, TRACE_CAP, Sum, read_file, sum_of
+from .files import IMAGE_CAP, TRACE_CAP, Sum, look_at_place, read_file, sum_of, write_beside
 from .frame import Frame
 from .instructions import INSTRUCTIONS
 from .manifest import Manifest
@@ -25,6 +25,7 @@ from .program import screen_of
 from .report import Registers
 from .report import parse as parse_report
 from .script import KEYS, Script
+from .words import second_of
 
 if TYPE_CHECKING:
     from .columns import Columns
@@ -32,6 +33,7 @@ if TYPE_CHECKING:
 BEGIN = "<!DOCTYPE html>\n<!-- beebtube page 1 -->\n"
 ROWS = 2000  # the most rows of a table of keys
 SOUND_CAP = 16777216
+MOST_ACCESSES = TRACE_CAP // 20  # of a trace
 RATE = 31250  # samples of a second
 KEY_NAMES = {number: name for name, number in KEYS.items()}
 
@@ -79,13 +81,9 @@ class Page:
         if report is None:
             raise Fault("cannot read %s.report: the page of a run is made of its outputs" % asked.out)
         self.report = parse_report(report)
-        self.second = 6000000
         call = self.manifest.call if self.manifest is not None else None
-        if call is not None and call.options.get("--speed") == "4":
-            self.second = 12000000
         self.columns = self._columns()
-        if self.columns is not None:
-            self.second = self.columns.second
+        self.second = self.columns.second if self.columns is not None else second_of(call and call.options.get("--speed"))
         self.script = self._script()
 
     # The bytes of an output, which the page then lists with its checksum; None if there is none.
@@ -323,9 +321,8 @@ _VIEW = """<div class="tools" role="group" aria-label="A memory"><label for="mem
 
 # Two frames and where they differ, as pictures of the page.
 def _beside(one: Frame, other: Frame, name: str, of_other: str) -> str:
-    from .differs import picture_frames
     images = []
-    for frame, what in zip(picture_frames(one, other), ("of this run", of_other, "with the pixels that differ in white")):
+    for frame, what in zip((one, other, one.difference(other)), ("of this run", of_other, "with the pixels that differ in white")):
         source = "data:image/png;base64," + base64.b64encode(frame.png()).decode()
         images.append(element("li", '<img src="%s" alt="%s %s" width="640" height="512">' % (source, shown(name), what) + element("span", what)))
     return element("ol", "\n".join(images), class_="beside")
@@ -408,3 +405,28 @@ def page_of(asked: Asked) -> Tuple[bytes, List[str]]:
     """The page of a run, and the files that were read for it; Fault where one of them is none."""
     page = Page(asked)
     return page.make(), page.reads
+
+
+# How many accesses of a trace a page explains; None for `none`.
+def _accesses(word: str) -> Optional[int]:
+    from .reading import whole_number
+    return None if word == "none" else whole_number(0, MOST_ACCESSES)(word)
+
+
+def page(words: List[str]) -> None:
+    """The tool."""
+    from .reading import Reader  # it takes a while to load
+    reader = Reader()
+    reader.add_argument("out")
+    for option in ("--manifest", "--wav", "--keys", "--disc0", "--disc1", "--against"):
+        reader.add_argument(option, metavar="FILE")
+    reader.add_argument("--trace", type=_accesses, default=1000000)
+    asked = reader.parse_args(words)
+    manifest = asked.manifest
+    if manifest is None and os.path.lexists(asked.out + ".manifest"):
+        manifest = asked.out + ".manifest"
+    discs = {drive: name for drive, name in enumerate((asked.disc0, asked.disc1)) if name is not None}
+    name = asked.out + ".html"
+    look_at_place(name, "page", lambda begin: begin.startswith(BEGIN.encode()))
+    data, reads = page_of(Asked(asked.out, manifest, asked.wav, asked.keys, discs, asked.trace, asked.against))
+    write_beside(name, data, reads=reads)

@@ -4,20 +4,12 @@ from __future__ import annotations
 from typing import List, Optional
 
 from .disc import SECTOR, TRACK, Catalogue, Disc, File, shown_address
-from .faults import Fault
 from .markup import grouped, shown, table
-
-
-def _catalogue(disc: Optional[Disc], side: int) -> Optional[Catalogue]:
-    try:
-        return disc.catalogue(side) if disc is not None and (disc.double or not side) else None
-    except Fault:
-        return None
 
 
 def side_of(disc: Disc, before: Optional[Disc], side: int, name: str) -> str:
     parts = []
-    now, was = _catalogue(disc, side), _catalogue(before, side)
+    now, was = (it.catalogues().get(side) if it is not None else None for it in (disc, before))
     if before is None:
         parts.append("<p>What the run changed is not told: the disc before it was not handed to this page.</p>")
     else:

@@ -1,17 +1,20 @@
-"""A machine with a disc, into which a text is typed: what `tools/play` does."""
+"""`tools/play`, a machine with a disc, into which a text is typed; and `tools/type`, its keys alone."""
 from __future__ import annotations
 
 import os
+import sys
 from typing import Any, Callable, Dict, Iterator, List, Optional, Sequence, Tuple
 
+from .command import Usage, note, read_standard_input
 from .disc import note_of
 from .faults import Fault, Refused
-from .files import is_plain, open_file, same_file, write_beside
-from .frame import look_at_place, picture_of
+from .files import TEXT_CAP, is_plain, look_at_place, same_file, write_beside
+from .frame import look_at_picture, picture_of
 from .program import OWN, Program, Run
+from .reading import Reader, seconds
 from .sets import read_set, with_names, words_of
 from .script import MOST_SHOTS, Event, Script, Typed, typed
-from .words import OPTIONS
+from .words import OPTIONS, second_of
 
 DEFAULT = "roms.set"
 BOOT = "{SHIFT+BREAK}"
@@ -70,7 +73,7 @@ class Player:
     @property
     def second(self) -> int:
         """Ticks of a second."""
-        return 12000000 if self.options.get("--speed") == "4" else 6000000
+        return second_of(self.options.get("--speed"))
 
     def type(self, start: float, hold: float, gap: float, caps: bool, wait: float, movie: bool) -> None:
         """Makes the script: the text from `start` on, `wait` seconds more, and a shot; with `movie` a shot each fifth of a second."""
@@ -117,9 +120,9 @@ class Player:
         pictures = self._names(stills) + ["%s.movie.png" % self.out] * bool(self._moving)
         reads = [self.chosen] + [value for option, value in self.options.items() if OPTIONS[option].kind == "file"]
         for name in pictures:
-            look_at_place(name)
+            look_at_picture(name)
         if sound:
-            _look_at_sound(self.out + ".wav")
+            look_at_place(self.out + ".wav", "sound", lambda begin: begin.startswith(b"RIFF"))
         for name in pictures + [self.out + ".wav"] * sound:
             if any(same_file(name, read) for read in reads):
                 raise Fault("%s is read too, and is not overwritten" % name)
@@ -147,12 +150,53 @@ class Player:
             yield self.out + ".wav"
 
 
-# A file of another kind is no place for a sound.
-def _look_at_sound(name: str) -> None:
-    if is_plain(name):
-        with open_file(name) as file:
-            if file.read(4) not in (b"", b"RIFF"):
-                raise Fault("%s is there, and is no sound: it is not overwritten" % name)
+# The times of keys.
+def _reader() -> Reader:
+    reader = Reader()
+    for name, value in (("--start", 2.0), ("--hold", 0.05), ("--gap", 0.05)):
+        reader.add_argument(name, type=seconds, default=value)
+    reader.add_argument("--caps", action="store_true")
+    return reader
 
 
-__all__ = ["Player", "sort_names"]
+def play(words: List[str]) -> None:
+    """tools/play."""
+    reader = _reader()
+    reader.add_argument("--wait", type=seconds, default=3.0)
+    for name in ("--both", "--movie", "--wav", "--ticks"):
+        reader.add_argument(name, action="store_true")
+    reader.add_argument("--out")
+    reader.add_argument("names", nargs="+")
+    asked = reader.parse_args(words)
+    if len(asked.names) > 3:
+        raise Usage("the arguments are a set, a disc and a text")
+    player = Player(*sort_names(asked.names), asked.both, asked.out)
+    player.type(asked.start, asked.hold, asked.gap, asked.caps, asked.wait, asked.movie)
+    for text in player.notes():
+        note(text)
+    if asked.ticks:
+        print(player.ticks)
+        return
+    for name in player.play(asked.wav):
+        print(name)
+
+
+def type_(words: List[str]) -> None:
+    """tools/type."""
+    reader = _reader()
+    for name in ("--fit", "--shift", "--control", "--shot"):
+        reader.add_argument(name, action="store_true")
+    reader.add_argument("--speed", choices=("3", "4"), default="3")
+    reader.add_argument("text", nargs="?")
+    asked = reader.parse_args(words)
+    text = asked.text
+    if text is None:
+        try:
+            text = read_standard_input(TEXT_CAP).decode("utf-8")
+        except UnicodeDecodeError as error:
+            raise Fault(f"the text is not UTF-8 at byte {error.start}") from None
+    script = typed(text, asked.start, asked.hold, asked.gap, asked.shift, asked.control, asked.caps,
+                   asked.shot, int(asked.speed), asked.fit)
+    sys.stdout.write(script.text())
+    sys.stdout.flush()
+    note(f"keys {script.keys}, shots {script.shots}; run {script.ticks} ticks or more")

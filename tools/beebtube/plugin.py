@@ -176,8 +176,7 @@ def difference_of(one: Frame, other: Frame) -> str:
     if box is None:
         return "the frames are equal"
     left, top, right, bottom = box
-    count = sum(1 for a, b in zip(one.colours, other.colours) if a != b)
-    return f"{count:,} pixels differ, from x {left} to {right} and y {top} to {bottom}"
+    return f"{one.differing(other):,} pixels differ, from x {left} to {right} and y {top} to {bottom}"
 
 
 def _folder_of(request: Any) -> str:

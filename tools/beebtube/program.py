@@ -15,7 +15,7 @@ from .disc import LARGEST, Disc, is_double
 from .explain import explain
 from .faults import Fault, Refused
 from .files import OUTPUT_CAP, SESSION_CAP, SOURCE_CAP, Name, own_folder, read_file
-from .frame import Frame
+from .frame import Frame, frames_in
 from .labels import Labels
 from .report import Registers, Report
 from .report import parse as parse_report
@@ -353,8 +353,7 @@ class Run:
     @property
     def registers(self) -> Dict[str, Registers]:
         """The registers of "host" and "para", where the command has them."""
-        report = self.report
-        return {name: registers for name, registers in (("host", report.host), ("para", report.para)) if registers is not None}
+        return self.report.registers
 
     @property
     def host(self) -> bytes:
@@ -379,8 +378,7 @@ class Run:
     @property
     def frames(self) -> List[Frame]:
         """The frames of the shots, in their order."""
-        names = sorted(name for name in os.listdir(self.folder) if re.fullmatch(r"out\.[0-9]{3}\.ppm", name))
-        return [Frame.read(os.path.join(self.folder, name)) for name in names]
+        return [Frame.read(os.path.join(self.folder, name)) for name in frames_in(self.folder)]
 
     @property
     def discs(self) -> Dict[int, Disc]:

@@ -12,9 +12,9 @@ from .words import number_of, shown
 class Reader(argparse.ArgumentParser):
     """A reader of a tool's words, whose help is the tool's own text."""
 
-    def __init__(self, doc: str):
-        super().__init__(description=doc, formatter_class=argparse.RawDescriptionHelpFormatter, usage=argparse.SUPPRESS,
-                         prog=tool_name(), allow_abbrev=False)
+    def __init__(self, doc: Optional[str] = None):
+        super().__init__(description=doc or sys.modules["__main__"].__doc__, usage=argparse.SUPPRESS, allow_abbrev=False,
+                         formatter_class=argparse.RawDescriptionHelpFormatter, prog=tool_name())
 
     def error(self, message: str) -> NoReturn:
         raise Usage(message)

@@ -42,6 +42,11 @@ class Report(NamedTuple):
     kept: Optional[int]
     frames: Optional[int]
 
+    @property
+    def registers(self) -> Dict[str, Registers]:
+        """Those of "host" and "para", of the machines that there are."""
+        return {name: it for name, it in (("host", self.host), ("para", self.para)) if it is not None}
+
 
 def parse(text: Union[str, bytes]) -> Report:
     """The report of its text; Fault where it is none."""

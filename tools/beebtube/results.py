@@ -19,9 +19,9 @@ from .collection import Input, Plan, key_of
 from .disc import Disc, file_name
 from .explain import explain
 from .faults import Fault, NoRoom
-from .files import (OUTPUT_CAP, Sum, files_below, held, is_plain, own_folder, read_text, sum_of, sync_folder, write_beside,
+from .files import (OUTPUT_CAP, Sum, files_below, held, is_plain, make_folder, own_folder, read_text, sum_of, sync_folder, write_beside,
                     writing_fault)
-from .frame import Frame
+from .frame import Frame, frames_in
 from .manifest import HEAD, files_in, program_lines, run_lines
 from .program import Ended, Program, version
 
@@ -89,10 +89,7 @@ class Store:
 
     def make(self) -> None:
         """Makes the folder where it is not there; Fault where it cannot be written."""
-        try:
-            os.makedirs(self.runs, exist_ok=True)
-        except OSError as error:
-            raise Fault("cannot write %s: %s" % (self.folder, error.strerror)) from None
+        make_folder(self.runs)
         if not os.access(self.runs, os.W_OK | os.X_OK):
             raise Fault("cannot write %s: it is not to be written" % self.runs)
 
@@ -234,10 +231,7 @@ def carry_out(plan: Plan, name: str, program: Fixed, store: Store, wanted: Wante
     kept = os.path.join(wanted.keep, name) if wanted.keep is not None else None
     if kept is not None and wanted.keep is not None:
         _look_at_kept(kept, plan.inputs)
-        try:
-            os.makedirs(wanted.keep, exist_ok=True)
-        except OSError as error:
-            raise writing_fault(wanted.keep, error) from None
+        make_folder(wanted.keep)
     with own_folder(wanted.keep) as folder:
         sums = _put_inputs(plan, folder)
         if key_of(program.sum, plan.words, plan.inputs, sums) != plan.key:
@@ -253,7 +247,7 @@ def carry_out(plan: Plan, name: str, program: Fixed, store: Store, wanted: Wante
         lines = [HEAD] + program.lines + run_lines(plan.words, reads, ended, wrote)
         manifest = "\n".join(lines).encode() + b"\n"
         write_beside(os.path.join(folder, "out.manifest"), manifest)
-        frames = [file for file in written if re.fullmatch(r"out\.[0-9]{3}\.ppm", file)]
+        frames = frames_in(folder)
         result = Result(plan.key, plan.words, _told(reads), [(file[4:], digits, length) for file, digits, length in _told(wrote)], ended.status, ended.text,
                         explain(ended.status, ended.text, plan.words, folder), round(seconds, 3), round(processor, 3), plan.ticks,
                         frames[-1][4:] if frames else "", Sum([manifest]).digits, *_on_disc(plan, folder), [])
@@ -276,11 +270,7 @@ def _on_disc(plan: Plan, folder: str) -> Tuple[str, List[str]]:
     title, files = "", []
     for name in (it.name for it in plan.inputs if it.name.startswith("disc0")):
         disc = Disc.read(os.path.join(folder, name))
-        for side in range(1 + disc.double):
-            try:
-                catalogue = disc.catalogue(side)
-            except Fault:
-                continue
+        for side, catalogue in disc.catalogues().items():
             title = title or catalogue.title
             files += [":2." * side + file_name(file) for file in catalogue.files]
     return title, files

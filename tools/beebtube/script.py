@@ -8,7 +8,7 @@ import re
 from typing import Callable, Dict, Iterable, List, NamedTuple, Optional, Tuple, Union
 
 from .faults import Fault
-from .words import MOST_TICKS, number_of
+from .words import MOST_TICKS, number_of, second_of
 
 MOST_SHOTS = 256
 # The least times of a key for an operating system that looks at the keyboard each hundredth of a second.
@@ -190,7 +190,7 @@ def typed(text: str, start: float = 2.0, hold: float = 0.05, gap: float = 0.05, 
     fit      keys are pressed faster if the text needs more ticks than a run has
     Fault where no key has a letter, no key has a name, there are too many shots, or a run is too short.
     """
-    second = 12000000 if speed == 4 else 6000000
+    second = second_of(speed)
 
     def made(hold: float, gap: float) -> Typed:
         typist = _Typist(second, start, hold, gap, shift, control, caps)

@@ -1,4 +1,4 @@
-"""ROM sets: a text file that names the files of a machine, as the words of a run.
+"""ROM sets and `tools/words`: a text file that names the files of a machine, as the words of a run.
 
 A line is an option of beebtube, its value, and for a file its SHA-256 checksum, if given; a line that begins with `#` is a comment. Names
 are from the set's folder on.
@@ -7,13 +7,12 @@ from __future__ import annotations
 
 import os
 import re
-import sys
-from typing import Iterable, List, Mapping, Optional, Tuple
+from typing import Iterable, List, Mapping, Optional, Sequence, Tuple
 
-from .command import tool_name
+from .command import Usage, note
 from .disc import is_double, note_of
 from .faults import Fault
-from .files import IMAGE_CAP, is_plain, read_text, sum_of
+from .files import IMAGE_CAP, TEXT_CAP, is_plain, look_at_place, read_text, sum_of, write_beside
 from .words import OPTIONS, shown, value_fault
 
 # What a shell leaves as it is where words are put between others: letters of any script, digits, and these.
@@ -96,8 +95,44 @@ def words_of(name: str) -> List[str]:
     if folder and not PLAIN.fullmatch(folder):
         raise Fault("the folder %s has a sign that a shell takes for another" % shown(folder))
     for option, value in read_set(name):
-        note = note_of(value) if option.startswith("--disc") else None
-        if note:
-            print("%s: %s" % (tool_name(), note), file=sys.stderr)
+        text = note_of(value) if option.startswith("--disc") else None
+        if text:
+            note(text)
         words += [option, value]
     return words
+
+
+# The lines of a text are options, and comments.
+def _is_set(data: bytes) -> bool:
+    lines = [line.split() for line in data.decode("utf-8", "replace").splitlines() if not line.startswith("#")]
+    return bool(lines) and all(line and line[0] in OPTIONS for line in lines)
+
+
+def make_set(name: str, words: Sequence[str]) -> None:
+    """Writes a set of options and their values, with the sums of its files."""
+    if not words or len(words) % 2 or any(not option.startswith("--") for option in words[::2]):
+        raise Fault("the arguments are options and their values, in turn")
+    lines: List[str] = []
+    files: List[str] = []
+    for at in range(0, len(words), 2):
+        option, value = words[at : at + 2]
+        fault = fault_of(option, value, words[:at:2])
+        if fault:
+            raise Fault(fault)
+        file = file_of(os.path.dirname(name), option, value)
+        files += [] if file is None else [file]
+        lines.append(" ".join([option, value] + ([] if file is None else [sum_of(file, IMAGE_CAP).digits])) + "\n")
+    look_at_place(name, "set", _is_set, TEXT_CAP)
+    write_beside(name, "".join(lines), reads=files)
+
+
+def words(given: List[str]) -> None:
+    """The tool."""
+    if len(given) == 1 and not given[0].startswith("-"):
+        print(*words_of(given[0]))
+    elif len(given) == 2 and given[0] == "--check":
+        words_of(given[1])
+    elif len(given) > 1 and given[0] == "--make":
+        make_set(given[1], given[2:])
+    else:
+        raise Usage("the arguments are a set, --check and a set, or --make, a set, and options with their values")

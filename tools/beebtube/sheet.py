@@ -11,7 +11,7 @@ from typing import Dict, List, Optional, Sequence
 
 from .faults import Fault
 from .files import OUTPUT_CAP, is_plain, read_file, write_beside
-from .frame import PICTURE_CAP, Frame, box_of, lines_in
+from .frame import PICTURE_CAP, Frame
 from .markup import asset, element, grouped, shown
 from .page import with_stored_frame
 from .results import AGAINST, Store
@@ -83,14 +83,14 @@ def stored_box(row: Row, store: Store) -> str:
     if not row.cells["differs"] or not re.fullmatch("[0-9a-f]{64}", key) or row.result is None or not row.result.frame:
         return ""
     try:
-        box = box_of(*(lines_in(_picture(store, it))[-1] for it in (key, row.result.key)))
+        box = _frame_of(store, key).box(_frame_of(store, row.result.key))
     except Fault:
         return ""
-    return "x %d to %d, y %d to %d" % box if box is not None else ""
+    return "x %d to %d, y %d to %d" % (box[0], box[2], box[1], box[3]) if box is not None else ""
 
 
-def _picture(store: Store, key: str) -> bytes:
-    return read_file(store.place(key, "png"), PICTURE_CAP, plain=True)
+def _frame_of(store: Store, key: str) -> Frame:
+    return Frame.of_png(read_file(store.place(key, "png"), PICTURE_CAP, plain=True))
 
 
 def write_against(rows: Sequence[Row], store: Store) -> None:
@@ -104,7 +104,7 @@ def write_against(rows: Sequence[Row], store: Store) -> None:
                 os.unlink(place)
             continue
         (row, box), data = boxes[key], read_file(os.path.join(store.folder, name), OUTPUT_CAP, plain=True)
-        own, old = (Frame.of_png(_picture(store, it)) for it in (key, (row.stored or {})["key"]))
+        own, old = (_frame_of(store, it) for it in (key, (row.stored or {})["key"]))
         write_beside(place, with_stored_frame(data, own, old, "Pixels differ in %s." % box), follow=False)
 
 

@@ -8,18 +8,18 @@ import shlex
 import sys
 import tempfile
 import time
-from typing import TYPE_CHECKING, Callable, Dict, List, Optional, Sequence, Set, Tuple
+from typing import TYPE_CHECKING, Dict, List, Optional, Sequence, Set, Tuple
 
 from .collection import Entry, Order, Plan, Sums, listing_of, order_of, plan_of, program_sum
-from .command import Usage
+from .command import Usage, note
 from .disc import note_of
 from .faults import Fault, NoRoom
-from .files import clear_left, is_plain, own_folder, same_file, write_beside
+from .files import clear_left, look_at_place, own_folder, same_file, write_beside
 from .jobs import job_of
 from .reading import Reader, seconds, whole_number
 from .results import PAGES, Fixed, Result, Store, Wanted, carry_out
-from .table import GOOD, STATES, Row, Stored, gone_row, read_table, row_of, shown_line, table_text
-from .words import MOST_TICKS, number_of, shown, told
+from .table import GOOD, STATES, Row, Stored, gone_row, read_table, row_of, table_text
+from .words import MOST_TICKS, number_of, printable, second_of, shown, told
 
 if TYPE_CHECKING:
     from .workers import Forecast
@@ -33,7 +33,7 @@ def states(word: str) -> List[str]:
 
 
 def reader_of() -> Reader:
-    reader = Reader(sys.modules["__main__"].__doc__ or "")
+    reader = Reader()
     how = reader.add_mutually_exclusive_group()
     for name in ("--jobs", "--gather", "--clear"):
         how.add_argument(name, action="store_true")
@@ -96,10 +96,10 @@ class Suite:
         self.places = [os.path.join(self.store.folder, name) for name in ("results.csv", "index.html")]
         look_at_places(self.places)
         if asked.against is not None and same_file(asked.against, self.places[0]):
-            raise Fault("%s is read too, and is not written over: the stored table has a name of its own" % shown(asked.against))
+            raise Fault("%s is read too, and is not overwritten: the stored table has a name of its own" % shown(asked.against))
         discs = {entry.order.options.get(option) for entry in self.entries for option in ("--disc0", "--disc1")}
-        for note in notes + sorted(filter(None, (note_of(disc) for disc in discs if disc is not None))):
-            print("suite: " + shown_line(note), file=sys.stderr)
+        for text in notes + sorted(filter(None, (note_of(disc) for disc in discs if disc is not None))):
+            note(printable(text))
 
     def plan(self, entry: Entry) -> Tuple[Plan, Optional[Result]]:
         """The plan of a run, and its result where all that is wanted of it is there."""
@@ -147,7 +147,7 @@ class Suite:
 
 
 def ticks_in(time_: float, common: Order) -> int:
-    ticks = round(time_ * (12000000 if common.options.get("--speed") == "4" else 6000000))
+    ticks = round(time_ * second_of(common.options.get("--speed")))
     if ticks > MOST_TICKS:
         raise Fault("--seconds %g: a run has %s ticks at most" % (time_, "{:,}".format(MOST_TICKS)))
     return ticks
@@ -156,11 +156,8 @@ def ticks_in(time_: float, common: Order) -> int:
 def look_at_places(places: Sequence[str]) -> None:
     """A file of another kind is no place for what is written: its name came there by a mistake."""
     from .sheet import BEGIN
-    for name, begin in zip(places, ("name,state,status,", BEGIN)):
-        if is_plain(name):
-            with open(name, "rb") as file:
-                if file.read(len(begin)) not in (b"", begin.encode()):
-                    raise Fault("%s is there, and was not written by a suite: it is not written over" % name)
+    for name, what, begin in zip(places, ("table", "page"), ("name,state,status,", BEGIN)):
+        look_at_place(name, f"{what} of a suite", lambda data: data.startswith(begin.encode()))
 
 
 # --- Running ---
@@ -312,7 +309,7 @@ def run(asked: argparse.Namespace) -> int:
         status = suite.write(rows)
     except NoRoom as fault:
         raise Fault(running.full or str(fault)) from None
-    print("suite: run %d, there before %d; %s" % (running.ran, sum(row.result is not None for row in rows) - running.ran, shown_line(suite.places[1])))
+    print("suite: run %d, there before %d; %s" % (running.ran, sum(row.result is not None for row in rows) - running.ran, printable(suite.places[1])))
     if running.full:
         raise Fault("stopped, since a disk is full: " + running.full)
     return status
@@ -328,7 +325,7 @@ def jobs(asked: argparse.Namespace) -> int:
         try:
             plan, result = suite.plan(entry)
         except Fault as fault:
-            print("suite: %s: %s" % (told(entry.name), shown_line(str(fault))), file=sys.stderr)
+            note(f"{told(entry.name)}: {printable(str(fault))}")
             status = 1
             continue
         if result is None and (plan.key not in begun or asked.keep is not None):

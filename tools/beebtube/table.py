@@ -11,7 +11,7 @@ from .faults import Fault
 from .files import OUTPUT_CAP, read_text
 from .results import Result
 from .sets import with_names
-from .words import told
+from .words import printable, told
 
 COLUMNS = ("name", "state", "status", "ticks", "seconds", "processor", "words", "words_sum", "inputs", "outputs", "differs", "was", "title", "files", "said", "key")
 # The columns that a stored table needs.
@@ -59,12 +59,7 @@ class Row(NamedTuple):
             more = self.cells["differs"]
         else:
             more = " ".join(filter(None, (self.cells["status"] if self.cells["status"] != "0" else "", self.cells["said"])))
-        return "%s %s%s" % (self.state, self.name, ": " + shown_line(more) if more else "")
-
-
-def shown_line(text: str) -> str:
-    """A text of somebody else as one line on a screen."""
-    return text if text.isprintable() else "".join(letter if letter.isprintable() else "?" for letter in text)
+        return "%s %s%s" % (self.state, self.name, ": " + printable(more) if more else "")
 
 
 def _pairs(files: Iterable[Tuple[str, str, int]]) -> Iterator[Tuple[str, str]]:
@@ -172,7 +167,7 @@ def safe_name(name: str) -> str:
 # A cell that a sheet would take for a formula has a ' in front; what cannot be shown is ?.
 def cell_text(cell: str) -> str:
     """A cell's text as it stands in a file."""
-    cell = shown_line(cell)
+    cell = printable(cell)
     if ";" in cell:
         cell = re.sub("(?<=;)(?=%s)" % _FORMULA, "'", cell)
     return "'" + cell if _is_formula(cell) else cell

@@ -12,6 +12,7 @@ import sys
 from typing import Dict, Iterable, List, NamedTuple, Optional, Sequence
 
 from .files import Name, write_beside
+from .words import printable
 
 
 class TestCase(NamedTuple):
@@ -24,15 +25,10 @@ class TestCase(NamedTuple):
     seconds: Optional[float] = None
 
 
-# A text of one line that XML can hold.
-def _plain(text: str) -> str:
-    return "".join(letter if letter.isprintable() else "?" for letter in text)
-
-
 def junit_of(title: str, cases: Sequence[TestCase]) -> str:
     """The results as JUnit XML."""
     def attributes(**given: object) -> str:
-        told = {name: _plain(str(value)) for name, value in given.items() if value is not None}
+        told = {name: printable(str(value)) for name, value in given.items() if value is not None}
         return "".join(f' {name}="{html.escape(value)}"' for name, value in told.items())
 
     failed = sum(not case.passed for case in cases)
@@ -49,7 +45,7 @@ def tap_of(cases: Sequence[TestCase]) -> str:
     """The results in the Test Anything Protocol, version 13."""
     lines = ["TAP version 13", f"1..{len(cases)}"]
     for number, case in enumerate(cases, 1):
-        name = _plain(case.name).replace("\\", "\\\\").replace("#", "\\#")
+        name = printable(case.name).replace("\\", "\\\\").replace("#", "\\#")
         lines.append(f"{'ok' if case.passed else 'not ok'} {number} - {name}")
         if not case.passed:
             # A text of JSON is one of YAML.

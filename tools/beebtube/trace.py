@@ -8,6 +8,7 @@ from typing import BinaryIO, Iterator, NamedTuple, Optional, Tuple, Union
 
 from .faults import Fault
 from .files import TRACE_CAP, Name, is_plain, open_file
+from .words import second_of
 
 FORM = re.compile(rb"([0-9A-F]{10}) ([HP]) ([RWX]) ([0-7]) ([0-9A-F]{2})\n")
 LENGTH = 20  # bytes of a line, with its line feed
@@ -56,7 +57,7 @@ class Trace:
         self._file: Optional[BinaryIO] = self._open()
         begin = self._read(self._file, 3)
         self.speed = 4 if begin == b"T2\n" else 3
-        self.second = 2000000 * (6 if self.speed == 4 else 3)
+        self.second = second_of(self.speed)
         self._begin = b"" if self.speed == 4 else begin
         if isinstance(source, bytes) or is_plain(source):
             self._file.close()

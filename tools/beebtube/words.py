@@ -11,6 +11,12 @@ from .faults import Fault
 
 MOST_TICKS = 1073741824
 
+
+def second_of(speed: object) -> int:
+    """The ticks of a second with `--speed 3` or `--speed 4`."""
+    return 12000000 if str(speed) == "4" else 6000000
+
+
 PAIRS = ("solo", "run")
 LISTS = ("follow host", "follow para")
 HOSTS = ("replay host", "follow host") + PAIRS
@@ -86,10 +92,14 @@ def number_of(word: str) -> Optional[int]:
     return int(word) if NUMBER.fullmatch(word) and len(word) < 30 else None
 
 
+def printable(text: str) -> str:
+    """A text of somebody else as one line on a screen: what cannot be shown is `?`."""
+    return text if text.isprintable() else "".join(it if it.isprintable() else "?" for it in text)
+
+
 def shown(word: str) -> str:
     """A word as a person reads it."""
-    text = "".join(letter if letter.isprintable() else "?" for letter in word[:60])
-    return (text + ("..." if len(word) > 60 else "")) or "an empty word"
+    return printable(word[:60]) + ("..." if len(word) > 60 else "") or "an empty word"
 
 
 def told(name: str) -> str:
@@ -108,14 +118,15 @@ def _code_of(letter: str) -> str:
     return "\\x%02x" % number if number < 128 else "\\u%04x" % number if number < 65536 else "\\U%08x" % number
 
 
+def counted(number: int, one: str, many: str = "") -> str:
+    """A number of things in words: `1 byte`, `2 bytes`."""
+    return f"{number:,} {one if number == 1 else many or one + 's'}"
+
+
 def _near(word: str, known: List[str]) -> str:
     import difflib  # it takes a while to load
     found = difflib.get_close_matches(word, known, 1, 0.5)
     return ", %s?" % found[0] if found else ""
-
-
-def _grouped(number: int) -> str:
-    return "{:,}".format(number)
 
 
 def _is_text(word: str) -> bool:
@@ -201,7 +212,7 @@ class Call:
         if kind in CHOICES and word not in CHOICES[kind]:
             raise WrongWord("%s: %s is %s" % (shown(word), kind, " or ".join(CHOICES[kind])))
         if kind == "TICKS" and (number_of(word) is None or int(word) > MOST_TICKS):
-            raise WrongWord("%s: TICKS is a whole number up to %s, in decimal digits alone" % (shown(word), _grouped(MOST_TICKS)))
+            raise WrongWord("%s: TICKS is a whole number up to %s, in decimal digits alone" % (shown(word), f"{MOST_TICKS:,}"))
         if kind == "SEED" and (number_of(word) is None or int(word) >= 2**64):
             raise WrongWord("%s: SEED is a whole number below 2^64, in decimal digits alone" % shown(word))
         if kind == "ORIGIN" and not ADDRESS.fullmatch(word):
@@ -246,7 +257,7 @@ def value_fault(word: str, value: str) -> Optional[str]:
     if option.kind == "address" and not ADDRESS.fullmatch(value):
         return _address_fault(word, value)
     if option.kind == "number" and not (number_of(value) is not None and option.least <= int(value) <= option.most):
-        return "it is a whole number, at most %s" % _grouped(option.most)
+        return f"it is a whole number, at most {option.most:,}"
     if option.kind == "choice" and value not in option.choices:
         return "it is %s" % " or ".join(option.choices)
     return None

@@ -387,7 +387,7 @@ class Running(Suite):
         os.mkdir(self.at("results"))
         for name in ("results.csv", "index.html"):
             put(self.at("results/" + name), b"my own")
-            self.assertIn("it is not written over", self.suite(status=1).err)
+            self.assertIn("it is not overwritten", self.suite(status=1).err)
             self.assertEqual(text_of(self.at("results/" + name)), b"my own")
             os.unlink(self.at("results/" + name))
         self.suite()
@@ -793,7 +793,7 @@ class Against(Suite):
         os.symlink("results/results.csv", self.at("link.csv"))
         good = text_of(self.at("results/results.csv"))
         for name in ("results/results.csv", "link.csv"):
-            self.assertIn("is not written over", self.suite("--against", name, status=1).err)
+            self.assertIn("is not overwritten", self.suite("--against", name, status=1).err)
         self.assertEqual(text_of(self.at("results/results.csv")), good)
 
     def test_cells_are_data_for_a_sheet(self):
@@ -966,7 +966,7 @@ class Crates(Suite):
         os.mkdir(self.at("own"))
         put(self.at("own/ro-crate-metadata.json"), b"{}")
         put(self.at("own/m"), self.tool("manifest", "gen", "1").out.encode())
-        self.assertIn("is not written over", self.tool("manifest", "--crate", "own/m", status=1).err)
+        self.assertIn("is not overwritten", self.tool("manifest", "--crate", "own/m", status=1).err)
 
 
 class Elsewhere(Suite):
