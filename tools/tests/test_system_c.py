@@ -12,8 +12,8 @@ CONFORM = os.path.join(TOP, "system", "conform")
 AT = 0x1900
 # Programs of system/conform: what each tries on the host and on the second processor, and the
 # seconds that it may take.
-CALLS = {"osbyte": (58, 58, 12), "osword": (12, 12, 12), "vdu": (33, 33, 12), "files": (24, 24, 12),
-    "oscli": (31, 31, 20), "events": (18, 17, 8), "entries": (24, 17, 8), "sound": (18, 18, 20),
+CALLS = {"osbyte": (60, 60, 12), "osword": (12, 12, 12), "vdu": (33, 33, 12), "files": (24, 24, 12),
+    "oscli": (34, 34, 20), "events": (19, 17, 8), "entries": (24, 17, 8), "sound": (18, 18, 20),
     "keys": (39, 39, 39)}
 # What keys.c waits for: a second each, with SHIFT and CTRL for those after them.
 PRESSES = ("A", "A", "A", "SHIFT CTRL A", "f1", "f1", "SHIFT f1", "CTRL f1", "left", "left", "A",
