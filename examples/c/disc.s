@@ -3,8 +3,10 @@
 
         .export         _exit, __STARTUP__ : absolute = 1
         .export         _open, _close, _read, _write, _lseek, __sysremove, __osmaperrno
-        .export         _clrscr, _gotoxy, gotoxy, _wherex, _wherey, _cputc, _cputcxy, _cgetc, _kbhit
-        .export         _textcolor, _bgcolor
+        .export         _clrscr, _gotoxy, gotoxy, _gotox, _gotoy, _wherex, _wherey, screensize
+        .export         _cputc, _cputcxy, _cgetc, _kbhit
+        .export         _textcolor, _bgcolor, _bordercolor, _revers
+        .export         _chline, _chlinexy, _cvline, _cvlinexy, _cclear, _cclearxy, _clock
         .constructor    initmainargs, 24
         .import         zerobss, initlib, donelib, callmain, __argc, __argv
         .import         popa, popax, popeax, addysp, __directerrno
@@ -343,13 +345,12 @@ _clrscr:
 ; void gotoxy (unsigned char x, unsigned char y)
 gotoxy: jsr     popa
 _gotoxy:
-        sta     tmp1
-        lda     #31
-        jsr     OSWRCH
+        pha
         jsr     popa
-        jsr     OSWRCH
-        lda     tmp1
-        jmp     OSWRCH
+        tax
+        pla
+        tay
+        jmp     at
 _wherex:
         jsr     where
         txa
@@ -383,15 +384,134 @@ _kbhit: lda     #128
         lda     #1
 :       ldx     #0
         rts
+; There is no border.
+_bordercolor:
+        lda     #0
+        tax
+        rts
+; unsigned char textcolor (unsigned char color), and the like: each gives what was there before.
 _textcolor:
+        ldx     #0
+        beq     colour
+_bgcolor:
+        ldx     #1
+        bne     colour
+_revers:
+        ldx     #2
+colour: ldy     colours,x
+        sta     colours,x
+        tya
         pha
+        ldx     #0                      ; if they are reversed, the text has the second
+        lda     colours+2
+        beq     :+
+        inx
+:       lda     colours,x
+        jsr     vdu17
+        txa
+        eor     #1
+        tax
+        lda     colours,x
+        ora     #128
+        jsr     vdu17
+        pla
+        ldx     #0
+        rts
+vdu17:  pha
         lda     #17
         jsr     OSWRCH
         pla
+        jmp     OSWRCH
+        .data
+colours:
+        .byte   7, 0, 0
+        .code
+_gotox: pha
+        jsr     where
+        pla
+        tax
+        bpl     at
+_gotoy: pha
+        jsr     where
+        pla
+        tay
+; The cursor goes to X and Y.
+at:     lda     #31
         jsr     OSWRCH
-        lda     #7                      ; (the one before is not known)
-        ldx     #0
+        txa
+        jsr     OSWRCH
+        tya
+        jmp     OSWRCH
+; The columns and lines of the text window, in X and Y.
+screensize:
+        lda     #160
+        ldx     #8                      ; left and bottom
+        jsr     OSBYTE
+        stx     tmp1
+        sty     tmp2
+        lda     #160
+        ldx     #10                     ; right and top
+        jsr     OSBYTE
+        inx
+        txa
+        sec
+        sbc     tmp1
+        tax
+        sty     tmp1
+        ldy     tmp2
+        iny
+        tya
+        sec
+        sbc     tmp1
+        tay
         rts
-_bgcolor:
-        ora     #128
-        jmp     _textcolor
+; void chline (unsigned char length), and the like
+_cclearxy:
+        pha
+        jsr     gotoxy
+        pla
+_cclear:
+        ldx     #' '
+        bne     line
+_chlinexy:
+        pha
+        jsr     gotoxy
+        pla
+_chline:
+        ldx     #'-'
+line:   tay
+        beq     drawn
+:       txa
+        jsr     OSWRCH
+        dey
+        bne     :-
+drawn:  rts
+_cvlinexy:
+        pha
+        jsr     gotoxy
+        pla
+_cvline:
+        tay
+        beq     drawn
+:       lda     #'|'
+        jsr     OSWRCH
+        lda     #8                      ; to the left and down
+        jsr     OSWRCH
+        lda     #10
+        jsr     OSWRCH
+        dey
+        bne     :-
+        rts
+
+; clock_t clock (void): TIME
+_clock: lda     #1
+        ldx     #<file
+        ldy     #>file
+        jsr     OSWORD
+        lda     file+2
+        sta     sreg
+        lda     file+3
+        sta     sreg+1
+        ldx     file+1
+        lda     file
+        rts
