@@ -67,7 +67,7 @@ def wanted(source, target, option, folder):
     status, out, err = called(["sim65", "-x", CYCLES, made], folder, "sim65")
     if "Maximum number of cycles" in err or "Illegal opcode" in err:
         raise Passed("sim65: " + first_line(err))
-    return made, status, out
+    return made, status, out, err.encode()
 
 
 class Case:
@@ -94,7 +94,9 @@ class Case:
         name = "%s %s %s" % (os.path.basename(self.source), self.option, way)
         target, words = WAYS[way]
         try:
-            made, status, out = self.wanted(target)
+            made, status, out, err = self.wanted(target)
+            if way[0] == "o":
+                out += err              # the operating system has no standard error
             if way[0] in "co":
                 made = os.path.join(self.folder, way)
                 build = [BUILD] + (["--disc"] if way[0] == "o" else ["--host"] if way == "chost"

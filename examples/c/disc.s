@@ -1,5 +1,6 @@
 ; Start-up code, files and console of C programs that are *RUN from a disc, by calls of the operating system. Such a
-; program comes back to its caller with RTS. An error of the system ends it, unless it takes BRKV.
+; program comes back to its caller with RTS. An error of the system ends it, unless it takes BRKV; an
+; error while a file is opened is ENOENT.
 
         .export         _exit, __STARTUP__ : absolute = 1
         .export         _open, _close, _read, _write, _lseek, __sysremove, __osmaperrno
@@ -14,6 +15,7 @@
         .include        "errno.inc"
         .include        "fcntl.inc"
 
+BRKV    := $0202
 OSFIND  := $FFCE
 OSBPUT  := $FFD4
 OSBGET  := $FFD7
@@ -32,6 +34,7 @@ block:  .res    5                       ; of OSARGS, and of OSWORD 5
 
         .bss
 stack:  .res    1
+kept:   .res    1
 text:   .res    256                     ; the command's text, of which the arguments are parts
 path:   .res    256                     ; a file's name
 words:  .res    2*WORDS+2
@@ -168,8 +171,7 @@ _open:  cpy     #4
         beq     find
         lda     #$C0
         ldx     #<path
-        jsr     OSFIND
-        tay
+        jsr     osfind
         bne     opened
         lda     tmp1
         and     #O_CREAT
@@ -177,8 +179,7 @@ _open:  cpy     #4
 new:    lda     #$80
 find:   ldx     #<path
         ldy     #>path
-        jsr     OSFIND
-        tay
+        jsr     osfind
         beq     none
 opened: lda     tmp1
         and     #O_APPEND
@@ -193,6 +194,34 @@ opened: lda     tmp1
         rts
 none:   lda     #ENOENT
         jmp     __directerrno
+
+; OSFIND, with the file in Y. An error of the system gives 0 too.
+osfind: sta     tmp2
+        lda     BRKV
+        pha
+        lda     BRKV+1
+        pha
+        lda     #<error
+        sta     BRKV
+        lda     #>error
+        sta     BRKV+1
+        stx     tmp3
+        tsx
+        stx     kept
+        ldx     tmp3
+        lda     tmp2
+        jsr     OSFIND
+found:  tay
+        pla
+        sta     BRKV+1
+        pla
+        sta     BRKV
+        tya
+        rts
+error:  ldx     kept
+        txs
+        lda     #0
+        beq     found
 
 ; int close (int file)
 _close: cmp     #3

@@ -83,6 +83,7 @@ int main(int argc, char* argv[])
         && back[0] == 7 && back[8] == 7 && back[16] == 0);
     text = fopen("STDIO", "w");
     check("fopen to write", text != NULL);
+    check("fopen of a name that is an error", fopen(":9.X", "r") == NULL && fopen(":9.X", "w") == NULL);
     fprintf(text, "line %d\nlast\n", 1);
     fclose(text);
     text = fopen("STDIO", "r");
