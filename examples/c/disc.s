@@ -235,6 +235,12 @@ _close: cmp     #3
 
 ; int read (int file, void* buffer, unsigned count): from the keyboard a line at most
 _read:  jsr     parameters
+        ldx     tmp1
+        beq     get
+        lda     #127                    ; at its end OSBGET would be an error
+        jsr     OSBYTE
+        txa
+        bne     told
 get:    jsr     left
         beq     told
         ldy     tmp1

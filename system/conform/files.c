@@ -92,6 +92,9 @@ int main(int argc, char* argv[])
     check("fseek and ftell", ftell(text) == 7 && fgets((char*)back, 20, text) && !strcmp((char*)back, "last\n"));
     check("the end", fgetc(text) == EOF && feof(text));
     fclose(text);
+    file = open("STDIO", O_RDONLY);
+    check("read up to the end, and at it", read(file, back, 40) == 12 && !read(file, back, 1) && !read(file, back, 1));
+    close(file);
     check("remove", remove("STDIO") == 0 && fopen("STDIO", "r") == NULL);
     ended("FILES");
     return 0;

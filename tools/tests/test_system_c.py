@@ -14,7 +14,7 @@ CONFORM = os.path.join(TOP, "system", "conform")
 AT = 0x1900
 # Programs of system/conform: what each tries on the host and on the second processor, and the
 # seconds that it may take.
-CALLS = {"osbyte": (60, 60, 12), "osword": (12, 12, 12), "vdu": (35, 35, 12), "files": (29, 29, 12),
+CALLS = {"osbyte": (60, 60, 12), "osword": (12, 12, 12), "vdu": (35, 35, 12), "files": (30, 30, 12),
     "oscli": (34, 34, 20), "events": (19, 17, 8), "entries": (24, 17, 8), "sound": (18, 18, 20),
     "keys": (39, 39, 39)}
 # What keys.c waits for: a second each, with SHIFT and CTRL for those after them.
