@@ -16,6 +16,8 @@ expected ones. Then it runs as
   c65c02     made by examples/c/build for a 65C02, on the second processor
   c6502      made by examples/c/build for a 6502, on the second processor
   chost      made by examples/c/build --host, on the host alone
+  os         made by examples/c/build --disc, with the operating system of system/, on the host
+  ostube     that very file, on the second processor
 
 A line reports each program that differs or is skipped: what cc65 refuses, what sim65 does not end
 within 200,000,000 cycles (as cc65's own tests have it), what is larger than memory. The status is 0
@@ -33,7 +35,8 @@ TOP = os.path.dirname(os.path.dirname(os.path.realpath(__file__)))
 EXECUTE = [sys.executable, "-B", os.path.join(TOP, "tools", "execute")]
 BUILD = os.path.join(TOP, "examples", "c", "build")
 WAYS = {"sim65c02": ("sim65c02", []), "sim6502": ("sim6502", []), "host": ("sim6502", ["--host"]),
-        "c65c02": ("sim65c02", []), "c6502": ("sim6502", []), "chost": ("sim6502", ["--host"])}
+        "c65c02": ("sim65c02", []), "c6502": ("sim6502", []), "chost": ("sim6502", ["--host"]),
+        "os": ("sim6502", ["--os"]), "ostube": ("sim6502", ["--os", "--tube"])}
 CYCLES = "200000000"
 
 
@@ -64,7 +67,7 @@ def wanted(source, target, option, folder):
     status, out, err = called(["sim65", "-x", CYCLES, made], folder, "sim65")
     if "Maximum number of cycles" in err or "Illegal opcode" in err:
         raise Passed("sim65: " + first_line(err))
-    return made, status, out
+    return made, status, out, err.encode()
 
 
 class Case:
@@ -91,10 +94,13 @@ class Case:
         name = "%s %s %s" % (os.path.basename(self.source), self.option, way)
         target, words = WAYS[way]
         try:
-            made, status, out = self.wanted(target)
-            if way.startswith("c"):
+            made, status, out, err = self.wanted(target)
+            if way[0] == "o":
+                out += err              # the operating system has no standard error
+            if way[0] in "co":
                 made = os.path.join(self.folder, way)
-                build = [BUILD] + (["--host"] if way == "chost" else ["--cpu", "65C02" if way == "c65c02" else "6502"])
+                build = [BUILD] + (["--disc"] if way[0] == "o" else ["--host"] if way == "chost"
+                    else ["--cpu", "65C02" if way == "c65c02" else "6502"])
                 failed, _, err = called(build + [self.option, "-I", os.path.dirname(self.source), made, os.path.basename(self.source)], self.folder, "build")
                 if failed:
                     raise Passed("build: " + first_line(err))

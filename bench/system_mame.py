@@ -102,7 +102,7 @@ def mame(folder, keys, seconds, language, discs=(), tube=None):
         "-nvram_directory", "nvram", *words, "-video", "none", "-sound", "none", "-nothrottle",
         "-skip_gameinfo", "-seconds_to_run", str(int(seconds) + 5), "-autoboot_script", "look.lua",
         "-autoboot_delay", "0"], cwd=folder, env={**os.environ, "SDL_VIDEODRIVER": "dummy"},
-        stdout=subprocess.PIPE, stderr=subprocess.STDOUT, timeout=600)
+        stdout=subprocess.PIPE, stderr=subprocess.STDOUT)
     if not os.path.exists(os.path.join(folder, "memory")):
         raise SystemExit("system_mame: MAME left no memory:\n"
             + done.stdout.decode("utf-8", "replace"))

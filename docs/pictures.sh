@@ -31,10 +31,7 @@ for mode in 0 1 2 3 4 5 6 7; do picture "screen.00$mode.ppm" "mode$mode.png"; do
 "$top/beebtube" run 24000000 hello --os os --tube tube --font font --keys hello.keys
 picture hello.000.ppm hello.png
 
-"$top/beebtube" asm 6502 "$top/examples/where.asm" WHERE
-echo 'WHERE 002000 002000' >WHERE.inf
-printf '*CAT\r*WHERE\rR\r' >'!BOOT'
-"$top/tools/catalogue" --make where.ssd --title 'Either side' '!BOOT' WHERE
+"$top/examples/where.sh"
 printf 'at 0 down 00\nat 16000000 shot\n' >where.keys
 also=(--keys where.keys --disc0 where.ssd)
 "$top/tools/words" "$top/system/system.set" >own.words

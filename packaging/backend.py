@@ -20,7 +20,7 @@ FILES = [
     ("VERSION", ""), ("docs/help.txt", "docs"), ("release/*", "release"), ("tools/start.py", "tools"),
     ("system/system.set", "system"), ("system/built/*.rom", "system/built"),
 ] + [("examples/c/" + name, "examples/c") for name in (
-    "arguments.s", "boot.asm", "build", "disc.cfg", "disc.s", "host.asm", "host.cfg", "io.s", "language.asm", "para.cfg", "sim65.asm",
+    "arguments.s", "boot.asm", "build", "disc.cfg", "disc.h", "disc.s", "host.asm", "host.cfg", "io.s", "language.asm", "para.cfg", "sim65.asm",
     "start.s", "tube.h")]
 
 

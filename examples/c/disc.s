@@ -1,10 +1,13 @@
 ; Start-up code, files and console of C programs that are *RUN from a disc, by calls of the operating system. Such a
-; program comes back to its caller with RTS. An error of the system ends it, unless it takes BRKV.
+; program comes back to its caller with RTS. An error of the system ends it, unless it takes BRKV; an
+; error while a file is opened is ENOENT.
 
         .export         _exit, __STARTUP__ : absolute = 1
         .export         _open, _close, _read, _write, _lseek, __sysremove, __osmaperrno
-        .export         _clrscr, _gotoxy, gotoxy, _wherex, _wherey, _cputc, _cputcxy, _cgetc, _kbhit
-        .export         _textcolor, _bgcolor
+        .export         _clrscr, _gotoxy, gotoxy, _gotox, _gotoy, _wherex, _wherey, screensize
+        .export         _cputc, _cputcxy, _cgetc, _kbhit
+        .export         _textcolor, _bgcolor, _bordercolor, _revers
+        .export         _chline, _chlinexy, _cvline, _cvlinexy, _cclear, _cclearxy, _clock
         .constructor    initmainargs, 24
         .import         zerobss, initlib, donelib, callmain, __argc, __argv
         .import         popa, popax, popeax, addysp, __directerrno
@@ -12,6 +15,7 @@
         .include        "errno.inc"
         .include        "fcntl.inc"
 
+BRKV    := $0202
 OSFIND  := $FFCE
 OSBPUT  := $FFD4
 OSBGET  := $FFD7
@@ -30,6 +34,7 @@ block:  .res    5                       ; of OSARGS, and of OSWORD 5
 
         .bss
 stack:  .res    1
+kept:   .res    1
 text:   .res    256                     ; the command's text, of which the arguments are parts
 path:   .res    256                     ; a file's name
 words:  .res    2*WORDS+2
@@ -166,8 +171,7 @@ _open:  cpy     #4
         beq     find
         lda     #$C0
         ldx     #<path
-        jsr     OSFIND
-        tay
+        jsr     osfind
         bne     opened
         lda     tmp1
         and     #O_CREAT
@@ -175,8 +179,7 @@ _open:  cpy     #4
 new:    lda     #$80
 find:   ldx     #<path
         ldy     #>path
-        jsr     OSFIND
-        tay
+        jsr     osfind
         beq     none
 opened: lda     tmp1
         and     #O_APPEND
@@ -192,6 +195,34 @@ opened: lda     tmp1
 none:   lda     #ENOENT
         jmp     __directerrno
 
+; OSFIND, with the file in Y. An error of the system gives 0 too.
+osfind: sta     tmp2
+        lda     BRKV
+        pha
+        lda     BRKV+1
+        pha
+        lda     #<error
+        sta     BRKV
+        lda     #>error
+        sta     BRKV+1
+        stx     tmp3
+        tsx
+        stx     kept
+        ldx     tmp3
+        lda     tmp2
+        jsr     OSFIND
+found:  tay
+        pla
+        sta     BRKV+1
+        pla
+        sta     BRKV
+        tya
+        rts
+error:  ldx     kept
+        txs
+        lda     #0
+        beq     found
+
 ; int close (int file)
 _close: cmp     #3
         bcc     :+
@@ -204,6 +235,12 @@ _close: cmp     #3
 
 ; int read (int file, void* buffer, unsigned count): from the keyboard a line at most
 _read:  jsr     parameters
+        ldx     tmp1
+        beq     get
+        lda     #127                    ; at its end OSBGET would be an error
+        jsr     OSBYTE
+        txa
+        bne     told
 get:    jsr     left
         beq     told
         ldy     tmp1
@@ -343,13 +380,12 @@ _clrscr:
 ; void gotoxy (unsigned char x, unsigned char y)
 gotoxy: jsr     popa
 _gotoxy:
-        sta     tmp1
-        lda     #31
-        jsr     OSWRCH
+        pha
         jsr     popa
-        jsr     OSWRCH
-        lda     tmp1
-        jmp     OSWRCH
+        tax
+        pla
+        tay
+        jmp     at
 _wherex:
         jsr     where
         txa
@@ -383,15 +419,134 @@ _kbhit: lda     #128
         lda     #1
 :       ldx     #0
         rts
+; There is no border.
+_bordercolor:
+        lda     #0
+        tax
+        rts
+; unsigned char textcolor (unsigned char color), and the like: each gives what was there before.
 _textcolor:
+        ldx     #0
+        beq     colour
+_bgcolor:
+        ldx     #1
+        bne     colour
+_revers:
+        ldx     #2
+colour: ldy     colours,x
+        sta     colours,x
+        tya
         pha
+        ldx     #0                      ; if they are reversed, the text has the second
+        lda     colours+2
+        beq     :+
+        inx
+:       lda     colours,x
+        jsr     vdu17
+        txa
+        eor     #1
+        tax
+        lda     colours,x
+        ora     #128
+        jsr     vdu17
+        pla
+        ldx     #0
+        rts
+vdu17:  pha
         lda     #17
         jsr     OSWRCH
         pla
+        jmp     OSWRCH
+        .data
+colours:
+        .byte   7, 0, 0
+        .code
+_gotox: pha
+        jsr     where
+        pla
+        tax
+        bpl     at
+_gotoy: pha
+        jsr     where
+        pla
+        tay
+; The cursor goes to X and Y.
+at:     lda     #31
         jsr     OSWRCH
-        lda     #7                      ; (the one before is not known)
-        ldx     #0
+        txa
+        jsr     OSWRCH
+        tya
+        jmp     OSWRCH
+; The columns and lines of the text window, in X and Y.
+screensize:
+        lda     #160
+        ldx     #8                      ; left and bottom
+        jsr     OSBYTE
+        stx     tmp1
+        sty     tmp2
+        lda     #160
+        ldx     #10                     ; right and top
+        jsr     OSBYTE
+        inx
+        txa
+        sec
+        sbc     tmp1
+        tax
+        sty     tmp1
+        ldy     tmp2
+        iny
+        tya
+        sec
+        sbc     tmp1
+        tay
         rts
-_bgcolor:
-        ora     #128
-        jmp     _textcolor
+; void chline (unsigned char length), and the like
+_cclearxy:
+        pha
+        jsr     gotoxy
+        pla
+_cclear:
+        ldx     #' '
+        bne     line
+_chlinexy:
+        pha
+        jsr     gotoxy
+        pla
+_chline:
+        ldx     #'-'
+line:   tay
+        beq     drawn
+:       txa
+        jsr     OSWRCH
+        dey
+        bne     :-
+drawn:  rts
+_cvlinexy:
+        pha
+        jsr     gotoxy
+        pla
+_cvline:
+        tay
+        beq     drawn
+:       lda     #'|'
+        jsr     OSWRCH
+        lda     #8                      ; to the left and down
+        jsr     OSWRCH
+        lda     #10
+        jsr     OSWRCH
+        dey
+        bne     :-
+        rts
+
+; clock_t clock (void): TIME
+_clock: lda     #1
+        ldx     #<file
+        ldy     #>file
+        jsr     OSWORD
+        lda     file+2
+        sta     sreg
+        lda     file+3
+        sta     sreg+1
+        ldx     file+1
+        lda     file
+        rts

@@ -62,7 +62,7 @@ int main(void)
     on(2);
     osbyte(153, 0, 'Q');
     frames(1);
-    check("2: a character enters a buffer", count[2] == 1 && ys[2] == 'Q');
+    check("2: a character enters a buffer", count[2] == 1 && xs[2] == 0 && ys[2] == 'Q');
     off(2);
     on(1);
     for (at = 0; at < 31; ++at)
@@ -118,6 +118,7 @@ int main(void)
     } else {
         os(0xFFBF, 1, 2, 9);
         check("OSEVEN: C is clear", !carry && count[9] == 1);
+        check("OSEVEN: X stays, A comes in Y", xs[9] == 2 && ys[9] == 1);
         off(9);
         os(0xFFBF, 1, 2, 9);
         check("OSEVEN of one that is off: C is set", carry && count[9] == 1);

@@ -72,8 +72,18 @@ int main(int argc, char* argv[])
     check("OSFILE 6 deletes", r.a == 1);
     with(0xFFDD, 5, block);
     check("OSFILE 5: it is gone", r.a == 0);
+    gbpb(5, 0, back, 0, 0);
+    check("OSGBPB 5: a title, and option 3", back[0] <= 12 && back[back[0] + 1] == 3);
+    gbpb(6, 0, back, 0, 0);
+    check("OSGBPB 6: drive and directory", !memcmp(back, "\1" "0\1$", 4));
+    gbpb(7, 0, back, 0, 0);
+    check("OSGBPB 7: the library's", !memcmp(back, "\1" "0\1$", 4));
+    memset(back, 0, 40);
+    check("OSGBPB 8: two names, and no third", gbpb(8, 0, back, 3, 0) && *(unsigned*)(block + 5) == 1
+        && back[0] == 7 && back[8] == 7 && back[16] == 0);
     text = fopen("STDIO", "w");
     check("fopen to write", text != NULL);
+    check("fopen of a name that is an error", fopen(":9.X", "r") == NULL && fopen(":9.X", "w") == NULL);
     fprintf(text, "line %d\nlast\n", 1);
     fclose(text);
     text = fopen("STDIO", "r");
@@ -82,6 +92,9 @@ int main(int argc, char* argv[])
     check("fseek and ftell", ftell(text) == 7 && fgets((char*)back, 20, text) && !strcmp((char*)back, "last\n"));
     check("the end", fgetc(text) == EOF && feof(text));
     fclose(text);
+    file = open("STDIO", O_RDONLY);
+    check("read up to the end, and at it", read(file, back, 40) == 12 && !read(file, back, 1) && !read(file, back, 1));
+    close(file);
     check("remove", remove("STDIO") == 0 && fopen("STDIO", "r") == NULL);
     ended("FILES");
     return 0;

@@ -67,6 +67,12 @@ int main(void)
     check("160: the text window's left and bottom", r.x == 0 && r.y == 24);
     osbyte(200, 1, 0);
     check("200 gives 0 before", r.x == 0);
+    osbyte(153, 0, 27);
+    osbyte(126, 0, 0);
+    check("200 with 1: the key of ESCAPE does nothing", r.x == 0);
+    osbyte(125, 0, 0);
+    osbyte(126, 0, 0);
+    check("200 with 1: 125 sets ESCAPE", r.x == 255);
     osbyte(200, 0, 0);
     check("200 gives 1 before", r.x == 1);
     check("235: no speech processor", variable(235) == 0);

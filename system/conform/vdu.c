@@ -1,6 +1,7 @@
 #include "conform.h"
 
 static unsigned char point[5], palette[5], status;
+static int ends[4];
 
 static unsigned char colour_at(int x, int y)
 {
@@ -115,6 +116,15 @@ int main(void)
     plot(0, 20, 0);
     plot(65, 8, 8);
     check("25: points beside the last", colour_at(428, 408) == 3);
+    codes("\x12\0\x80", 3);
+    plot(4, 304, 700);
+    plot(5, 304, 720);
+    plot(4, 800, 700);
+    plot(5, 800, 720);
+    plot(77, 600, 712);
+    osword(13, ends);
+    check("77: a line up to others", colour_at(312, 712) == 3 && colour_at(792, 712) == 3 && colour_at(808, 712) == 0);
+    check("OSWORD 13: the ends of that line", ends[0] == 312 && ends[1] == 712 && ends[2] == 792 && ends[3] == 712);
     codes("\x13\x01\x06\0\0\0", 6);
     palette[0] = 1;
     osword(11, palette);

@@ -666,7 +666,7 @@ sides:  PHA
         DEX
         BPL :-
         BMI @more
-@fill:  LDX #1                  ; the cursor goes to the right end
+@fill:  LDX #1                  ; the cursor goes to the right end, and before it to the left one
 :       LDA xb,X
         STA new,X
         DEX
@@ -709,19 +709,16 @@ sides:  PHA
 @out:   LDA #1
         RTS
 @keep:  LDX #3                  ; cur in units follows
-:       LDA cur,X
-        PHA
-        LDA new,X
+:       LDA new,X
         STA cur,X
         DEX
         BPL :-
         JSR ext_from_cur
-        LDX #0
-:       PLA
+        LDX #1
+:       LDA xa,X
         STA cur,X
-        INX
-        CPX #4
-        BNE :-
+        DEX
+        BPL :-
         RTS
 
 ; The logical colour of the byte A of eight dots.

@@ -109,7 +109,7 @@ vbit:   .byte $40
 
 ; --- Events ---
 
-; OSEVEN: event Y, if it is on: EVNTV gets it in A, with this A in X and this X in Y.
+; OSEVEN: event Y, if it is on: EVNTV gets it in A, with this A in Y and this X.
 oseven: PHP
         SEI
         PHA
@@ -124,11 +124,9 @@ oseven: PHP
         PHA
         TXA
         PHA
-        STX irq_ptr+1
         TYA
         PHA
-        LDX irq_ptr
-        LDY irq_ptr+1
+        LDY irq_ptr
         JSR @go
         PLA
         TAY
@@ -188,8 +186,14 @@ tick:   LDX timer_switch        ; the clock that is not being read goes on
         JSR go_key
         JSR sound_tick
         LDA printer_on
-        BNE :+
-        JSR print_start
+        BEQ :+
+        LDA printer             ; a driver that is active has its turn
+        CMP #1
+        BEQ :++
+        LDA #0
+        JSR printer_call
+        JMP :++
+:       JSR print_start
 :       BIT ADC0                ; a conversion whose end was not told
         BMI :+
         JMP converted_late
@@ -592,28 +596,18 @@ insert_checked:
         EOR escape_char
         ORA escape_key
         BNE @plain
-        LDA events+6
-        BEQ :+
-        TXA
+        LDA break_effect        ; *FX 200,1: the key does nothing
+        LSR A
+        BCS @off
         LDY #6
         JSR oseven
-        CLC
-        RTS
-:       JMP escape_set
-@plain: TYA
-        PHA
-        TXA
-        PHA
-        TXA                     ; event 2: a character enters the buffer
-        PHA
-        TYA
-        TAX
-        PLA
+        BCC @end
+        JMP escape_set
+@off:   CLC
+@end:   RTS
+@plain: TYA                     ; event 2: a character enters the buffer
         LDY #2
         JSR oseven
-        PLA
-        TAX
-        PLA
 insert: JMP (INSV)
 
 ; --- Buffers: 0 keyboard, 1 and 2 RS423, 3 printer, 4 to 7 sound, 8 speech ---
@@ -660,14 +654,8 @@ insv:   PHP
         BCS :+
         PLA                     ; event 1: an input buffer is full
         PHA
-        STA irq_ptr
-        TXA
-        PHA
-        LDX irq_ptr
         LDY #1
         JSR oseven
-        PLA
-        TAX
 :       PLA
         PLP
         SEC
@@ -698,7 +686,6 @@ remv:   PHP
         CPX #2
         BCC @more
         LDY #0                  ; event 0: an output buffer is empty
-        TXA
         JSR oseven
 @more:  PLA
         TAY
@@ -752,7 +739,6 @@ converted_late:
         LDA ADCH
         STA adc_high-1,X
         STX adc_last
-        TXA
         LDY #3
         JSR oseven
         LDX adc_now

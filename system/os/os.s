@@ -143,7 +143,7 @@ reset:  LDA #$40                ; RTI, for an NMI that comes early
         STA sound_busy
         LDA start_flag
         PHA
-        LDA #0
+        LDA #$80                ; a paged ROM may clear bit 7: no first line
         STA start_flag
         JSR sound_init
         LDA #$7F                ; the 6522s
@@ -206,6 +206,8 @@ reset:  LDA #$40                ; RTI, for an NMI that comes early
 @no_tube:
         LDA #$01                ; flag Q off again
         STA TUBE
+        BIT start_flag
+        BPL @shown
         LDA break_type
         PHA
         JSR print
@@ -582,27 +584,39 @@ print_char:
         CLI
         PLP
         JMP @wait
-@in:    LDA printer
-        CMP #1
-        BEQ @end
-        TAY                     ; UPTV: a character waits
-        LDA #1
-        LDX #3
-        JSR @user
-@end:   RTS
-@user:  JMP (UPTV)
-; UPTV without a routine of the user's: printer 3 is the latch on the 1 MHz bus, others drop what comes.
-uptv:   CMP #1
+@in:    LDA printer_on          ; a driver that is active takes it later
         BNE @end
+        LDA #1
+        CMP printer
+        BEQ @end                ; the clock begins with printer 1
+        PHP
+        SEI                     ; the driver's next turn comes after this
+        STA printer_on
+        JSR printer_call
+        BCC :+
+        JSR osbyte_123          ; C: it stays dormant
+:       PLP
+@end:   RTS
+; UPTV for printer Y, with the reason A: 0 the driver is active and has its turn, each hundredth of
+; a second; 1 a character waits, and the driver becomes active; 2 and 3 VDU 2 and 3; 5 OSBYTE 5.
+printer_call:
+        LDX #3
+        LDY printer
+        JMP (UPTV)
+; Without a routine of the user's printer 3 is the latch on the 1 MHz bus, and others drop what comes.
+uptv:   CMP #2
+        BCS @end
 @next:  LDX #3
         CLV
         JSR remove
-        BCS @end
+        BCS @empty
         LDY printer
         CPY #3
         BNE @next
         STA LATCH
         JMP @next
+@empty: CLC
+        JMP osbyte_123
 @end:   RTS
 
 osrdch: TXA
@@ -615,18 +629,8 @@ osrdch: TXA
         BPL :+
         LDA #6
         JSR @net
-:       LDY exec
-        BEQ @key
-        JSR OSBGET
-        BCC @got
-        LDA #0
-        STA exec
-        JSR OSFIND              ; the file ends
-        JMP @again
-@key:   LDX input_source
-        JSR take_char
+:       JSR next_char
         BCS @again
-@got:
         STA os_temp
         PLA
         TAY
@@ -644,6 +648,17 @@ osrdch: TXA
         SEC
         RTS
 @net:   JMP (NETV)
+
+; A character of the *EXEC file, or else of the input. C is set if there is none yet.
+next_char:
+        LDY exec
+        BEQ @key
+        JSR OSBGET
+        BCC @end
+        JSR exec_close
+@key:   LDX input_source
+        JMP take_char
+@end:   RTS
 
 ; A character of input buffer X, after function keys and cursor keys. C is set if there is none.
 take_char:

@@ -106,7 +106,15 @@ osbyte_4:
         BNE swap
 osbyte_5:
         LDY #printer-variables
-        BNE swap
+        JSR swap
+        TXA
+        PHA
+        JSR osbyte_123
+        LDA #5
+        JSR printer_call
+        PLA
+        TAX
+        RTS
 osbyte_6:
         LDY #printer_skip-variables
         BNE swap
@@ -223,17 +231,23 @@ osbyte_118:
         LDX key_status
         RTS
 osbyte_119:
+        LDX #$10
+        JSR service             ; a paged ROM may forbid it
+        CPX #0
+        BEQ no_exec
         LDA #0
         LDY spool
-        BEQ :+
+        BEQ exec_close
         STA spool
         JSR OSFIND
-:       LDA #0
+exec_close:
+        LDA #0
         LDY exec
-        BEQ :+
+        BEQ no_exec
         STA exec
         JSR OSFIND
-:       RTS
+no_exec:
+        RTS
 osbyte_120:
         STX key_last
         STY key_before
@@ -285,7 +299,7 @@ osbyte_126:
         BNE :+
         LDA #0
         STA page_lines
-        JSR osbyte_119
+        JSR exec_close
         LDX #0
         JSR osbyte_15
 :       LDX #$FF
@@ -342,8 +356,7 @@ osbyte_129:
         CLI
 @wait:  BIT escape
         BMI @escape
-        LDX input_source
-        JSR take_char
+        JSR next_char
         BCC @got
         LDA inkey+1             ; the high byte first: an interrupt between these may borrow from it
         ORA inkey

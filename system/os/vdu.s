@@ -84,9 +84,13 @@ vdu_low:  .lobytes VDU_TABLE
 vdu_high: .hibytes VDU_TABLE
 
 v_printer_on:
+        LDA #2
+        JSR printer_call
         LDA #$01
         BNE status_set
 v_printer_off:
+        LDA #3
+        JSR printer_call
         LDA #$FE
         BNE status_clear
 v_page_on:
@@ -1258,6 +1262,8 @@ explode:
         INX
         BNE @block
 @done:  STY hwm
+        LDX #$11                ; paged ROMs hear of it
+        JSR service
         LDX hwm
         RTS
 font_rom:   .byte >font, >font+1, >font+2, >user_font, >user_font, >user_font, >user_font

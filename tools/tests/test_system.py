@@ -107,6 +107,30 @@ class Start(unittest.TestCase):
     def test_the_prompt(self):
         self.assertEqual(screen(started()), ["beebtube 32K", "Monitor", ">"])
 
+    def test_a_paged_rom_takes_the_first_line_away(self):
+        """OSBYTE 215 in service call 1."""
+        source = """
+        org &8000
+        byte 0, 0, 0
+        JMP served
+        byte &82, 10, 1, 83, 0, 40, 67, 41, 0
+served: CMP #1
+        BNE other
+        TYA
+        PHA
+        LDA #215
+        LDX #0
+        LDY #127
+        JSR &FFF4
+        PLA
+        TAY
+        LDX &F4
+        LDA #1
+other:  RTS
+"""
+        served = beebtube.asm("6502", source.encode()).ljust(8192)
+        self.assertEqual(screen(started(1, rom14=served)), ["Monitor", ">"])
+
     def test_no_language(self):
         run = beebtube.host(2 * SECOND, os=OS, font=FONT)
         self.assertEqual(screen(run), ["beebtube 32K", "Language?"])
@@ -441,6 +465,28 @@ past:   LDA #0
         run = started(1, language=rom(b"", source))
         self.assertTrue(run.host[0x2080] & 0x40)
 
+    def test_service_calls_10_and_11(self):
+        """A paged ROM forbids OSBYTE 119 to close files, and hears of OSBYTE 20's new OSHWM."""
+        source = """
+        org &8000
+        byte 0, 0, 0
+        JMP served
+        byte &82, 10, 1, 83, 0, 40, 67, 41, 0
+served: CMP #&10
+        BEQ closes
+        CMP #&11
+        BNE other
+        STY &2200
+other:  RTS
+closes: LDA #0
+        RTS
+"""
+        asked = (byte(198, 9), byte(119), byte(198, 0, 255), byte(20, 6))
+        served = beebtube.asm("6502", source.encode()).ljust(8192)
+        for more, exec_file, hwm in ((dict(rom14=served), 9, 0x14), (dict(), 0, 0)):
+            self.assertEqual(self.x_of(*asked, **more)[2:], [exec_file, 0x14])
+            self.assertEqual(self.run.host[0x2200], hwm)
+
 
 class Commands(unittest.TestCase):
     def said(self, text, seconds=6.0, **more):
@@ -709,6 +755,51 @@ class Hardware(unittest.TestCase):
             for code in b"\x02Hi\r\n\x1f\x05\x06x\x03no\x01y\x02\x01z\x15\x03")
         run = started(1, language=rom(b"", source), plugs=2)
         self.assertEqual(run.plugs[1], b"Hi\rxz")
+
+    def test_the_users_printer(self):
+        """UPTV's reasons; the driver takes a byte at each turn, and is dormant after the last."""
+        wait = "        LDX #6\n%s:   TXA\n        PHA\n        LDA #19\n        JSR &FFF4\n" \
+            "        PLA\n        TAX\n        DEX\n        BNE %s\n"
+        printed = ["        LDA #%d\n        JSR &FFEE\n" % code for code in b"\x02Hix\x03"]
+        source = """
+        LDA #<mine
+        STA &0222
+        LDA #>mine
+        STA &0223
+        LDA #5
+        LDX #4
+        JSR &FFF4
+%s      JMP past
+mine:   CPX #3
+        BNE over
+        CPY #4
+        BNE over
+        CMP #0
+        BEQ turn
+        LDX &2280
+        STA &2281,X
+        INC &2280
+over:   CLC
+        RTS
+turn:   INC &2290
+        LDX #3
+        CLV
+        JSR remove
+        BCS empty
+        LDX &2291
+        STA &2292,X
+        INC &2291
+        RTS
+empty:  LDA #123
+        LDX #3
+        JMP &FFF4
+remove: JMP (&022C)
+past:   LDA #0
+""" % ("".join(printed[:3]) + wait % ("first", "first") + printed[3] + wait % ("second", "second")
+            + printed[4])
+        run = started(1, language=rom(b"", source))
+        self.assertEqual((run.host[0x2280:0x2286], run.host[0x2290:0x2295]),
+            (bytes([5, 5, 2, 1, 1, 3]), bytes([5, 3]) + b"Hix"))
 
     def test_events_and_timers(self):
         # The interval timer ends after five hundredths: event 5; vertical sync is event 4.
