@@ -8,7 +8,8 @@ Its levels are those right before.
 from __future__ import annotations
 
 from fractions import Fraction
-from itertools import compress
+from itertools import compress, islice
+from operator import sub
 from typing import Dict, Iterator, List, NamedTuple, Optional, Tuple
 
 from .faults import Fault
@@ -94,15 +95,16 @@ BEGIN, END, END_READ, IDLE, RESET_BEGIN, RESET_END = range(6)
 Rule = Tuple[Tuple[int, _Side], ...]
 
 
-class _Rules(Dict[Tuple[int, int, int], Rule]):
-    """What a moment is, by the lines that are active right before and right after it, and the
-    selects that count."""
+class _Rules(Dict[Tuple[int, int, int], int]):
+    """The number in `rules` of what a moment is, by the lines that are active right before and
+    right after it, and the selects that count."""
 
     def __init__(self, sides: List[_Side], bit: Dict[str, int]):
         super().__init__()
         self._sides, self._bit = sides, bit
+        self.rules: List[Rule] = [()]
 
-    def __missing__(self, key: Tuple[int, int, int]) -> Rule:
+    def __missing__(self, key: Tuple[int, int, int]) -> int:
         before, after, selects = key
         changed, reset = before ^ after, self._bit.get(RESET, 0)
         rule: List[Tuple[int, _Side]] = []
@@ -118,8 +120,18 @@ class _Rules(Dict[Tuple[int, int, int], Rule]):
             elif ended and not after & reset:
                 is_read = not side.is_clocked and ended & before & bits[0]
                 rule.append((END_READ if is_read else END, side))
-        self[key] = tuple(rule)
+        if tuple(rule) not in self.rules:
+            self.rules.append(tuple(rule))
+        self[key] = self.rules.index(tuple(rule))
         return self[key]
+
+    def marks(self, kinds: bytes, whats: Tuple[int, ...], side: Optional[_Side] = None) -> bytes:
+        """For each moment 1 if it is one of these edges of a side, or of any, else 0."""
+        table = bytes(
+            any(what in whats and side in (None, whose) for what, whose in rule)
+            for rule in self.rules
+        )
+        return kinds.translate(table.ljust(256, b"\0"))
 
 
 class Bus:
@@ -240,15 +252,16 @@ class Bus:
     def _accesses(self, moments: Moments) -> List[Captured]:
         times, levels, before, after = moments
         before, after, selects = self._calm(times, before, after)
-        rules = list(map(self._rules.__getitem__, zip(before, after, selects)))
+        kinds = bytes(map(self._rules.__getitem__, zip(before, after, selects)))
+        rules, marks = self._rules.rules, self._rules.marks
+        begins = {side: marks(kinds, (BEGIN,), side) for side in self._sides}
         found: List[Captured] = []
-        there = compress(times, rules), compress(levels, rules), filter(None, rules)
-        for time, level, rule in zip(*there):
-            for what, side in rule:
-                if what == BEGIN:
-                    side.begin = time
-                elif what == IDLE:
-                    side.idle += 1
+        ends = marks(kinds, (END, END_READ, RESET_BEGIN, RESET_END))
+        for at in compress(range(len(kinds)), ends):
+            time = times[at]
+            for what, side in rules[kinds[at]]:
+                if what == BEGIN or what == IDLE:
+                    pass
                 elif what == RESET_END:
                     if self.zero is None:
                         self.zero = time
@@ -260,25 +273,27 @@ class Bus:
                     self.ringing += 1
                 else:
                     side.last, side.count = time, side.count + 1
-                    is_read = what == END_READ
+                    is_read, level = what == END_READ, levels[at]
                     access = side.known[is_read].get(level & side.mask)
                     if access is None:
                         try:
                             access = side.access(level, is_read)
                         except Fault as fault:
                             raise Fault("%s: %s" % (self.reader.place(time), fault)) from None
-                    found.append(Captured._make(access + (side.begin, time, 0)))
+                    first = begins[side].rfind(1, 0, at)
+                    begin = times[first] if first >= 0 else side.begin
+                    found.append(Captured._make(access + (begin, time, 0)))
+        for side, places in begins.items():
+            side.begin = times[places.rfind(1)] if 1 in places else side.begin
+            side.idle += marks(kinds, (IDLE,), side).count(1)
         return found
 
     # The active lines before and after each moment without the pulses that are passed over, and
     # those whose selects count: of moments near each other those before the first.
     def _calm(self, times: List[int], before: bytes, after: bytes) -> Tuple[bytes, bytes, bytes]:
         quiet = self._quiet
-        near = [
-            at
-            for at, (time, following) in enumerate(zip(times, times[1:]), 1)
-            if following - time < quiet
-        ]
+        gaps = map(sub, islice(times, 1, None), times)
+        near = list(compress(range(1, len(times)), map(quiet.__gt__, gaps)))
         if not near:
             return before, after, before
         calm = bytearray(before), bytearray(after), bytearray(before)

@@ -8,7 +8,7 @@ they end is taken, unless only the other one explains the answers.
 """
 from __future__ import annotations
 
-from typing import Iterable, Iterator, List, NamedTuple, Optional, Tuple, Union
+from typing import Iterable, Iterator, List, NamedTuple, Optional, Set, Tuple, Union
 
 from .bus import Captured
 
@@ -276,6 +276,8 @@ class Judge:
         self._skew = skew
         self._orders = [_Order(Known(sides, is_new))]
         self._given = 0
+        # Status reads that are right and change nothing, as long as nothing else is done.
+        self._polls: Set[Tuple[object, ...]] = set()
 
     def ordered(self, found: Iterable[Captured]) -> Iterator[Captured]:
         """The accesses in the order in which they came to the chip."""
@@ -313,13 +315,21 @@ class Judge:
 
     def _put_alone(self, one: Captured) -> None:
         self._given += 1
-        is_checked, answer = self._put(self._orders[0].known, one)
+        if one[:4] in self._polls:
+            self.answers, self.checked = self.answers + 1, self.checked + 1
+            return
+        mask, answer = self._put(self._orders[0].known, one)
         self.answers += one.way == "R"
-        self.checked += is_checked
+        self.checked += mask != 0
+        if mask == 255 and answer is None and one.register % 2 == 0:
+            self._polls.add(one[:4])
+        else:
+            self._polls.clear()
         if answer is not None:
             self.wrong.append(Wrong(self._given, one, answer))
 
     def _take(self, one: Captured, following: Optional[Captured]) -> Iterator[Captured]:
+        self._polls.clear()
         if one.way == "R":
             self.answers += 1
             self.checked += self._orders[0].known.copy().answer(one.side, one.register)[1] != 0
@@ -332,9 +342,9 @@ class Judge:
             self._orders = settled[:1]
             yield from self._give(settled[0])
 
-    # Does an access; whether its answer could have been wrong, and the one that the chip might have
-    # given if it is.
-    def _put(self, known: Known, one: Captured) -> Tuple[bool, Optional[int]]:
+    # Does an access; which bits of its answer could have been wrong, and the answer that the chip
+    # might have given if it is.
+    def _put(self, known: Known, one: Captured) -> Tuple[int, Optional[int]]:
         side, way, register, byte, _, _, _ = one
         wrong, mask = None, 0
         if way == "R":
@@ -344,7 +354,7 @@ class Judge:
         known.put(side, way, register, byte)
         if wrong is not None and not is_of_unused_bits(one, wrong):
             known.forget(side, register)
-        return mask != 0, wrong
+        return mask, wrong
 
     def _ways_on(self, order: _Order, one: Captured, may_turn: bool) -> List[_Order]:
         ways = []
