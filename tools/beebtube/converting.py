@@ -84,14 +84,14 @@ def _print(capture: Capture, out: str) -> int:
     said = said_of_check(out) if is_whole and is_plain(out) else []
     if judge.wrong:
         _print_wrong(capture)
-    elif said:
-        print("\n".join(said))
-    elif judge.checked:
-        answers = counted(judge.answers, "answer")
-        print(f"ok as far as can be seen: {judge.checked} of {answers} checked")
-    else:
+    elif not judge.checked and len(said) < 2:
         why = "no answer can be checked" if judge.answers else "there is no answer"
         raise Fault(f"nothing can be said: {why}")
+    elif said:
+        print("\n".join(said))
+    else:
+        answers = counted(judge.answers, "answer")
+        print(f"ok as far as can be seen: {judge.checked} of {answers} checked")
     return 8 if judge.wrong or len(said) > 1 else 0
 
 
