@@ -15,7 +15,7 @@ use Rattle.cpu_core.specs.State.{State}
 use Rattle.cpu_core.specs.Accesses.{row_at, form_of}
 use Rattle.cpu_core.specs.Sequences.{accesses, next_cycle, shown_byte, halts, halted, after_byte}
 use Rattle.law_machines.specs.Further.{further}
-use Rattle.law_machines.proofs.Lengths.{exact, fits}
+use Rattle.law_machines.proofs.LengthLemmas.{exact, fits}
 
 -- an opcode without an instruction is read again
 read_again : (o : Option Row) (r : Regs) (seen : List (Option ℕ)) → is_none o ≡ true → is_none (slice_get (Read r.pc ∷ form_of Nmos o r seen) 1) ≡ false

@@ -1,4 +1,4 @@
-pub mod Lengths
+pub mod LengthLemmas
 pub mod Counts
 pub mod HostTaking
 pub mod ParaTaking
@@ -9,4 +9,4 @@ pub mod RomIn
 pub mod Interrupting
 pub mod Shooting
 pub mod Breaking
-pub mod Resetting
+pub mod ResetLemmas

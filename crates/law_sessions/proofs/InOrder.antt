@@ -83,7 +83,7 @@ use Rattle.cmd_tools.specs.Check as tools_check
 use Rattle.follow.specs.declared.Choice.{Choice}
 use Rattle.cmd_top.specs.Plans.{plan, after, choice_of}
 use Rattle.cmd_top.specs.Commands.{EndsWith}
-use Rattle.law_sessions.proofs.Named.{first_named, causes_named}
+use Rattle.law_sessions.proofs.CauseLemmas.{first_named, causes_named}
 use Rattle.law_sessions.specs.Refusals.{first_of, unread_by, unread, misfit, bad_trace, other_clock, bad_script_by, bad_script, bad_state, bad_source, wrong_by}
 use Rattle.law_sessions.specs.Refusals.{differs_at, held, entries_in, events_by, events_in, host_at, trace_causes}
 use Rattle.law_sessions.specs.Refusals.{made_causes, replay_causes, follow_causes, bad_points_by, bad_points, pair_causes}

@@ -4,11 +4,11 @@ pub mod Goes
 pub mod Written
 pub mod Beginning
 pub mod Resumed
-pub mod Named
+pub mod CauseLemmas
 pub mod InOrder
-pub mod Moving
-pub mod OutputOptions
-pub mod Yielding
+pub mod ArgumentLemmas
+pub mod OutputLemmas
+pub mod YieldLemmas
 pub mod TraceFile
-pub mod Checked
-pub mod Replaying
+pub mod CheckLemmas
+pub mod ReplayLemmas

@@ -1,4 +1,4 @@
-use Rattle.law_sessions.proofs.Moving.{options_move}
+use Rattle.law_sessions.proofs.ArgumentLemmas.{options_move}
 use Rattle.law_sessions.proofs.options.options_move.Goals as goal
 
 pub returns : goal.returns

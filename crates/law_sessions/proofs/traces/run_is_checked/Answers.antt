@@ -1,4 +1,4 @@
-use Rattle.law_sessions.proofs.Checked.{run_checked}
+use Rattle.law_sessions.proofs.CheckLemmas.{run_checked}
 use Rattle.law_sessions.proofs.traces.run_is_checked.Goals as goal
 
 pub returns : goal.returns

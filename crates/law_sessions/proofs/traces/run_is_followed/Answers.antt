@@ -1,4 +1,4 @@
-use Rattle.law_sessions.proofs.Replaying.{run_followed}
+use Rattle.law_sessions.proofs.ReplayLemmas.{run_followed}
 use Rattle.law_sessions.proofs.traces.run_is_followed.Goals as goal
 
 pub returns : goal.returns

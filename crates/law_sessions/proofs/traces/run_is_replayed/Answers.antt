@@ -1,4 +1,4 @@
-use Rattle.law_sessions.proofs.Replaying.{run_replayed}
+use Rattle.law_sessions.proofs.ReplayLemmas.{run_replayed}
 use Rattle.law_sessions.proofs.traces.run_is_replayed.Goals as goal
 
 pub returns : goal.returns

@@ -1,5 +1,6 @@
 -- No cause is lack of memory: the meaning of a text, of a session file and of a source never is.
-use Rattle.std.proofs.Common.{◌≡◌, refl, ℕ, zero, suc, ◌+◌, ◌==◌, ◌&&◌, nat_lt, nat_le, Bool, true, false, List, [], ◌∷◌, ◌++◌, map, length}
+use Rattle.std.proofs.Common.{◌≡◌, refl, ℕ, zero, suc, ◌+◌, ◌==◌, ◌&&◌, nat_lt, nat_le}
+use Rattle.std.proofs.Common.{Bool, true, false, List, [], ◌∷◌, ◌++◌, map, length}
 use Rattle.std.proofs.Common.{Option, Some, None, Result, Ok, Err, if◌then◌else◌, codes}
 use Rattle.std.specs.Prelude.{slice_range, slice_set, replicate, option_to_list}
 use Rattle.std.specs.List.{list_all, list_any}
@@ -56,8 +57,10 @@ use Rattle.cmd_machines.specs.Sessions.{setup_in, inputs_in}
 use Rattle.para_mach.specs.State as para
 use Rattle.cmd_outcome.specs.Trace.{is_same}
 use Rattle.cmd_session.specs.Session.{place_of}
-use Rattle.law_sessions.specs.Refusals.{first_of, unread_by, unread, misfit, bad_trace, other_clock, bad_script_by, bad_script, bad_state, bad_source, bad_points_by, bad_points}
-use Rattle.law_sessions.specs.Refusals.{wrong_by, differs_at, held, host_at, entries_in, trace_causes, entry_causes, made_causes, replayed_causes, pair_causes, session_causes, read_causes, causes}
+use Rattle.law_sessions.specs.Refusals.{first_of, unread_by, unread, misfit, bad_trace, other_clock}
+use Rattle.law_sessions.specs.Refusals.{bad_script_by, bad_script, bad_state, bad_source, bad_points_by, bad_points}
+use Rattle.law_sessions.specs.Refusals.{wrong_by, differs_at, held, host_at, entries_in, trace_causes, entry_causes}
+use Rattle.law_sessions.specs.Refusals.{made_causes, replayed_causes, pair_causes, session_causes, read_causes, causes}
 
 -- a cause that does not hold, or that is no lack of memory
 abbrev pub is_named : Option Status → Bool
@@ -148,7 +151,8 @@ by_rise : (b : Bool) (line : ℕ) (r : Result (List Bool) PointsError) → is_na
 by_rise true line r named = refl
 by_rise false line r named = named
 
-lines_rise_named : (line least : ℕ) (marked : List Bool) (lines : List (Option ℕ)) → is_named (bad_points_by (points_from line least marked lines)) ≡ true
+lines_rise_named : (line least : ℕ) (marked : List Bool) (lines : List (Option ℕ))
+    → is_named (bad_points_by (points_from line least marked lines)) ≡ true
 lines_rise_named line least marked [] = refl
 lines_rise_named line least marked (None ∷ lines) = refl
 lines_rise_named line least marked (Some at ∷ lines) =
@@ -201,7 +205,8 @@ module _ (part : Part) where
       by_line (second_fault part row labels p.address p.line) (second_pass part (row + 1) labels placed)
       (second_line_clear row labels p.address p.line) (second_clear (row + 1) labels placed)
 
-clear_named : (o : Option AsmError) (r : Result Program AsmError) → is_clear o ≡ true → is_named (bad_source r) ≡ true → is_named (bad_source (unless_fault o r)) ≡ true
+clear_named : (o : Option AsmError) (r : Result Program AsmError) → is_clear o ≡ true → is_named (bad_source r) ≡ true
+    → is_named (bad_source (unless_fault o r)) ≡ true
 clear_named None r clear named = named
 clear_named (Some asm_errors.NoMemory) r clear named = cc
 clear_named (Some e) r clear named = refl
@@ -230,7 +235,8 @@ unfolding is_field
 fault_is A at = refl
 
 module _ {A B : Type 0} where
-  and_then : (r : Result A StateError) (more : A → Result B StateError) → is_field r ≡ true → ((x : A) → is_field (more x) ≡ true) → is_field (r >>= more) ≡ true
+  and_then : (r : Result A StateError) (more : A → Result B StateError) → is_field r ≡ true → ((x : A) → is_field (more x) ≡ true)
+      → is_field (r >>= more) ≡ true
   unfolding is_field
   and_then (Ok x) more is others = others x
   and_then (Err (state_errors.BadField at)) more is others = refl
@@ -240,7 +246,8 @@ value_is : {A : Type 0} (at next : ℕ) (o : Option A) → is_field (value_or_fa
 value_is at next None = fault_is _ at
 value_is at next (Some a) = ok_is (a, next)
 
-within_file : {A : Type 0} (b : Bool) (at next len : ℕ) (o : Option A) → is_field (if b then value_or_fault at next o else Err (state_errors.BadField len)) ≡ true
+within_file : {A : Type 0} (b : Bool) (at next len : ℕ) (o : Option A)
+    → is_field (if b then value_or_fault at next o else Err (state_errors.BadField len)) ≡ true
 within_file true at next len o = value_is at next o
 within_file false at next len o = fault_is _ len
 
@@ -285,11 +292,13 @@ parts_named bytes at =
     and_then _ _ (disc_named bytes disc0.1) (λ disc1.
     and_then _ _ (part_named Keys bytes disc1.1) (λ keys. ok_is _))))
 
-entries_named : (ticks count : ℕ) (last : Option Entry) (bytes : List ℕ) (at : ℕ) → is_field (sessions_entries.entries_at ticks count last bytes at) ≡ true
+entries_named : (ticks count : ℕ) (last : Option Entry) (bytes : List ℕ) (at : ℕ)
+    → is_field (sessions_entries.entries_at ticks count last bytes at) ≡ true
 unfolding sessions_entries.entries_at
 entries_named ticks zero last bytes at = ok_is _
 entries_named ticks (suc count) last bytes at =
-    and_then _ _ (one_field 7 (sessions_entries.next_entry ticks last) bytes at) (λ first. and_then _ _ (entries_named ticks count (Some first.0) bytes first.1) (λ others. ok_is _))
+    and_then _ _ (one_field 7 (sessions_entries.next_entry ticks last) bytes at) (λ first.
+    and_then _ _ (entries_named ticks count (Some first.0) bytes first.1) (λ others. ok_is _))
 
 list_named : (ticks : ℕ) (bytes : List ℕ) (at : ℕ) → is_field (list_at ticks bytes at) ≡ true
 unfolding list_at
@@ -338,7 +347,8 @@ traces_named false clock (b ∷ bytes) = refl
 entry_named : (entries : List Entry) (place : Option (ℕ × Option Doing)) → are_named (entry_causes entries place) ≡ true
 entry_named entries place = rw (wrong_named (wrong entries), differs_named place)
 
-made_named : (set : Setup) (side : Side) (i : Inputs) (others : List (Option Status)) → are_named others ≡ true → are_named (made_causes set side i others) ≡ true
+made_named : (set : Setup) (side : Side) (i : Inputs) (others : List (Option Status)) → are_named others ≡ true
+    → are_named (made_causes set side i others) ≡ true
 made_named set Host i others named =
     let from_script : List (Option Status) = bad_script i.keys ∷ others in
     named_more (map misfit (host_images set.kinds i)) (trace_causes set.tube set.clock i.trace ++ from_script) (all_misfits_named (host_images set.kinds i))
@@ -352,13 +362,16 @@ replayed_named set Host ticks i = entry_named _ _
 replayed_named set Para ticks i = entry_named _ _
 
 pair_named : (set : Setup) (i : Inputs) → are_named (pair_causes set i) ≡ true
-pair_named set i = named_more (map misfit (both_images set.kinds i)) (bad_script i.keys ∷ []) (all_misfits_named (both_images set.kinds i)) (rw (script_named i.keys))
+pair_named set i =
+    named_more (map misfit (both_images set.kinds i)) (bad_script i.keys ∷ []) (all_misfits_named (both_images set.kinds i)) (rw (script_named i.keys))
 
 session_named : (plugs : List Plug) (ticks : ℕ) (f : Result Session StateError) → are_named (session_causes plugs ticks f) ≡ true
 session_named plugs ticks (Err e) = refl
 session_named plugs ticks (Ok s) =
     let images : List Sized = both_images (setup_in s plugs).kinds (inputs_in s) in
-    named_more (map misfit images) (bad_script (inputs_in s).keys ∷ wrong_by (wrong s.entries) ∷ differs_at (place_of s ticks (host_at (setup_in s plugs) (inputs_in s), para.power_on s.clock (inputs_in s).tube)) ∷ [])
+    let place : Option (ℕ × Option Doing) =
+    place_of s ticks (host_at (setup_in s plugs) (inputs_in s), para.power_on s.clock (inputs_in s).tube) in
+    named_more (map misfit images) (bad_script (inputs_in s).keys ∷ wrong_by (wrong s.entries) ∷ differs_at place ∷ [])
     (all_misfits_named images) (rw (script_named (inputs_in s).keys, wrong_named (wrong s.entries), differs_named _))
 
 past_by : (b : Bool) (n : ℕ) → is_named (if b then Some (BadImage Image n) else None) ≡ true
@@ -369,16 +382,20 @@ read_named : (plugs : List Plug) (c : Command) (i : Inputs) → are_named (read_
 read_named plugs (check name) i = rw (trace_named i.trace, wrong_named (wrong (entries_in (trace i.trace))))
 read_named plugs (asm part text out) i = rw (source_named part i.source)
 read_named plugs (dis part image origin out) i = rw (past_by (nat_lt 65536 (origin + length i.image)) (length i.image))
-read_named plugs (replay side name ticks out given) i = made_named (setup_of given plugs) side i (replayed_causes (setup_of given plugs) side ticks i) (replayed_named (setup_of given plugs) side ticks i)
+read_named plugs (replay side name ticks out given) i =
+    made_named (setup_of given plugs) side i (replayed_causes (setup_of given plugs) side ticks i) (replayed_named (setup_of given plugs) side ticks i)
 read_named plugs (solo ticks out keep given) i = pair_named (setup_of given plugs) i
 read_named plugs (run ticks out keep given) i = pair_named (setup_of given plugs) i
-read_named plugs (resume state ticks out keep given) i = rw (state_by (sessions.file i.state) (file_is i.state), session_named plugs ticks (sessions.file i.state))
+read_named plugs (resume state ticks out keep given) i =
+    rw (state_by (sessions.file i.state) (file_is i.state), session_named plugs ticks (sessions.file i.state))
 read_named plugs (follow side name ticks out given) i =
-    made_named (setup_of given plugs) side i (bad_points i.points ∷ replayed_causes (setup_of given plugs) side ticks i) (rw (points_named i.points, replayed_named (setup_of given plugs) side ticks i))
+    made_named (setup_of given plugs) side i (bad_points i.points ∷ replayed_causes (setup_of given plugs) side ticks i)
+    (rw (points_named i.points, replayed_named (setup_of given plugs) side ticks i))
 read_named plugs (gen seed) i = refl
 
 -- no cause of any words is lack of memory
 pub causes_named : (plugs : List Plug) (files : Files) (spelt : Option Command) → are_named (causes plugs files spelt) ≡ true
 causes_named plugs files None = refl
 causes_named plugs files (Some c) =
-    named_more (map (unread files) (reads c)) (read_causes plugs c (inputs_of (held files (reads c)))) (all_unread_named files (reads c)) (read_named plugs c (inputs_of (held files (reads c))))
+    named_more (map (unread files) (reads c)) (read_causes plugs c (inputs_of (held files (reads c)))) (all_unread_named files (reads c))
+    (read_named plugs c (inputs_of (held files (reads c))))

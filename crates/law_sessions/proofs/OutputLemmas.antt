@@ -1,5 +1,6 @@
 -- What the options for outputs change.
-use Rattle.std.proofs.Common.{◌≡◌, ◌∙◌, sym, refl, ap, ap₂, ℕ, zero, suc, ◌+◌, ◌-◌, ◌≤◌, Bool, true, false, ◌&&◌, List, [], ◌∷◌, ◌++◌, map, length, take, drop}
+use Rattle.std.proofs.Common.{◌≡◌, ◌∙◌, sym, refl, ap, ap₂, ℕ, zero, suc, ◌+◌, ◌-◌, ◌≤◌}
+use Rattle.std.proofs.Common.{Bool, true, false, ◌&&◌, List, [], ◌∷◌, ◌++◌, map, length, take, drop}
 use Rattle.std.proofs.Common.{Option, Some, None, codes, append_assoc, append-nil, take-add, arith}
 use Rattle.std.specs.Prelude.{unwrap_or}
 use Rattle.std.specs.List.{list_all}
@@ -38,7 +39,8 @@ both true true is = (refl, refl)
 both true false is = cc
 both false b is = cc
 
-map_same : (test : Output → Bool) (f g : Output → File) → ((o : Output) → test o ≡ true → f o ≡ g o) → (os : List Output) → list_all test os ≡ true → map f os ≡ map g os
+map_same : (test : Output → Bool) (f g : Output → File) → ((o : Output) → test o ≡ true → f o ≡ g o) → (os : List Output)
+    → list_all test os ≡ true → map f os ≡ map g os
 map_same test f g same [] all = refl
 map_same test f g same (o ∷ os) all = let parts = both (test o) (list_all test os) all in rw (same o parts.0, map_same test f g same os parts.1)
 
@@ -65,7 +67,8 @@ module _ (test : Output → Bool) where
         (there (Disc 0) (bus_disc 0 s.bus.bus) (disc 0)) (there (Disc 1) (bus_disc 1 s.bus.bus) (disc 1))
 
 -- of a host, if there is one
-of_host_pass : (test : Output → Bool) (outputs : HostState → List Output) → ((s : HostState) → list_all test (outputs s) ≡ true) → (o : Option HostState) →
+of_host_pass : (test : Output → Bool) (outputs : HostState → List Output) → ((s : HostState) → list_all test (outputs s) ≡ true)
+    → (o : Option HostState) →
     list_all test (of_host outputs o) ≡ true
 of_host_pass test outputs pass None = refl
 of_host_pass test outputs pass (Some s) = pass s
@@ -108,7 +111,8 @@ same_unnamed l (Memory Host) is = refl
 same_unnamed l (Memory Para) is = refl
 same_unnamed l o is = refl
 
-sound_is : (l : Left) (o : Option (List ℕ)) → l.names.wav ≡ o → map (file_of l) (if_there Sound o) ≡ named_file o (bytes_in (sound_bytes l.clock l.ticks) l.host)
+sound_is : (l : Left) (o : Option (List ℕ)) → l.names.wav ≡ o
+    → map (file_of l) (if_there Sound o) ≡ named_file o (bytes_in (sound_bytes l.clock l.ticks) l.host)
 sound_is l None is = refl
 sound_is l (Some name) is = rw is
 
@@ -126,7 +130,8 @@ names_add l =
     let front : map f (front_of l) ≡ map g (front_of l ++ [] ++ []) =
     map_same is_unnamed f g (same_unnamed l) (front_of l) (front_pass l)
     ∙ ap (map g) (sym (append-nil (front_of l)) ∙ sym (append-nil (front_of l ++ []))) in
-    let back : map f (sounds ++ sessions) ≡ named_file l.names.wav (bytes_in (sound_bytes l.clock l.ticks) l.host) ++ named_file l.names.save (unwrap_or l.saved []) =
+    let back : map f (sounds ++ sessions) ≡ named_file l.names.wav (bytes_in (sound_bytes l.clock l.ticks) l.host)
+    ++ named_file l.names.save (unwrap_or l.saved []) =
     map-append f sounds sessions ∙ ap₂ (λ (xs ys : List File). xs ++ ys) (sound_is l l.names.wav refl) (session_is l l.names.save refl) in
     ap (λ (fs : List File). record { ending = Done; files = fs; said = [] })
     (ap (map f) (append_assoc (front_of l) sounds sessions) ∙ map-append f (front_of l) (sounds ++ sessions)
@@ -166,12 +171,14 @@ module _ (clock : Clock) (ticks : ℕ) (out : List ℕ) (w : World HostState Par
 
   files_are : (keep : ℕ) →
       map (file_of (left_with keep)) (Report ∷ Memory Host ∷ Memory Para ∷ (discs w.host ++ shots w.host ++ Trace ∷ [] ++ spills w.host ++ [] ++ []))
-      ≡ file_of (left_with keep) Report ∷ (map (file_of (left_with 0)) fronts ++ file_of (left_with keep) Trace ∷ map (file_of (left_with 0)) (spills w.host))
+      ≡ file_of (left_with keep) Report
+      ∷ (map (file_of (left_with 0)) fronts ++ file_of (left_with keep) Trace ∷ map (file_of (left_with 0)) (spills w.host))
   files_are keep =
       let f : Output → File = file_of (left_with keep) in
       let shown : List Output = discs w.host ++ shots w.host in
       let split : shown ++ Trace ∷ [] ++ spills w.host ++ [] ++ [] ≡ shown ++ Trace ∷ spills w.host =
-      append-nil (shown ++ Trace ∷ [] ++ spills w.host ++ []) ∙ append-nil (shown ++ Trace ∷ [] ++ spills w.host) ∙ append_assoc shown (Trace ∷ []) (spills w.host) in
+      append-nil (shown ++ Trace ∷ [] ++ spills w.host ++ []) ∙ append-nil (shown ++ Trace ∷ [] ++ spills w.host)
+      ∙ append_assoc shown (Trace ∷ []) (spills w.host) in
       ap (λ (os : List Output). map f (Report ∷ Memory Host ∷ Memory Para ∷ os)) split
       ∙ ap (λ (fs : List File). f Report ∷ fs) (map-append f fronts (Trace ∷ spills w.host)
       ∙ ap₂ (λ (xs ys : List File). xs ++ f Trace ∷ ys) (map_same is_fixed f (file_of (left_with 0)) (same_fixed keep) fronts fixed_front)

@@ -45,7 +45,7 @@ use Rattle.cmd_top.proofs.HeadlineLemmas.{bound_ok, stage_ok}
 use Rattle.law_sessions.specs.OneRun.{accesses_of}
 use Rattle.law_sessions.specs.TraceOfRun.{trace_name, HasRun, AreMachines, OfRun, AfterEach, IsChecked, RunIsChecked}
 use Rattle.law_sessions.proofs.Saved.{none_wrong}
-use Rattle.law_sessions.proofs.Yielding.{done_whole, yields}
+use Rattle.law_sessions.proofs.YieldLemmas.{done_whole, yields}
 use Rattle.law_sessions.proofs.TraceFile.{trace_put, text_length}
 
 -- the kept accesses of a run

@@ -65,8 +65,8 @@ use Rattle.law_sessions.specs.OneRun.{accesses_of}
 use Rattle.law_sessions.specs.TraceOfRun.{IsSameHost, IsSamePara, IsSameMachine}
 use Rattle.law_sessions.specs.TraceOfRun.{run_of, count_of, left_of, IsReplayed, RunIsReplayed, listing_in, IsFollowed, RunIsFollowed}
 use Rattle.law_sessions.proofs.Saved.{none_wrong}
-use Rattle.law_sessions.proofs.Yielding.{yields}
-use Rattle.law_sessions.proofs.Checked.{after_each, kept, kept_read, capped, short}
+use Rattle.law_sessions.proofs.YieldLemmas.{yields}
+use Rattle.law_sessions.proofs.CheckLemmas.{after_each, kept, kept_read, capped, short}
 
 -- ---- the machines of a run, part by part
 
