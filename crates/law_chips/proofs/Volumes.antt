@@ -79,7 +79,8 @@ pub all_volumes : VolumesAreAmplitudes
 all_volumes = record {
   adds = λ k v m c below.
       let w = clocks m (with_volume k v c) in
-      others k w ∙ ap (λ l. level (with_volume k 15 w) + l) (ap (loudness (output k w)) (stays k m (with_volume k v c) ∙ written k v c below) ∙ is_share (output k w) v);
+      let volume : (tone_of k w).volume ≡ v = stays k m (with_volume k v c) ∙ written k v c below in
+      others k w ∙ ap (λ l. level (with_volume k 15 w) + l) (ap (loudness (output k w)) volume ∙ is_share (output k w) v);
   at_least = at_least;
   at_most = at_most;
   silence = all_off;

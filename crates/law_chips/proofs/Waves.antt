@@ -145,7 +145,8 @@ changed t turned = elim (cases_lt 1 t.counter) [
   | inr low ↦ low
 ]
 
-stood : (n : ℕ) (t : Tone) → t.period ≡ n → (tone_clock_leaves t).output ≡ not t.output → Stands n 0 (tone_clock_leaves t).output (tone_clock_leaves t)
+stood : (n : ℕ) (t : Tone) → t.period ≡ n → (tone_clock_leaves t).output ≡ not t.output →
+    Stands n 0 (tone_clock_leaves t).output (tone_clock_leaves t)
 stood n t is turned =
     let some : 0 < half_wave n = some_clocks n in
     let whole : 0 ≡ 0 * half_wave n + 0 = omega arith in

@@ -64,7 +64,8 @@ pub record TonesAreSquareWaves : Type 0 where
       output k (clocks (m + 1) w) ≡ not (output k (clocks m w)) →
       output k (clocks (m + 1 + j) w) ≡ square (half_wave n) j (output k (clocks (m + 1) w))
   pub any_volume : (k other : Channel) (v m : ℕ) (c : State) → v < 16 → output k (clocks m (with_volume other v c)) ≡ output k (clocks m c)
-  pub any_other : (k other : Channel) (n m : ℕ) (c : State) → n < 1024 → k ≢ other → output k (clocks m (with_period other n c)) ≡ output k (clocks m c)
+  pub any_other : (k other : Channel) (n m : ℕ) (c : State) → n < 1024 → k ≢ other →
+      output k (clocks m (with_period other n c)) ≡ output k (clocks m c)
 
 -- the amplitudes of volumes 0 to 15
 abbrev pub amplitude : ℕ → ℕ
