@@ -23,3 +23,5 @@ pub mod Drawn
 pub mod Rasters
 pub mod PageDots
 pub mod Rows
+pub mod Waves
+pub mod Volumes

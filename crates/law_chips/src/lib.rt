@@ -8,6 +8,7 @@ mod keys;
 mod pictures;
 mod plugs;
 mod roms;
+mod sounds;
 mod tube;
 
 pub use adapters::{
@@ -25,4 +26,5 @@ pub use pictures::{
 };
 pub use plugs::a_ram_card_remembers;
 pub use roms::a_half_rom_stands_twice;
+pub use sounds::{tones_are_square_waves, volumes_are_amplitudes};
 pub use tube::{registers_are_queues, registers_hold_so_many};
