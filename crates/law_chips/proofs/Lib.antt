@@ -23,3 +23,4 @@ pub mod Drawn
 pub mod Rasters
 pub mod PageDots
 pub mod Rows
+pub mod Imaging

@@ -22,3 +22,4 @@ pub mod ViaFlags
 pub mod ViaPorts
 pub mod TeletextCells
 pub mod TeletextFrames
+pub mod DiscImages
