@@ -25,3 +25,4 @@ pub mod PageDots
 pub mod Rows
 pub mod Waves
 pub mod Volumes
+pub mod Imaging

@@ -23,3 +23,4 @@ pub mod ViaPorts
 pub mod TeletextCells
 pub mod TeletextFrames
 pub mod Tones
+pub mod DiscImages

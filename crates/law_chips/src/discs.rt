@@ -8,6 +8,7 @@ ghost use Rattle.law_chips.specs.InTime.{ReadsInTime, WritesInTime};
 ghost use Rattle.law_chips.specs.Motions.{MotionsArrive};
 ghost use Rattle.law_chips.specs.Interrupts.{InterruptsAreForced};
 ghost use Rattle.law_chips.specs.AddressReads.{AddressIsRead};
+ghost use Rattle.law_chips.specs.DiscImages.{ImagesKeepTheirKind};
 ghost use Rattle.law_chips.specs.SeveralSectors.{SectorsFollow, SectorsAreWritten};
 
 /// A search for a sector ends at the sector's beginning, or when its time is over.
@@ -64,3 +65,9 @@ pub fn sectors_follow()
 {
     disc_image::a_byte_put_is_read_back();
 }
+
+/// Whatever a program does, a disc stays an image of its kind, and is never shorter. If it is not
+/// longer than its kind allows, it stays so. A drive without a disc stays without one.
+pub fn images_keep_their_kind()
+    ensures { ImagesKeepTheirKind }
+{}

@@ -17,7 +17,8 @@ pub use adapters::{
 };
 pub use discs::{
     a_motion_arrives, a_search_ends_in_time, a_sector_is_read, a_sector_is_written,
-    an_address_is_read, an_interrupt_is_forced, lost_data_is_told, sectors_follow,
+    an_address_is_read, an_interrupt_is_forced, images_keep_their_kind, lost_data_is_told,
+    sectors_follow,
 };
 pub use keys::a_script_is_its_keys_set_in_turn;
 pub use pictures::{
