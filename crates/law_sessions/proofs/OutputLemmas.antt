@@ -16,8 +16,12 @@ use Rattle.tube_trace.specs.Text.{text_of, line_text, lines_text}
 use Rattle.tube_trace.specs.Trace.{beginning}
 use Rattle.tube_party.specs.Reference.{World}
 use Rattle.host_bus.specs.Bus.{bus_disc}
+use Rattle.op_table.specs.declared.names.Part.TheVariants.{Nmos, Cmos}
+use Rattle.follow.specs.Machines.{host_sight, para_sight}
 use Rattle.host_mach.specs.State.{HostState}
+use Rattle.host_mach.specs.Step.{host_transitions}
 use Rattle.para_mach.specs.State.{ParaState}
+use Rattle.para_mach.specs.Step.{para_transitions}
 use Rattle.cmd_stages.specs.Plan.{Verdict}
 use Rattle.cmd_status.specs.declared.status.Ending.{Ending}
 use Rattle.cmd_status.specs.declared.status.Ending.TheVariants.{Done}
@@ -31,6 +35,7 @@ use Rattle.cmd_outcome.specs.Sound.{sound_bytes}
 use Rattle.cmd_outcome.specs.Verdicts.{machine_verdict, both_left}
 use Rattle.cmd_ended.specs.Kept.{kept_of, kept_verdict}
 use Rattle.law_sessions.specs.OutputOptions.{File, named_file, without_names, NamesAddFiles, KeepCutsTheTrace, ShorterTraceIsBeginning, OutputOptions}
+use Rattle.law_sessions.proofs.FromLemmas.{from_leaves_out}
 
 -- ---- lists of outputs that pass a test
 
@@ -204,4 +209,10 @@ shorter clock entries less more is =
     )
 
 pub output_options : OutputOptions
-output_options = record { names = names_add; keep = keep_cuts; shorter = shorter }
+output_options = record {
+  names = names_add;
+  keep = keep_cuts;
+  shorter = shorter;
+  from_host = from_leaves_out host_transitions host_sight Nmos Host;
+  from_para = from_leaves_out para_transitions para_sight Cmos Para;
+}
