@@ -1,5 +1,6 @@
 -- A listing from a tick on.
-use Rattle.std.proofs.Common.{◌≡◌, refl, ap, ap₂, arith, ℕ, Bool, true, false, ◌&&◌, nat_le, List, [], ◌∷◌, Option, Some, None, if◌then◌else◌}
+use Rattle.std.proofs.Common.{◌≡◌, refl, ap, ap₂, arith, ℕ, Bool, true, false, ◌&&◌, nat_le}
+use Rattle.std.proofs.Common.{List, [], ◌∷◌, Option, Some, None, if◌then◌else◌}
 use Rattle.std.specs.Prelude.{filter}
 use Rattle.std.proofs.lemmas.Bool.Decides.{nat_tests}
 use Rattle.beeb_bits.specs.declared.Side.{Side}
@@ -37,7 +38,7 @@ module _ (from : ℕ) (x : StartState) (ys zs : List StartState) (same : zs ≡ 
   counted_by false late is = same
 
 module _ (from : ℕ) (choice : Choice) where
-  chosen_later : (before : Option (Option ℕ)) (starts : List StartState)
+  pub chosen_later : (before : Option (Option ℕ)) (starts : List StartState)
       → chosen_from (with_from from choice) before starts ≡ starts_from from (chosen_from (with_from 0 choice) before starts)
   chosen_later before [] = refl
   chosen_later before (x ∷ xs) =

@@ -8,6 +8,7 @@ pub mod CauseLemmas
 pub mod InOrder
 pub mod ArgumentLemmas
 pub mod FromLemmas
+pub mod RisingLemmas
 pub mod OutputLemmas
 pub mod YieldLemmas
 pub mod TraceFile

@@ -15,7 +15,8 @@ use Rattle.law_sessions.specs.TraceOfRun.{run_of}
 pub record IsLonger (m : HostState × ParaState) (less more : ℕ) : Type 0 where
   -- The longer run goes on from the machines of the shorter one, with the chip after its accesses.
   -- Only the places of looks may differ.
-  pub goes_on : IsLike (run_of m more) (reference_from host_transitions para_transitions (after_entries (run_of m less).host (run_of m less).para (accesses_of m less)) more)
+  pub goes_on : IsLike (run_of m more)
+      (reference_from host_transitions para_transitions (after_entries (run_of m less).host (run_of m less).para (accesses_of m less)) more)
   -- Its accesses are those of the shorter run, and then those that it does later.
   pub later : List Entry
   pub accesses : accesses_of m more ≡ accesses_of m less ++ later

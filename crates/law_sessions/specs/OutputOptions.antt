@@ -14,7 +14,7 @@ use Rattle.tube_party.specs.Transitions.{Transitions}
 use Rattle.follow.specs.declared.Choice.{Choice}
 use Rattle.follow.specs.Sight.{Sight}
 use Rattle.follow.specs.Start.{StartState}
-use Rattle.follow.specs.Listing.{listing_of_chosen, replay_listing}
+use Rattle.follow.specs.Listing.{ListingState, listing_of_chosen, replay_listing}
 use Rattle.follow.specs.Machines.{host_sight, para_sight}
 use Rattle.host_mach.specs.State.{HostState}
 use Rattle.host_mach.specs.Step.{host_transitions}
@@ -94,10 +94,24 @@ FromLeavesOut {S} m sights part side =
     replay_listing m sights part side trace n (with_from from choice) s ≡
     listing_of_chosen part choice n (starts_from from chosen) (starts_from from counted))
 
--- all of these; `--from` for the listing of either side
+-- Ticks rise from line to line: the text from a tick on is the end of the whole text, if that has a
+-- line for each chosen start.
+abbrev pub FromIsEnd : {S : Type 0} → Transitions S → (S → Sight) → Part → Side → Type 0
+FromIsEnd {S} m sights part side =
+    (trace : List Entry) (n : ℕ) (choice : Choice) (s : S) (from : ℕ) →
+    let listing : ℕ → ListingState = λ t. replay_listing m sights part side trace n (with_from t choice) s in
+    (listing 0).chosen ≤ 1048576 →
+    (front : List ℕ) × ((listing 0).text ≡ front ++ (listing from).text)
+
+-- both, for the listing of one side
+pub record From {S : Type 0} (m : Transitions S) (sights : S → Sight) (part : Part) (side : Side) : Type 0 where
+  pub leaves_out : FromLeavesOut m sights part side
+  pub end : FromIsEnd m sights part side
+
+-- all of these, those of `--from` for either side
 pub record OutputOptions : Type 0 where
   pub names : NamesAddFiles
   pub keep : KeepCutsTheTrace
   pub shorter : ShorterTraceIsBeginning
-  pub from_host : FromLeavesOut host_transitions host_sight Nmos Host
-  pub from_para : FromLeavesOut para_transitions para_sight Cmos Para
+  pub from_host : From host_transitions host_sight Nmos Host
+  pub from_para : From para_transitions para_sight Cmos Para
