@@ -39,7 +39,7 @@ use Rattle.cmd_outcome.specs.Files.{file_of, report_text, bytes_in}
 use Rattle.cmd_outcome.specs.Sound.{sound_bytes}
 use Rattle.cmd_outcome.specs.Verdicts.{machine_verdict, both_left}
 use Rattle.cmd_ended.specs.Kept.{kept_of, kept_verdict}
-use Rattle.law_sessions.specs.OutputOptions.{File, named_file, without_names, NamesAddFiles, KeepCutsTheTrace, ShorterTraceIsBeginning, From, OutputOptions}
+use Rattle.law_sessions.specs.OutputOptions.{File, named_file, without_names, NamesAddFiles, KeepCutsTheTrace, ShorterTraceIsBeginning, FromTick, OutputOptions}
 use Rattle.law_sessions.proofs.FromLemmas.{from_leaves_out}
 use Rattle.law_sessions.proofs.RisingLemmas.{from_is_end}
 
@@ -214,7 +214,7 @@ shorter clock entries less more is =
           ∙ sym (append_assoc (beginning clock) (lines_text (take less entries)) (lines_text (take (more - less) (drop less entries)))),
     )
 
-from_laws : {S : Type 0} (m : Transitions S) (sights : S → Sight) (part : Part) (side : Side) → IsLawful m → From m sights part side
+from_laws : {S : Type 0} (m : Transitions S) (sights : S → Sight) (part : Part) (side : Side) → IsLawful m → FromTick m sights part side
 from_laws m sights part side lawful =
     record { leaves_out = from_leaves_out m sights part side; end = from_is_end m sights part side lawful }
 

@@ -84,8 +84,8 @@ with_from from choice = record { from = from; at = choice.at; points = choice.po
 abbrev pub starts_from : ℕ → List StartState → List StartState
 starts_from from starts = filter (λ s. nat_le from s.tick) starts
 
--- A listing is that of some starts, and its counts are those of some starts. `--from` leaves out of
--- both the starts that are sooner, and nothing else, with `--watch` too.
+-- The starts `chosen` and `counted` are the same for each tick `from`. A listing and its counts are
+-- those of these starts without the ones before `from`. This holds with `--watch` too.
 abbrev pub FromLeavesOut : {S : Type 0} → Transitions S → (S → Sight) → Part → Side → Type 0
 FromLeavesOut {S} m sights part side =
     (trace : List Entry) (n : ℕ) (choice : Choice) (s : S) →
@@ -104,7 +104,7 @@ FromIsEnd {S} m sights part side =
     (front : List ℕ) × ((listing 0).text ≡ front ++ (listing from).text)
 
 -- both, for the listing of one side
-pub record From {S : Type 0} (m : Transitions S) (sights : S → Sight) (part : Part) (side : Side) : Type 0 where
+pub record FromTick {S : Type 0} (m : Transitions S) (sights : S → Sight) (part : Part) (side : Side) : Type 0 where
   pub leaves_out : FromLeavesOut m sights part side
   pub end : FromIsEnd m sights part side
 
@@ -113,5 +113,5 @@ pub record OutputOptions : Type 0 where
   pub names : NamesAddFiles
   pub keep : KeepCutsTheTrace
   pub shorter : ShorterTraceIsBeginning
-  pub from_host : From host_transitions host_sight Nmos Host
-  pub from_para : From para_transitions para_sight Cmos Para
+  pub from_host : FromTick host_transitions host_sight Nmos Host
+  pub from_para : FromTick para_transitions para_sight Cmos Para
