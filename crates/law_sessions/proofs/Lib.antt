@@ -7,8 +7,11 @@ pub mod Resumed
 pub mod CauseLemmas
 pub mod InOrder
 pub mod ArgumentLemmas
+pub mod FromLemmas
+pub mod RisingLemmas
 pub mod OutputLemmas
 pub mod YieldLemmas
 pub mod TraceFile
 pub mod CheckLemmas
 pub mod ReplayLemmas
+pub mod LongerLemmas

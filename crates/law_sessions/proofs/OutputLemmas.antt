@@ -16,8 +16,17 @@ use Rattle.tube_trace.specs.Text.{text_of, line_text, lines_text}
 use Rattle.tube_trace.specs.Trace.{beginning}
 use Rattle.tube_party.specs.Reference.{World}
 use Rattle.host_bus.specs.Bus.{bus_disc}
+use Rattle.op_table.specs.declared.names.Part.{Part}
+use Rattle.op_table.specs.declared.names.Part.TheVariants.{Nmos, Cmos}
+use Rattle.tube_party.specs.Transitions.{Transitions, IsLawful}
+use Rattle.follow.specs.Sight.{Sight}
+use Rattle.follow.specs.Machines.{host_sight, para_sight}
 use Rattle.host_mach.specs.State.{HostState}
+use Rattle.host_mach.specs.Step.{host_transitions}
+use Rattle.host_mach.specs.Lawful.{host_lawful}
 use Rattle.para_mach.specs.State.{ParaState}
+use Rattle.para_mach.specs.Step.{para_transitions}
+use Rattle.para_mach.specs.Lawful.{para_lawful}
 use Rattle.cmd_stages.specs.Plan.{Verdict}
 use Rattle.cmd_status.specs.declared.status.Ending.{Ending}
 use Rattle.cmd_status.specs.declared.status.Ending.TheVariants.{Done}
@@ -30,7 +39,9 @@ use Rattle.cmd_outcome.specs.Files.{file_of, report_text, bytes_in}
 use Rattle.cmd_outcome.specs.Sound.{sound_bytes}
 use Rattle.cmd_outcome.specs.Verdicts.{machine_verdict, both_left}
 use Rattle.cmd_ended.specs.Kept.{kept_of, kept_verdict}
-use Rattle.law_sessions.specs.OutputOptions.{File, named_file, without_names, NamesAddFiles, KeepCutsTheTrace, ShorterTraceIsBeginning, OutputOptions}
+use Rattle.law_sessions.specs.OutputOptions.{File, named_file, without_names, NamesAddFiles, KeepCutsTheTrace, ShorterTraceIsBeginning, FromTick, OutputOptions}
+use Rattle.law_sessions.proofs.FromLemmas.{from_leaves_out}
+use Rattle.law_sessions.proofs.RisingLemmas.{from_is_end}
 
 -- ---- lists of outputs that pass a test
 
@@ -203,5 +214,15 @@ shorter clock entries less more is =
           ∙ sym (append_assoc (beginning clock) (lines_text (take less entries)) (lines_text (take (more - less) (drop less entries)))),
     )
 
+from_laws : {S : Type 0} (m : Transitions S) (sights : S → Sight) (part : Part) (side : Side) → IsLawful m → FromTick m sights part side
+from_laws m sights part side lawful =
+    record { leaves_out = from_leaves_out m sights part side; end = from_is_end m sights part side lawful }
+
 pub output_options : OutputOptions
-output_options = record { names = names_add; keep = keep_cuts; shorter = shorter }
+output_options = record {
+  names = names_add;
+  keep = keep_cuts;
+  shorter = shorter;
+  from_host = from_laws host_transitions host_sight Nmos Host host_lawful;
+  from_para = from_laws para_transitions para_sight Cmos Para para_lawful;
+}

@@ -4,3 +4,4 @@ pub mod Arguments
 pub mod OutputOptions
 pub mod Refusals
 pub mod TraceOfRun
+pub mod LongerRun

@@ -15,8 +15,8 @@ pub use machines::machines_are_made_again;
 pub use options::{options_move, output_options};
 pub use refusals::refusals_in_order;
 pub use runs::{
-    resumed_run_is_one_run, saved_run_is_one_run, saved_run_is_read, session_begins,
-    session_is_written, words_go_on,
+    longer_run_goes_on, resumed_run_is_one_run, saved_run_is_one_run, saved_run_is_read,
+    session_begins, session_is_written, words_go_on,
 };
 pub use traces::{run_is_checked, run_is_followed, run_is_replayed};
 pub use words::words_begin;

@@ -13,7 +13,8 @@ pub fn options_move()
 }
 
 /// `--wav` and `--save` add one file each. `--keep` changes the report and the trace of a run, and
-/// the trace of fewer accesses is the beginning of the trace of more.
+/// the trace of fewer accesses is the beginning of the trace of more. `--from` leaves out of a
+/// listing the starts before its tick.
 pub fn output_options()
     ensures { OutputOptions }
 {}

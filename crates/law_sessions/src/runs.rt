@@ -1,5 +1,6 @@
-//! A run that is saved, and resumed.
+//! A run that is saved, and resumed. A run of more ticks goes on from the run of fewer ticks.
 ghost use Rattle.law_sessions.specs.OneRun.{SavedRunIsRead, SessionIsWritten, SavedRunIsOneRun, WordsGoOn, SessionBegins, ResumedRunIsOneRun};
+ghost use Rattle.law_sessions.specs.LongerRun.{LongerRunGoesOn};
 
 use crate::machines::machines_are_made_again;
 use crate::words::words_begin;
@@ -8,6 +9,9 @@ use cmd_machines::begun_is_session;
 use host_mach::HostMachine;
 use para_mach::ParaMachine;
 use save_state::{file_reads_back, saved_run_is_resumed};
+use tube_party::{
+    brought_back_is_reference, reference_is_replayed, reference_is_trace, shorter_run_is_beginning,
+};
 
 /// The session of a run keeps the rules of a session, and its file reads as that session.
 pub fn saved_run_is_read()
@@ -58,4 +62,15 @@ pub fn resumed_run_is_one_run()
     session_begins();
     session_is_written();
     saved_run_is_one_run();
+}
+
+/// The run of more ticks goes on from the machines and the accesses of the run of fewer ticks. Its
+/// trace begins with the trace of that run, if both keep the same number of accesses.
+pub fn longer_run_goes_on()
+    ensures { LongerRunGoesOn }
+{
+    reference_is_trace::<HostMachine<RamCard>, ParaMachine>();
+    reference_is_replayed::<HostMachine<RamCard>, ParaMachine>();
+    brought_back_is_reference::<HostMachine<RamCard>, ParaMachine>();
+    shorter_run_is_beginning::<HostMachine<RamCard>, ParaMachine>();
 }
