@@ -1,15 +1,16 @@
 """The package as a test calls it: its options, its errors, and what comes of a call."""
+import ast
+import inspect
 import multiprocessing
 import os
 import pickle
+import re
 import shutil
 import subprocess
 
 from common import EXAMPLES, TOP, Case, beebtube, call, letters, put, text_of, unittest
 from beebtube.script import BadScript
 
-PUBLIC = ["beebtube"] + ["beebtube." + name for name in (
-    "calling", "command", "disc", "entries", "executing", "execution", "explain", "faults", "files", "frame", "labels", "program", "report", "script", "trace")]
 DRAWS = os.path.join(EXAMPLES, "screen-os.asm")
 
 
@@ -176,6 +177,48 @@ class Pasts(Case):
         self.assertEqual([name for name in beebtube.__all__ if getattr(beebtube, name, None) is None], [])
         with self.assertRaises(AttributeError):
             beebtube.Futures
+
+
+class Page(Case):
+    """docs/PYTHON.md has an entry for each public name, with its parameters and types."""
+
+    def setUp(self):
+        super().setUp()
+        self.page = text_of(os.path.join(TOP, "docs", "PYTHON.md")).decode()
+        entries = self.page.partition("\n## Each name\n")[2].partition("\n## ")[0].split("\n- ")[1:]
+        whole = [" ".join(entry.split("\n\n")[0].split()) for entry in entries]
+        self.entries = {re.match("`([A-Za-z_]+)", entry)[1]: entry for entry in whole}
+
+    def test_each_name_has_an_entry(self):
+        self.assertEqual(sorted(self.entries), sorted(beebtube.__all__))
+
+    def test_parameters_and_types_are_true(self):
+        for name, entry in self.entries.items():
+            said = re.match("`([^`]+)`", entry)[1].replace("..", "").replace("(, ", "(")
+            if "(" not in said:
+                continue
+            told = ast.parse("def %s: pass" % re.sub(r"(, )+\)", ")", said)).body[0]
+            made = getattr(beebtube, name)
+            there = inspect.signature(made)
+            for it in told.args.args + told.args.kwonlyargs + [told.args.vararg] * bool(told.args.vararg):
+                type_ = there.parameters[it.arg].annotation
+                self.assertEqual(ast.unparse(it.annotation), getattr(type_, "__forward_arg__", type_), said)
+            if told.returns or not inspect.isclass(made):
+                self.assertEqual(ast.unparse(told.returns), there.return_annotation.strip("'"), said)
+
+    def test_members_are_there(self):
+        for name, entry in self.entries.items():
+            made = getattr(beebtube, name)
+            for member in re.findall(r"`\.([a-z_]+)", entry):
+                self.assertTrue(hasattr(made, member) or f"self.{member}" in inspect.getsource(made), f"{name}.{member}")
+
+    def test_each_parameter_is_on_the_page(self):
+        text = re.sub("(?ms)^```.*?^```$", "", self.page)
+        words = set(re.findall("[A-Za-z_0-9]+", " ".join(re.findall("`([^`]+)`", text))))
+        for name in beebtube.__all__:
+            if not inspect.isclass(getattr(beebtube, name)):
+                own = set(inspect.signature(getattr(beebtube, name)).parameters)
+                self.assertEqual({it for it in own - words if not re.fullmatch("rom[0-9]+", it)}, set(), name)
 
 
 # Another version has other opinions, of needless comments too.
