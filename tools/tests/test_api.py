@@ -61,7 +61,50 @@ class Errors(Case):
             beebtube.run(9, os=pair["os"])
 
 
+    def test_no_value_is_ignored(self):
+        # Each value is refused by a message that names it: none is taken for something else.
+        image, given = b"\x60", {"at": 0x1900}
+        pair = letters()
+        for call, how, text in (
+                (beebtube.execute, {"args": "abc"}, "args: a sequence"),
+                (beebtube.execute, {"stdin": "text"}, "stdin: bytes"),
+                (beebtube.execute, {"stdin": None}, "stdin: bytes"),
+                (beebtube.execute, {"host_at": 0x1900}, "both"),
+                (beebtube.execute, {"host_start": 0x1900}, "both"),
+                (beebtube.execute, {"host_labels": beebtube.Labels({})}, "both"),
+                (beebtube.execute, {"cpu": "z80"}, "cpu 'z80'"),
+                (beebtube.call, {"cpu": "z80"}, "cpu 'z80'"),
+                (beebtube.call, {"a": 256}, "a=256"),
+                (beebtube.call, {"x": -1}, "x=-1"),
+                (beebtube.call, {"y": 256}, "y=256"),
+                (beebtube.call, {"p": 256}, "p=256"),
+                (beebtube.call, {"start": 0x10000}, "start=65536"),
+                (beebtube.call, {"memory": {0x70: 256}}, "memory at 0070=256")):
+            with self.assertRaisesRegex((TypeError, beebtube.Fault), text):
+                call(image, **{**given, **how})
+        for how, text in (({"start": -1}, "start"), ({"hold": -1}, "hold"), ({"gap": -0.1}, "gap"),
+                          ({"speed": 5}, "speed 5"), ({"start": float("nan")}, "start")):
+            with self.assertRaisesRegex(beebtube.Fault, text):
+                beebtube.typed("a", **how)
+        with self.assertRaisesRegex(beebtube.Refused, "line 1 of the script: at x"):
+            beebtube.execute(image, host=True, keys=beebtube.Source("at x\n"), **given)
+        with self.assertRaisesRegex(TypeError, "a Run stays in its process"):
+            pickle.dumps(beebtube.run(9, **pair))
+
+
 class Calls(Case):
+    def test_a_trace_keeps_its_run(self):
+        pair = letters()
+        wanted = beebtube.run(2000, **pair).para
+        self.assertEqual(beebtube.replay("para", beebtube.run(2000, **pair).accesses, 2000, tube=pair["tube"]).para, wanted)
+        self.assertEqual(len([it for it in beebtube.run(2000, **pair).accesses]), beebtube.run(2000, **pair).report.tube)
+
+    def test_discs_are_compared_by_what_is_on_them(self):
+        one = beebtube.Disc(bytes(512))
+        self.assertEqual((one, hash(one)), (beebtube.Disc(bytes(512)), hash(beebtube.Disc(bytes(512)))))
+        self.assertNotEqual(one, beebtube.Disc(bytes(512), double=True))
+        self.assertNotEqual(one, beebtube.Disc(bytes(511)))
+
     def test_texts(self):
         source = beebtube.Source("org &C000\nstart: LDA #1\nRTS\n")
         self.assertEqual(beebtube.asm("6502", source), b"\xa9\x01\x60")
@@ -94,6 +137,8 @@ class Calls(Case):
             keys = beebtube.typed(text, start=0.6)
             whole = beebtube.Script(first.events + keys.events)
             self.assertEqual(beebtube.resume(booted, 6000000, keys=keys).host, beebtube.solo(6000000, **os, keys=whole).host)
+        script = beebtube.Source(beebtube.typed("1", start=0.6).text())
+        self.assertEqual(beebtube.resume(booted, 6000000, keys=script).host[0x70], 1)
         with self.assertRaisesRegex(beebtube.Fault, "before the session's 3,000,000"):
             beebtube.resume(booted, 6000000, keys=beebtube.typed("1", start=0.2))
         self.assertEqual(beebtube.typed("1", start=0.6).events, beebtube.typed("1", start=0.1).later(3000000).events)
@@ -104,6 +149,9 @@ class Calls(Case):
         self.assertRegex(repr(run.registers["para"]), r"^Registers\(PC=F815 A=.. X=.. Y=.. S=.. P=..\)$")
         self.assertEqual(repr(beebtube.Disc(bytes(512))), "<Disc: SSD, 512 bytes>")
         self.assertEqual(repr(beebtube.Program("x"))[:9], "Program('")
+        self.assertEqual(repr(run.accesses), "<Trace: out.trace, 3 MHz>")
+        with beebtube.run(2000, **letters(), save=True).past() as past:
+            self.assertEqual(repr(past), "<Past: host and para, 2,000 ticks>")
 
     def test_the_version(self):
         self.assertEqual(beebtube.__version__ + "\n", text_of(os.path.join(TOP, "VERSION")).decode())
