@@ -127,6 +127,8 @@ class Program:
             child = subprocess.Popen(command, cwd=folder, stdin=subprocess.PIPE if stdin else subprocess.DEVNULL,
                                      stdout=subprocess.PIPE, stderr=subprocess.PIPE, restore_signals=False)
         except (OSError, ValueError) as error:
+            if not os.path.isdir(folder):
+                raise Fault("the folder of the run is gone: it goes by close() and with its process") from None
             raise Fault("cannot run %s: %s" % (self.path, error)) from None
         self._running.add(child)
         try:

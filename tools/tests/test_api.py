@@ -99,6 +99,15 @@ class Calls(Case):
         self.assertEqual(beebtube.replay("para", beebtube.run(2000, **pair).accesses, 2000, tube=pair["tube"]).para, wanted)
         self.assertEqual(len([it for it in beebtube.run(2000, **pair).accesses]), beebtube.run(2000, **pair).report.tube)
 
+    def test_what_is_asked_for_without_its_folder(self):
+        done = beebtube.call(b"\x60", at=0x1900)
+        again = pickle.loads(pickle.dumps(done))
+        self.assertEqual(again.cycles, 6)
+        done = beebtube.call(b"\x60", at=0x1900)
+        done._runner.close()
+        with self.assertRaisesRegex(beebtube.Fault, "the folder of the run is gone"):
+            done.cycles
+
     def test_discs_are_compared_by_what_is_on_them(self):
         one = beebtube.Disc(bytes(512))
         self.assertEqual((one, hash(one)), (beebtube.Disc(bytes(512)), hash(beebtube.Disc(bytes(512)))))
