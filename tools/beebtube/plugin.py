@@ -13,6 +13,7 @@ import re
 import shutil
 import subprocess
 import sys
+import zlib
 from typing import Any, Callable, Dict, Iterator, List, Optional, Union
 
 import pytest
@@ -184,6 +185,9 @@ def difference_of(one: Frame, other: Frame) -> str:
 
 def _folder_of(request: Any) -> str:
     name = re.sub(r"[^A-Za-z0-9_.-]+", "_", request.node.nodeid)
+    if "[" in request.node.nodeid:
+        # (parameters may be long, and differ only by what is `_` here)
+        name = f"{name[:160]}-{zlib.crc32(request.node.nodeid.encode()):08x}"
     return os.path.abspath(os.path.join(request.config.getoption("--beebtube-failed"), name))
 
 

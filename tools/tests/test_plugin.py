@@ -101,6 +101,12 @@ def test_run(beeb):
     assert False
 
 
+@pytest.mark.parametrize("word", ["a/b", "a_b", "x" * 300])
+def test_words(beeb, word):
+    beeb.run(9, **PAIR)
+    assert False
+
+
 def test_folder(golden):
     golden(beebtube.Frame.of_colours(bytes([%%d]) * (640 * 256)), "folder/black")
 """ % (EXAMPLES, EXAMPLES)
@@ -112,6 +118,9 @@ def test_folder(golden):
             left = self.at("beebtube-failed/test_it.py_" + test)
             self.assertIn(left + " has what the test ran", said)
             self.assertEqual(sorted(os.listdir(left)), runs)
+        # Each test has a folder of its own.
+        folders = re.findall("(/.*test_words.*) has what the test ran", said)
+        self.assertEqual((len(set(folders)), [os.path.isdir(it) for it in folders]), (3, 3 * [True]), said)
         # The session is that of the run's end.
         with beebtube.Past.of_session(beebtube.Program(), left + "/run1/session") as past:
             self.assertEqual(past.end, 3000)
