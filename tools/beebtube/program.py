@@ -128,7 +128,8 @@ class Program:
                                      stdout=subprocess.PIPE, stderr=subprocess.PIPE, restore_signals=False)
         except (OSError, ValueError) as error:
             if not os.path.isdir(folder):
-                raise Fault("the folder of the run is gone: it goes by close() and with its process") from None
+                raise Fault("the folder of the run is gone: "
+                            "it goes by close() and with its process") from None
             raise Fault("cannot run %s: %s" % (self.path, error)) from None
         self._running.add(child)
         try:
@@ -194,7 +195,8 @@ class Program:
         """Runs both machines on one thread; the same files."""
         return self._machines(["solo", str(ticks)], locals())
 
-    def resume(self, session: Data, ticks: int, *, keys: Optionally = None, keep: Optional[int] = None,
+    def resume(self, session: Data, ticks: int, *,
+               keys: Optionally = None, keep: Optional[int] = None,
                wav: bool = False, save: bool = False, timeout: Optional[float] = None) -> "Run":
         """Goes on with a saved run, up to the tick `ticks` from power-on.
 

@@ -96,8 +96,9 @@ class Calls(Case):
     def test_a_trace_keeps_its_run(self):
         pair = letters()
         wanted = beebtube.run(2000, **pair).para
-        self.assertEqual(beebtube.replay("para", beebtube.run(2000, **pair).accesses, 2000, tube=pair["tube"]).para, wanted)
-        self.assertEqual(len([it for it in beebtube.run(2000, **pair).accesses]), beebtube.run(2000, **pair).report.tube)
+        accesses = beebtube.run(2000, **pair).accesses
+        self.assertEqual(beebtube.replay("para", accesses, 2000, tube=pair["tube"]).para, wanted)
+        self.assertEqual(len(list(accesses)), beebtube.run(2000, **pair).report.tube)
 
     def test_what_is_asked_for_without_its_folder(self):
         done = beebtube.call(b"\x60", at=0x1900)
@@ -109,8 +110,8 @@ class Calls(Case):
             done.cycles
 
     def test_discs_are_compared_by_what_is_on_them(self):
-        one = beebtube.Disc(bytes(512))
-        self.assertEqual((one, hash(one)), (beebtube.Disc(bytes(512)), hash(beebtube.Disc(bytes(512)))))
+        one, same = beebtube.Disc(bytes(512)), beebtube.Disc(bytes(512))
+        self.assertEqual((one, hash(one)), (same, hash(same)))
         self.assertNotEqual(one, beebtube.Disc(bytes(512), double=True))
         self.assertNotEqual(one, beebtube.Disc(bytes(511)))
 
@@ -257,25 +258,30 @@ class Page(Case):
             told = ast.parse("def %s: pass" % re.sub(r"(, )+\)", ")", said)).body[0]
             made = getattr(beebtube, name)
             there = inspect.signature(made)
-            for it in told.args.args + told.args.kwonlyargs + [told.args.vararg] * bool(told.args.vararg):
-                type_ = there.parameters[it.arg].annotation
-                self.assertEqual(ast.unparse(it.annotation), getattr(type_, "__forward_arg__", type_), said)
+            for it in ast.walk(told.args):
+                if isinstance(it, ast.arg):
+                    type_ = there.parameters[it.arg].annotation
+                    type_ = getattr(type_, "__forward_arg__", type_)
+                    self.assertEqual(ast.unparse(it.annotation), type_, said)
             if told.returns or not inspect.isclass(made):
-                self.assertEqual(ast.unparse(told.returns), there.return_annotation.strip("'"), said)
+                returns = there.return_annotation.strip("'")
+                self.assertEqual(ast.unparse(told.returns), returns, said)
 
     def test_members_are_there(self):
         for name, entry in self.entries.items():
             made = getattr(beebtube, name)
             for member in re.findall(r"`\.([a-z_]+)", entry):
-                self.assertTrue(hasattr(made, member) or f"self.{member}" in inspect.getsource(made), f"{name}.{member}")
+                is_there = hasattr(made, member) or f"self.{member}" in inspect.getsource(made)
+                self.assertTrue(is_there, f"{name}.{member}")
 
     def test_each_parameter_is_on_the_page(self):
         text = re.sub("(?ms)^```.*?^```$", "", self.page)
         words = set(re.findall("[A-Za-z_0-9]+", " ".join(re.findall("`([^`]+)`", text))))
         for name in beebtube.__all__:
             if not inspect.isclass(getattr(beebtube, name)):
-                own = set(inspect.signature(getattr(beebtube, name)).parameters)
-                self.assertEqual({it for it in own - words if not re.fullmatch("rom[0-9]+", it)}, set(), name)
+                own = set(inspect.signature(getattr(beebtube, name)).parameters) - words
+                own -= {f"rom{number}" for number in range(16)}
+                self.assertEqual(own, set(), name)
 
 
 # Another version has other opinions, of needless comments too.

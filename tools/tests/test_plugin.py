@@ -120,12 +120,14 @@ def test_folder(golden):
             self.assertEqual(sorted(os.listdir(left)), runs)
         # Each test has a folder of its own.
         folders = re.findall("(/.*test_words.*) has what the test ran", said)
-        self.assertEqual((len(set(folders)), [os.path.isdir(it) for it in folders]), (3, 3 * [True]), said)
+        self.assertEqual(len(set(folders)), 3, said)
+        self.assertTrue(all(map(os.path.isdir, folders)), said)
         # The session is that of the run's end.
         with beebtube.Past.of_session(beebtube.Program(), left + "/run1/session") as past:
             self.assertEqual(past.end, 3000)
         left = self.at("beebtube-failed/test_it.py_test_folder/folder")
-        self.assertEqual(sorted(os.listdir(left)), ["black.difference.png", "black.golden.png", "black.png"])
+        pictures = ["black.difference.png", "black.golden.png", "black.png"]
+        self.assertEqual(sorted(os.listdir(left)), pictures)
 
     @unittest.skipUnless(shutil.which("cc65"), "cc65 is not there")
     def test_the_project_of_the_examples(self):
