@@ -10,8 +10,9 @@
     for access in run.accesses: ...                    # the Tube's accesses, one after another
     run.screen()[0]                                    # the first line of a teletext page
 
-What the program refuses is `Refused`, with `status`, `text` and `why`; what else is wrong is `Fault`. It needs Python 3.9 and
-its standard library. docs/PYTHON.md has more.
+What the program refuses is `Refused`, with `status`, `text` and `why`; any other fault of a file or
+a value is `Fault`. The package needs Python 3.9 and its standard library. docs/PYTHON.md has an
+entry for each name.
 """
 from __future__ import annotations
 
@@ -21,9 +22,8 @@ from typing import TYPE_CHECKING as _TYPE_CHECKING
 from typing import Any as _Any
 
 from .disc import Catalogue, Disc
-from .explain import explain
 from .faults import Fault, Refused
-from .files import inside, read_file, read_text, sum_of, write_beside
+from .files import read_text as _read_text
 from .frame import Frame, picture_of
 from .labels import Labels
 from .program import TOP as _TOP
@@ -38,14 +38,15 @@ if _TYPE_CHECKING:
     from .past import Past
 
 __all__ = [
-    "Access", "Called", "Catalogue", "Disc", "Ended", "Event", "Executed", "Fault", "Frame", "Labels", "Past", "Program", "Refused", "Registers",
-    "Report", "Run", "Script", "Source", "Trace", "Typed", "Version", "asm", "build", "call", "check", "dis", "execute", "explain", "follow", "gen",
-    "host", "inside", "key", "labels_of", "picture_of", "pressed", "read_file", "replay", "resume", "run", "screen_of",
-    "solo", "sum_of", "typed", "version", "write_beside",
+    "Access", "Called", "Catalogue", "Disc", "Ended", "Event", "Executed", "Fault", "Frame",
+    "Labels", "Past", "Program", "Refused", "Registers", "Report", "Run", "Script", "Source",
+    "Trace", "Typed", "Version", "asm", "build", "call", "check", "dis", "execute", "follow", "gen",
+    "host", "key", "labels_of", "picture_of", "pressed", "replay", "resume", "run", "screen_of",
+    "solo", "typed", "version",
 ]
 
 _VERSION = _os.path.join(_TOP, "VERSION")
-__version__ = read_text(_VERSION).strip() if _os.path.exists(_VERSION) else "unknown"
+__version__ = _read_text(_VERSION).strip() if _os.path.exists(_VERSION) else "unknown"
 _program = Program()
 
 

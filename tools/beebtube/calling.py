@@ -5,7 +5,7 @@ import functools
 from typing import Dict, List, Mapping, Optional, Union
 
 from .execution import LOWEST, MACHINES, PAGE, Block, Image, Left, Runner
-from .execution import broken_at, name_of, text_behind, ticks_of
+from .execution import broken_at, look_at_cpu, name_of, text_behind, ticks_of
 from .faults import Fault
 from .files import IMAGE_CAP
 from .program import Data, Part, Program, Side, bytes_of
@@ -102,13 +102,19 @@ def call(image: Data, *, at: int, start: Optional[int] = None,
     using    the emulator, if it is not ./beebtube
     Fault if it does not return, ends by a BRK, or if there is no room in memory.
     """
+    look_at_cpu(cpu)
     machine: Side = "para" if cpu == "65c02" else "host"
     name, data = name_of(image, "the image"), bytes_of(image, IMAGE_CAP)
     routine = at if start is None else start
+    _look("start", routine, 0xFFFF)
+    for register, value in (("a", a), ("x", x), ("y", y), ("p", p)):
+        _look(register, value)
     pages: Dict[int, bytearray] = {}
     low: Dict[int, int] = {}
     _put(machine, pages, low, at, data)
     for where, what in memory.items():
+        if isinstance(what, int):
+            _look(f"memory at {where:04X}", what)
         _put(machine, pages, low, where, bytes([what]) if isinstance(what, int) else what)
     code = b"".join(
         b"\xa9%c\x8d%c%c" % (byte, where & 255, where >> 8) for where, byte in sorted(low.items()))
@@ -125,6 +131,11 @@ def call(image: Data, *, at: int, start: Optional[int] = None,
     if left.registers[machine].pc == end and left.how == 0:
         return Called(runner, left, end)
     raise Fault(f"{name}: the subroutine at {routine:04X} {_why(left, machine, limit)}")
+
+
+def _look(name: str, value: int, most: int = 255) -> None:
+    if not 0 <= value <= most:
+        raise Fault(f"{name}={value}: it is from 0 to {most:,}")
 
 
 def _why(left: Left, machine: Side, limit: float) -> str:

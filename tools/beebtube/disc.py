@@ -40,6 +40,12 @@ class Disc:
     def __repr__(self) -> str:
         return f"<Disc: {'DSD' if self.double else 'SSD'}, {len(self.image):,} bytes>"
 
+    def __eq__(self, other: object) -> bool:
+        return isinstance(other, Disc) and (self.image, self.double) == (other.image, other.double)
+
+    def __hash__(self) -> int:
+        return hash((self.image, self.double))
+
     @staticmethod
     def read(name: Name) -> "Disc":
         """The disc of a file: a DSD where its name ends in .dsd, in capitals too. Fault where it cannot be read."""

@@ -48,6 +48,12 @@ Keys = Union[Script, Data, None]
 Names = Union[Labels, Name, None]
 
 
+def look_at_cpu(cpu: Optional[str]) -> None:
+    """Fault if there is no such processor."""
+    if cpu is not None and cpu not in CPUS:
+        raise Fault(f"cpu {cpu!r}: it is '6502' or '65c02'")
+
+
 class Image:
     """A program: its bytes, where they lie, where it begins, and for which processor it is.
 
@@ -60,6 +66,7 @@ class Image:
     def __init__(self, name: str, data: bytes, machine: Side, at: Optional[int], start: Optional[int], cpu: Optional[Part]):
         self.name, self.machine, self.place = name, machine, 0
         told: Optional[str] = None
+        look_at_cpu(cpu)
         if at is not None:
             self.form, self.load, self.data = "raw", at, data
             self.entry = at if start is None else start
@@ -511,6 +518,8 @@ def images_of(program: Data, both: Optional[Data], host: bool, at: Optional[int]
     """The programs of a call: one, or that of the second processor and that of the host."""
     if host and both is not None:
         raise Fault("host runs one program, and both two")
+    if both is None and (host_at is not None or host_start is not None):
+        raise Fault("host_at and host_start are of the program of both")
     for begin, where in ((start, at), (host_start, host_at)):
         if begin is not None and where is None:
             raise Fault("a start needs the address of a raw image")
@@ -556,6 +565,12 @@ def execute(program: Data, args: Sequence[Union[str, bytes]] = (), *, stdin: byt
     using        the emulator, if it is not ./beebtube
     Fault where it cannot be run.
     """
+    if isinstance(args, (str, bytes)):
+        raise TypeError("args: a sequence of arguments, and no single text")
+    if not isinstance(stdin, (bytes, bytearray)):
+        raise TypeError(f"stdin: bytes, and no {type(stdin).__name__}")
+    if both is None and host_labels is not None:
+        raise Fault("host_labels are of the program of both")
     most = ticks_of(limit, speed)
     runner = Runner(using or Program(), images_of(program, both, host, at, start, host_at, host_start, cpu),
                     [os.fsencode(word) for word in args], speed, keys, font)

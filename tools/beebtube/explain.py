@@ -40,8 +40,8 @@ def explain(status: int, text: str, words: Sequence[str], folder: "Name" = ".") 
         if status == 3:
             return _of_image(text, call, name)
         # What came through a pipe is gone: opening it again would wait for another writer.
-        if status == 4 and all(is_plain(it) for it in name.values()):
-            return _of_text(text, call, name)
+        if status == 4:
+            return _of_text(text, call, {what: it for what, it in name.items() if is_plain(it)})
     except Exception:  # noqa: BLE001 # what is said besides is never worth a failure
         pass
     return []

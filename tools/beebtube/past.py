@@ -81,6 +81,9 @@ class Past:
         self.pool = concurrent.futures.ThreadPoolExecutor(4)
         self.machines = {side: Machine(self, side) for side in self.sides}
 
+    def __repr__(self) -> str:
+        return f"<Past: {' and '.join(self.sides)}, {self.end:,} ticks>"
+
     @staticmethod
     def of_words(program: Program, words: Sequence[str],
                  progress: Optional[Callable[[str], None]] = None) -> "Past":

@@ -13,6 +13,7 @@ import re
 import shutil
 import subprocess
 import sys
+import zlib
 from typing import Any, Callable, Dict, Iterator, List, Optional, Union
 
 import pytest
@@ -71,6 +72,9 @@ class Beeb:
                 shutil.copytree(made.folder, place)
                 subprocess.run([sys.executable, os.path.join(TOP, "tools", "page"), "out"],
                                cwd=place, stdout=subprocess.DEVNULL, stderr=subprocess.DEVNULL)
+                # (in place of the session that `resume` read)
+                with contextlib.suppress(FileNotFoundError):
+                    os.replace(os.path.join(place, "out.save"), os.path.join(place, "session"))
             else:
                 os.makedirs(place)
                 told = {"out": made.out, "err": made.err, "text": made.text.encode()}
@@ -96,7 +100,7 @@ class Golden:
     def __call__(self, frame: Frame, name: str) -> None:
         place = self.path(name)
         if self.update:
-            os.makedirs(self.folder, exist_ok=True)
+            os.makedirs(os.path.dirname(place), exist_ok=True)
             if not os.path.exists(place) or self._stored(place) != frame:
                 write_beside(place, frame.png())
             return
@@ -104,7 +108,7 @@ class Golden:
             pytest.fail(f"there is no {place}: --update-golden writes it", pytrace=False)
         stored = self._stored(place)
         if stored != frame:
-            os.makedirs(self.left, exist_ok=True)
+            os.makedirs(os.path.dirname(os.path.join(self.left, name)), exist_ok=True)
             pictures = {"": frame, ".golden": stored, ".difference": frame.difference(stored)}
             for ending, picture in pictures.items():
                 write_beside(os.path.join(self.left, name + ending + ".png"), picture.png())
@@ -181,16 +185,18 @@ def difference_of(one: Frame, other: Frame) -> str:
 
 def _folder_of(request: Any) -> str:
     name = re.sub(r"[^A-Za-z0-9_.-]+", "_", request.node.nodeid)
+    if "[" in request.node.nodeid:
+        # (parameters may be long, and differ only by what is `_` here)
+        name = f"{name[:160]}-{zlib.crc32(request.node.nodeid.encode()):08x}"
     return os.path.abspath(os.path.join(request.config.getoption("--beebtube-failed"), name))
 
 
 @pytest.fixture
 def beeb(request: Any) -> Any:
     """The emulator; what a failed test ran stays in a folder that its report names."""
-    made = Beeb()
+    request.node.beebtube_made = made = Beeb()
     yield made
-    report = getattr(request.node, "beebtube_report", None)
-    if report is not None and report.failed and made.made:
+    if getattr(request.node, "beebtube_failed", False) and made.made:
         made.leave(_folder_of(request))
     for run in made.made:
         run.close()
@@ -200,10 +206,10 @@ def beeb(request: Any) -> Any:
 def pytest_runtest_makereport(item: Any, call: Any) -> Any:
     outcome = yield
     report = outcome.get_result()
-    if report.when == "call":
-        item.beebtube_report = report
-        made: Optional[Beeb] = getattr(item, "funcargs", {}).get("beeb")
-        if report.failed and made is not None and made.made:
+    if report.when != "teardown" and report.failed:
+        item.beebtube_failed = True
+        made: Optional[Beeb] = getattr(item, "beebtube_made", None)
+        if made is not None and made.made:
             folder = _folder_of(item._request)
             report.sections.append(("beebtube", f"{folder} has what the test ran"))
 

@@ -14,7 +14,7 @@ from typing import TYPE_CHECKING, Any, Dict, List, Literal, Mapping, NamedTuple,
 from .disc import LARGEST, Disc, is_double
 from .explain import explain
 from .faults import Fault, Refused
-from .files import OUTPUT_CAP, SESSION_CAP, SOURCE_CAP, Name, own_folder, read_file
+from .files import IMAGE_CAP, OUTPUT_CAP, SESSION_CAP, SOURCE_CAP, Name, own_folder, read_file
 from .frame import Frame, frames_in
 from .labels import Labels
 from .report import Registers, Report
@@ -127,6 +127,9 @@ class Program:
             child = subprocess.Popen(command, cwd=folder, stdin=subprocess.PIPE if stdin else subprocess.DEVNULL,
                                      stdout=subprocess.PIPE, stderr=subprocess.PIPE, restore_signals=False)
         except (OSError, ValueError) as error:
+            if not os.path.isdir(folder):
+                raise Fault("the folder of the run is gone: "
+                            "it goes by close() and with its process") from None
             raise Fault("cannot run %s: %s" % (self.path, error)) from None
         self._running.add(child)
         try:
@@ -192,7 +195,8 @@ class Program:
         """Runs both machines on one thread; the same files."""
         return self._machines(["solo", str(ticks)], locals())
 
-    def resume(self, session: Data, ticks: int, *, keys: Optional[Script] = None, keep: Optional[int] = None,
+    def resume(self, session: Data, ticks: int, *,
+               keys: Optionally = None, keep: Optional[int] = None,
                wav: bool = False, save: bool = False, timeout: Optional[float] = None) -> "Run":
         """Goes on with a saved run, up to the tick `ticks` from power-on.
 
@@ -319,6 +323,9 @@ class Run:
     def __repr__(self) -> str:
         return f"<Run: {' '.join(self.words)}>"
 
+    def __reduce__(self) -> str:
+        raise TypeError("a Run stays in its process, with its folder: pass on its members instead")
+
     def __init__(self) -> None:
         stack = contextlib.ExitStack()
         self.folder: str = stack.enter_context(own_folder())
@@ -373,7 +380,7 @@ class Run:
     @property
     def accesses(self) -> Trace:
         """The accesses to the Tube, read from the trace's file one after another."""
-        return Trace(self.path("trace"))
+        return Trace(self.path("trace"), self)
 
     @property
     def frames(self) -> List[Frame]:
@@ -524,9 +531,10 @@ def _refusal(ended: Ended, words: List[str], folder: str, named: Mapping[str, Op
 
 
 # A session with another script from its moment on.
-def _with_keys(session: Data, keys: Script) -> bytes:
+def _with_keys(session: Data, given: Data) -> bytes:
     from .inputs import Fields
     fields = Fields(bytes_of(session, SESSION_CAP))
+    keys = given if isinstance(given, Script) else Script.parse(bytes_of(given, IMAGE_CAP))
     before = [it for it in Script.parse(fields.images.get("keys", b"")).events if it.tick < fields.tick]
     early = [it for it in keys.events if it.tick < fields.tick]
     if early:

@@ -190,6 +190,11 @@ def typed(text: str, start: float = 2.0, hold: float = 0.05, gap: float = 0.05, 
     fit      keys are pressed faster if the text needs more ticks than a run has
     Fault where no key has a letter, no key has a name, there are too many shots, or a run is too short.
     """
+    if speed not in (3, 4):
+        raise Fault(f"speed {speed}: it is 3 or 4")
+    for name, seconds in (("start", start), ("hold", hold), ("gap", gap)):
+        if not seconds >= 0:
+            raise Fault(f"{name} {seconds:g}: it is a number of seconds from 0 on")
     second = second_of(speed)
 
     def made(hold: float, gap: float) -> Typed:

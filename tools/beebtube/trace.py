@@ -52,8 +52,9 @@ class Trace:
     Fault at the first line outside the form or the order, with the number that the program prints: `bad trace N`.
     """
 
-    def __init__(self, source: Union[Name, bytes]):
-        self._source = source
+    def __init__(self, source: Union[Name, bytes], run: object = None):
+        # (the run whose file it is: its folder stays as long as this)
+        self._source, self._run = source, run
         self._file: Optional[BinaryIO] = self._open()
         begin = self._read(self._file, 3)
         self.speed = 4 if begin == b"T2\n" else 3
@@ -62,6 +63,10 @@ class Trace:
         if isinstance(source, bytes) or is_plain(source):
             self._file.close()
             self._file = None
+
+    def __repr__(self) -> str:
+        name = "bytes" if isinstance(self._source, bytes) else os.path.basename(self._source)
+        return f"<Trace: {name}, {self.speed} MHz>"
 
     # The file after the line of the clock, and the bytes that were read of its first line.
     def _at_first_line(self) -> Tuple[BinaryIO, bytes]:

@@ -12,6 +12,7 @@ TOP = os.path.dirname(os.path.dirname(os.path.dirname(os.path.realpath(__file__)
 sys.path.insert(0, os.path.join(TOP, "tools"))
 
 import beebtube  # noqa: E402
+from beebtube.files import sum_of  # noqa: E402
 
 # A program that was begun in the background of a script may take no heed of these, and nor would what it calls.
 for number in (signal.SIGINT, signal.SIGHUP, signal.SIGQUIT, signal.SIGTERM):
@@ -122,7 +123,7 @@ def pretend_clone(folder):
     shutil.copy(beebtube.Program().path, os.path.join(folder, "release", "beebtube"))
     sources = subprocess.run([os.path.join(folder, ".ci", "sources")], stdout=subprocess.PIPE, check=True).stdout
     put(os.path.join(folder, "release", "sources"), sources)
-    put(os.path.join(folder, "release", "sum"), beebtube.sum_of(os.path.join(folder, "release", "beebtube")).digits.encode() + b"\n")
+    put(os.path.join(folder, "release", "sum"), sum_of(os.path.join(folder, "release", "beebtube")).digits.encode() + b"\n")
     return folder
 
 

@@ -1,15 +1,16 @@
 """The package as a test calls it: its options, its errors, and what comes of a call."""
+import ast
+import inspect
 import multiprocessing
 import os
 import pickle
+import re
 import shutil
 import subprocess
 
 from common import EXAMPLES, TOP, Case, beebtube, call, letters, put, text_of, unittest
 from beebtube.script import BadScript
 
-PUBLIC = ["beebtube"] + ["beebtube." + name for name in (
-    "calling", "command", "disc", "entries", "executing", "execution", "explain", "faults", "files", "frame", "labels", "program", "report", "script", "trace")]
 DRAWS = os.path.join(EXAMPLES, "screen-os.asm")
 
 
@@ -60,7 +61,60 @@ class Errors(Case):
             beebtube.run(9, os=pair["os"])
 
 
+    def test_no_value_is_ignored(self):
+        # Each value is refused by a message that names it: none is taken for something else.
+        image, given = b"\x60", {"at": 0x1900}
+        pair = letters()
+        for call, how, text in (
+                (beebtube.execute, {"args": "abc"}, "args: a sequence"),
+                (beebtube.execute, {"stdin": "text"}, "stdin: bytes"),
+                (beebtube.execute, {"stdin": None}, "stdin: bytes"),
+                (beebtube.execute, {"host_at": 0x1900}, "both"),
+                (beebtube.execute, {"host_start": 0x1900}, "both"),
+                (beebtube.execute, {"host_labels": beebtube.Labels({})}, "both"),
+                (beebtube.execute, {"cpu": "z80"}, "cpu 'z80'"),
+                (beebtube.call, {"cpu": "z80"}, "cpu 'z80'"),
+                (beebtube.call, {"a": 256}, "a=256"),
+                (beebtube.call, {"x": -1}, "x=-1"),
+                (beebtube.call, {"y": 256}, "y=256"),
+                (beebtube.call, {"p": 256}, "p=256"),
+                (beebtube.call, {"start": 0x10000}, "start=65536"),
+                (beebtube.call, {"memory": {0x70: 256}}, "memory at 0070=256")):
+            with self.assertRaisesRegex((TypeError, beebtube.Fault), text):
+                call(image, **{**given, **how})
+        for how, text in (({"start": -1}, "start"), ({"hold": -1}, "hold"), ({"gap": -0.1}, "gap"),
+                          ({"speed": 5}, "speed 5"), ({"start": float("nan")}, "start")):
+            with self.assertRaisesRegex(beebtube.Fault, text):
+                beebtube.typed("a", **how)
+        with self.assertRaisesRegex(beebtube.Refused, "line 1 of the script: at x"):
+            beebtube.execute(image, host=True, keys=beebtube.Source("at x\n"), **given)
+        with self.assertRaisesRegex(TypeError, "a Run stays in its process"):
+            pickle.dumps(beebtube.run(9, **pair))
+
+
 class Calls(Case):
+    def test_a_trace_keeps_its_run(self):
+        pair = letters()
+        wanted = beebtube.run(2000, **pair).para
+        accesses = beebtube.run(2000, **pair).accesses
+        self.assertEqual(beebtube.replay("para", accesses, 2000, tube=pair["tube"]).para, wanted)
+        self.assertEqual(len(list(accesses)), beebtube.run(2000, **pair).report.tube)
+
+    def test_what_is_asked_for_without_its_folder(self):
+        done = beebtube.call(b"\x60", at=0x1900)
+        again = pickle.loads(pickle.dumps(done))
+        self.assertEqual(again.cycles, 6)
+        done = beebtube.call(b"\x60", at=0x1900)
+        done._runner.close()
+        with self.assertRaisesRegex(beebtube.Fault, "the folder of the run is gone"):
+            done.cycles
+
+    def test_discs_are_compared_by_what_is_on_them(self):
+        one, same = beebtube.Disc(bytes(512)), beebtube.Disc(bytes(512))
+        self.assertEqual((one, hash(one)), (same, hash(same)))
+        self.assertNotEqual(one, beebtube.Disc(bytes(512), double=True))
+        self.assertNotEqual(one, beebtube.Disc(bytes(511)))
+
     def test_texts(self):
         source = beebtube.Source("org &C000\nstart: LDA #1\nRTS\n")
         self.assertEqual(beebtube.asm("6502", source), b"\xa9\x01\x60")
@@ -93,6 +147,8 @@ class Calls(Case):
             keys = beebtube.typed(text, start=0.6)
             whole = beebtube.Script(first.events + keys.events)
             self.assertEqual(beebtube.resume(booted, 6000000, keys=keys).host, beebtube.solo(6000000, **os, keys=whole).host)
+        script = beebtube.Source(beebtube.typed("1", start=0.6).text())
+        self.assertEqual(beebtube.resume(booted, 6000000, keys=script).host[0x70], 1)
         with self.assertRaisesRegex(beebtube.Fault, "before the session's 3,000,000"):
             beebtube.resume(booted, 6000000, keys=beebtube.typed("1", start=0.2))
         self.assertEqual(beebtube.typed("1", start=0.6).events, beebtube.typed("1", start=0.1).later(3000000).events)
@@ -103,6 +159,9 @@ class Calls(Case):
         self.assertRegex(repr(run.registers["para"]), r"^Registers\(PC=F815 A=.. X=.. Y=.. S=.. P=..\)$")
         self.assertEqual(repr(beebtube.Disc(bytes(512))), "<Disc: SSD, 512 bytes>")
         self.assertEqual(repr(beebtube.Program("x"))[:9], "Program('")
+        self.assertEqual(repr(run.accesses), "<Trace: out.trace, 3 MHz>")
+        with beebtube.run(2000, **letters(), save=True).past() as past:
+            self.assertEqual(repr(past), "<Past: host and para, 2,000 ticks>")
 
     def test_the_version(self):
         self.assertEqual(beebtube.__version__ + "\n", text_of(os.path.join(TOP, "VERSION")).decode())
@@ -176,6 +235,53 @@ class Pasts(Case):
         self.assertEqual([name for name in beebtube.__all__ if getattr(beebtube, name, None) is None], [])
         with self.assertRaises(AttributeError):
             beebtube.Futures
+
+
+class Page(Case):
+    """docs/PYTHON.md has an entry for each public name, with its parameters and types."""
+
+    def setUp(self):
+        super().setUp()
+        self.page = text_of(os.path.join(TOP, "docs", "PYTHON.md")).decode()
+        entries = self.page.partition("\n## Each name\n")[2].partition("\n## ")[0].split("\n- ")[1:]
+        whole = [" ".join(entry.split("\n\n")[0].split()) for entry in entries]
+        self.entries = {re.match("`([A-Za-z_]+)", entry)[1]: entry for entry in whole}
+
+    def test_each_name_has_an_entry(self):
+        self.assertEqual(sorted(self.entries), sorted(beebtube.__all__))
+
+    def test_parameters_and_types_are_true(self):
+        for name, entry in self.entries.items():
+            said = re.match("`([^`]+)`", entry)[1].replace("..", "").replace("(, ", "(")
+            if "(" not in said:
+                continue
+            told = ast.parse("def %s: pass" % re.sub(r"(, )+\)", ")", said)).body[0]
+            made = getattr(beebtube, name)
+            there = inspect.signature(made)
+            for it in ast.walk(told.args):
+                if isinstance(it, ast.arg):
+                    type_ = there.parameters[it.arg].annotation
+                    type_ = getattr(type_, "__forward_arg__", type_)
+                    self.assertEqual(ast.unparse(it.annotation), type_, said)
+            if told.returns or not inspect.isclass(made):
+                returns = there.return_annotation.strip("'")
+                self.assertEqual(ast.unparse(told.returns), returns, said)
+
+    def test_members_are_there(self):
+        for name, entry in self.entries.items():
+            made = getattr(beebtube, name)
+            for member in re.findall(r"`\.([a-z_]+)", entry):
+                is_there = hasattr(made, member) or f"self.{member}" in inspect.getsource(made)
+                self.assertTrue(is_there, f"{name}.{member}")
+
+    def test_each_parameter_is_on_the_page(self):
+        text = re.sub("(?ms)^```.*?^```$", "", self.page)
+        words = set(re.findall("[A-Za-z_0-9]+", " ".join(re.findall("`([^`]+)`", text))))
+        for name in beebtube.__all__:
+            if not inspect.isclass(getattr(beebtube, name)):
+                own = set(inspect.signature(getattr(beebtube, name)).parameters) - words
+                own -= {f"rom{number}" for number in range(16)}
+                self.assertEqual(own, set(), name)
 
 
 # Another version has other opinions, of needless comments too.

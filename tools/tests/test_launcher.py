@@ -7,7 +7,8 @@ import time
 
 from common import EXAMPLES, TOP, Case, beebtube, call, child_of, is_alive, letters, pretend_clone, put, signal, text_of, unittest, wait_until
 
-from beebtube.files import files_below
+from beebtube.explain import explain
+from beebtube.files import files_below, sum_of
 
 
 class Told(Case):
@@ -15,7 +16,7 @@ class Told(Case):
         """The program ends with this status, and these lines are among those that the launcher adds."""
         ended = beebtube.Program().call(words.split(), self.folder)
         self.assertEqual(ended.status, status, words)
-        got = beebtube.explain(status, ended.text, words.split(), self.folder)
+        got = explain(status, ended.text, words.split(), self.folder)
         for line in lines:
             self.assertIn(line, got, words)
 
@@ -68,7 +69,7 @@ class Told(Case):
     def test_what_the_tool_takes_for_words_the_program_does(self):
         """No words are called wrong that the program takes, and none right that it refuses."""
         for words in ("check /dev/null", "run 0 o --os a --tube b", "gen 18446744073709551615", "dis 65c02 a FFFF b", "resume s 9 o --keep 0 --wav w"):
-            self.assertEqual(beebtube.explain(1, "usage", words.split()), [], words)
+            self.assertEqual(explain(1, "usage", words.split()), [], words)
 
     def test_words_by_chance(self):
         """A word is called wrong exactly where the program says `usage`."""
@@ -89,7 +90,7 @@ class Told(Case):
                     del words[at % len(words)]
                     words = words or ["x"]
             ended = beebtube.Program().call(words, self.folder)
-            lines = beebtube.explain(1, "usage", words, self.folder)
+            lines = explain(1, "usage", words, self.folder)
             self.assertEqual(bool(lines), ended.status == 1, (words, ended, lines))
 
     def good_words(self, dice):
@@ -220,7 +221,7 @@ class Told(Case):
         self.assertEqual(self.launcher("run", "--help").out, done.out)
         done = self.launcher("--version")
         told = beebtube.version()
-        self.assertIn("program %s\nsum %s\n" % (told.program, beebtube.sum_of(told.program).digits), done.out)
+        self.assertIn("program %s\nsum %s\n" % (told.program, sum_of(told.program).digits), done.out)
         self.launcher("--help", status=1, stdout=os.open("/dev/full", os.O_WRONLY))
 
     def test_texts_of_the_program_stay(self):
@@ -248,7 +249,7 @@ class Told(Case):
         writer = subprocess.Popen(["sh", "-c", "echo bad >f"], cwd=self.folder)
         self.assertEqual(self.launcher("check", "f", status=4).err, "bad trace 1\nbeebtube: docs/COMMANDS.md has the form\n")
         self.assertEqual(writer.wait(300), 0)
-        self.assertEqual(beebtube.explain(4, "bad trace 1", ["check", "f"], self.folder), [])
+        self.assertEqual(explain(4, "bad trace 1", ["check", "f"], self.folder), [])
 
 
 class Ends(Case):
@@ -337,7 +338,7 @@ class Stubs(Case):
     def clone(self, script):
         self.top = pretend_clone(self.at("clone"))
         program = self.script(os.path.join(self.top, "release", "beebtube"), script)
-        put(os.path.join(self.top, "release", "sum"), beebtube.sum_of(program).digits.encode() + b"\n")
+        put(os.path.join(self.top, "release", "sum"), sum_of(program).digits.encode() + b"\n")
         os.mkdir(self.at("bin"))
 
     def script(self, name, text):

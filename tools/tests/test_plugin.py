@@ -4,7 +4,7 @@ import re
 import shutil
 import subprocess
 
-from common import EXAMPLES, TOP, Case, put, text_of, unittest
+from common import EXAMPLES, TOP, Case, beebtube, put, text_of, unittest
 
 
 def python_with_pytest():
@@ -76,6 +76,58 @@ class Plugin(Case):
         self.assertEqual(text_of(os.path.join(left, "bars.golden.png")), text_of(self.at("golden/bars.png")))
         left = self.at("beebtube-failed/test_it.py_test_screen")
         self.assertEqual(sorted(os.listdir(left + "/run0")), ["err", "out", "session", "text"])
+
+    def test_what_other_failures_leave(self):
+        text = """
+import beebtube, pytest
+
+PAIR = {"os": %r + "/letters-os.asm", "tube": %r + "/letters-tube.asm"}
+PAIR = {name: beebtube.asm(part, PAIR[name]) for name, part in (("os", "6502"), ("tube", "65c02"))}
+
+
+@pytest.fixture
+def started(beeb):
+    run = beeb.run(2000, **PAIR)
+    raise RuntimeError(run)
+
+
+def test_setup(started):
+    pass
+
+
+def test_run(beeb):
+    session = beeb.run(2000, **PAIR).session
+    beeb.resume(session, 3000)
+    assert False
+
+
+@pytest.mark.parametrize("word", ["a/b", "a_b", "x" * 300])
+def test_words(beeb, word):
+    beeb.run(9, **PAIR)
+    assert False
+
+
+def test_folder(golden):
+    golden(beebtube.Frame.of_colours(bytes([%%d]) * (640 * 256)), "folder/black")
+""" % (EXAMPLES, EXAMPLES)
+        status, said = self.pytest(text % 0, "--update-golden", "-k", "folder")
+        self.assertEqual((status, os.listdir(self.at("golden/folder"))), (0, ["black.png"]), said)
+        status, said = self.pytest(text % 1)
+        self.assertIn("1 error", said)
+        for test, runs in (("test_setup", ["run0"]), ("test_run", ["run0", "run1"])):
+            left = self.at("beebtube-failed/test_it.py_" + test)
+            self.assertIn(left + " has what the test ran", said)
+            self.assertEqual(sorted(os.listdir(left)), runs)
+        # Each test has a folder of its own.
+        folders = re.findall("(/.*test_words.*) has what the test ran", said)
+        self.assertEqual(len(set(folders)), 3, said)
+        self.assertTrue(all(map(os.path.isdir, folders)), said)
+        # The session is that of the run's end.
+        with beebtube.Past.of_session(beebtube.Program(), left + "/run1/session") as past:
+            self.assertEqual(past.end, 3000)
+        left = self.at("beebtube-failed/test_it.py_test_folder/folder")
+        pictures = ["black.difference.png", "black.golden.png", "black.png"]
+        self.assertEqual(sorted(os.listdir(left)), pictures)
 
     @unittest.skipUnless(shutil.which("cc65"), "cc65 is not there")
     def test_the_project_of_the_examples(self):

@@ -7,6 +7,8 @@ import subprocess
 
 from common import EXAMPLES, IS_ROOT, TOOLS, TOP, Case, beebtube, call, letters, put, text_of, unittest, wait_until
 
+from beebtube.files import sum_of
+
 SMALL_DISK = os.environ.get("BEEBTUBE_SMALL_DISK")  # a folder on a file system of some 64 kB
 
 
@@ -105,7 +107,7 @@ class Manifest(Case):
         self.pair()
         done = self.tool("manifest", "solo", "2000", "o", "--os", "os", "--tube", "tube", env={"BEEBTUBE": self.at("other")})
         self.assertEqual([line for line in done.out.splitlines() if line.split()[0] in ("kit", "sources", "program")],
-                         ["program " + beebtube.sum_of(self.at("other")).digits])
+                         ["program " + sum_of(self.at("other")).digits])
         put(self.at("text"), done.out.encode())
         self.assertRegex(self.tool("manifest", "--check", "text").out, "^another program: program [0-9a-f]{64}; here kit .*, sources [0-9a-f]{64}\nsame: ")
         self.assertEqual(self.tool("manifest", "--check", "text", env={"BEEBTUBE": self.at("other")}).out, "same: files read 2, written 4\n")
