@@ -1,10 +1,10 @@
 #!/usr/bin/env python3
 """system_mame.py [NAME ..]: runs the images of system/built in MAME's `bbcb` and in the program.
 
-Both print the same codes and press the same keys. The script compares memory from 0000 to 7FFF,
-and in modes 0, 1, 2, 4 and 5 each pixel; a line for each run has the number that differ. It
-leaves out cells that hold times, or what an interrupt left: TIMING names them. The status is 1 if
-anything else differs. It needs MAME (Debian package mame).
+Both print the same codes and press the same keys. The script compares memory from 0000 to 7FFF, and
+each pixel, in mode 7 those of the even field. A line for each run has the number that differ. It
+leaves out the cursor's flash, and cells that hold times or what an interrupt left: TIMING names
+them. The status is 1 if anything else differs. It needs MAME (Debian package mame).
 """
 import os
 import shutil
@@ -182,12 +182,13 @@ def main(names):
             left = mame(folder, keys, seconds, language)
         memory = left["memory"]
         cells = [at for at in range(32768) if memory[at] != run.host[at] and at not in SKIPPED]
-        others = 0
-        if run.host[0x355] != 7:
-            size, pixels = left["pixels"].split(b"\n", 1)
-            ours = colours_of(run.frames[0])
-            theirs = colours_of_mame(*map(int, size.split()), pixels)
-            others = sum(one != other for one, other in zip(ours, theirs))
+        size, pixels = left["pixels"].split(b"\n", 1)
+        ours = colours_of(run.frames[0])
+        theirs = colours_of_mame(*map(int, size.split()), pixels)
+        # The cursor after the keys flashes from another moment on: a line of 16 pixels in mode 7.
+        cursor = 640 * (10 * run.host[0x319] + 11) + 16 * run.host[0x318] if keys.events else -16
+        others = sum(one != other and not cursor <= at < cursor + 16
+            for at, (one, other) in enumerate(zip(ours, theirs)))
         print("%s: bytes %d, pixels %d%s" % (name, len(cells), others,
             "; first %04X: %02X, MAME %02X" % (
             cells[0], run.host[cells[0]], memory[cells[0]]) if cells else ""), flush=True)
