@@ -6,23 +6,27 @@ random runs, and compares each answer with what complete listings (`follow`), th
 The programs have interrupts, NMIs, BREAK, resets of the second processor, BRK, self-modifying code,
 text after JSR, return addresses that are dropped and pushed, jumps by RTS, paged ROMs without 00F4,
 and reads and writes of all registers of the Tube. Runs are of both clocks, of a host alone, and of
-sessions that hold fewer accesses than the run has. The truth is of a run that goes on after the
-debugger's, so that the last instruction is known. Prints a line for each answer that differs, and
-the counts; the status is 1 if one differs."""
+sessions that hold fewer accesses than the run has. In half of the runs the debugger lists few ticks
+at once, as if the run were long. The truth is of a run that goes on after the debugger's, so that
+the last instruction is known. Prints a line for each answer that differs, and the counts; the
+status is 1 if one differs."""
 from __future__ import annotations
 
 import argparse
 import bisect
+import contextlib
 import io
 import os
 import random
 import sys
 import tempfile
+from unittest import mock
 
 TOP = os.path.dirname(os.path.dirname(os.path.realpath(__file__)))
 sys.path.insert(0, os.path.join(TOP, "tools"))
 sys.dont_write_bytecode = True
 
+from beebtube import machine  # noqa: E402
 from beebtube.debugging import Debugger  # noqa: E402
 from beebtube.effects import LEVELS, effects_of, sequences  # noqa: E402
 from beebtube.faults import Fault  # noqa: E402
@@ -182,7 +186,6 @@ class Side:
         path, total = past.machines[side].follow(0, past.held + 1)
         listing = Listing(side, path, total, 0, past.held + 1)
         self.starts = list(listing.starts(0))
-        listing.close()
         self.ticks = [start.tick for start in self.starts]
         self.resets = truth.resets[side]
         self.cycle = (
@@ -651,8 +654,17 @@ class Questions:
     def until(self, whole, side, tick, back=False):
         pc = self.rng.choice(whole.starts).registers.pc
         other = self.rng.choice(whole.starts).registers
-        how = self.rng.randrange(3)
-        if how == 0:
+        log = [it for it in whole.log if it[2] < 0xF800]
+        how = self.rng.randrange(4 if log else 3)
+        if how == 3:
+            at, byte = self.rng.choice(log)[2::2]
+            log = [it for it in log if it[2] == at]
+            line = f"if ({at:04X})={byte:02X} and S>{other.s:02X}"
+
+            def test(it):
+                done = bisect.bisect_left([one[1] for one in log], it.tick + 1)
+                return it.registers.s > other.s and (log[done - 1][4] if done else 0) == byte
+        elif how == 0:
             line, test = f"{pc:04X}", lambda it: it.registers.pc == pc
         elif how == 1:
             line, test = (
@@ -934,6 +946,18 @@ QUESTIONS = {
 }
 
 
+def sizes(rng):
+    """Short listings in half of the runs: a run then needs several, as a long one does."""
+    if rng.random() < 0.5:
+        return contextlib.nullcontext()
+    near = rng.choice((500, 2000, 8000))
+    far, some = near * rng.choice((2, 8)), near * rng.choice((2, 30))
+    most = rng.choice((0, 50, machine.CHOSEN, machine.CHOSEN))
+    return mock.patch.multiple(
+        machine, NEAR=near, FAR=far, SOME=some, WIDE=4 * some, MANY=1000, CHOSEN=most
+    )
+
+
 def compare(answers, seed, ticks, each=60, verbose=False):
     """Asks this many questions, some of each of random runs; gives how many were asked, and how many
     answers differ."""
@@ -946,8 +970,9 @@ def compare(answers, seed, ticks, each=60, verbose=False):
             truth = Truth(rng, folder, rng.randrange(ticks // 2, ticks), program)
             try:
                 questions = Questions(truth, rng)
-                while questions.asked < min(each, answers - asked):
-                    questions.ask()
+                with sizes(random.Random(f"sizes {seed} {number}")):
+                    while questions.asked < min(each, answers - asked):
+                        questions.ask()
             finally:
                 truth.close()
         asked, wrong = asked + questions.asked, wrong + questions.wrong

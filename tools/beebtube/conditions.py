@@ -23,10 +23,13 @@ class Condition:
     """What holds of a start, or does not.
 
     form  is found in the line of each start for which it holds; None if any line may be such
+    at    holds of the address of each such start; None if any address may be such
     """
 
     def __init__(self, *terms: "Tuple[str, Callable[[Start], int], Test]"):
         self._terms = terms
+        tests = [test for name, _, test in terms if name == "pc"]
+        self.at: Optional[Test] = (lambda at: all(test(at) for test in tests)) if tests else None
         self.form: "Optional[re.Pattern[bytes]]" = None
         for name, _, test in terms:
             if name in ("a", "x", "y", "s", "p"):

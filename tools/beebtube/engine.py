@@ -12,10 +12,11 @@ from .conditions import Condition
 from .effects import (
     CHANGES, Effects, address_of, effects_of, may_write, sequences, touching)
 from .faults import Fault
-from .listings import Change, Start
+from .listings import Change, Listing, Start
 from .machine import SOME, Machine
 from .past import LETTERS, Past
 from .trace import Access
+from .view import BOOT
 
 FULL = {"host": "the host", "para": "the second processor"}
 SIDE = {letter: side for side, letter in LETTERS.items()}
@@ -135,8 +136,10 @@ class Engine:
 
     def byte(self, start: Start, address: int) -> int:
         """The byte that a read of an address gives before a start."""
-        view = self.past.machines[start.side].view
-        return view.bytes_at(start.tick, address, 1)[0]
+        machine, tick = self.past.machines[start.side], start.tick
+        if address < (0x8000 if start.side == "host" else BOOT):
+            tick = machine.since(address, tick)
+        return machine.view.bytes_at(tick, address, 1)[0]
 
     def find(self, addresses: Iterable[int], test: Optional[Condition] = None,
              back: bool = False) -> Optional[Start]:
@@ -154,7 +157,7 @@ class Engine:
 
     def _all(self, test: Condition, back: bool) -> Iterator[Start]:
         tick = self.tick if back else self.tick + 1
-        for listing in self.machine.parts(tick, back):
+        for listing in self.machine.parts(tick, back, test.at):
             place = listing.first if back else listing.place_of(tick)
             starts = listing.found(test.form, place) if test.form else listing.starts(place)
             if back:
@@ -197,14 +200,17 @@ class Engine:
                     if change is not None:
                         return at, change
             tick = under_way.tick if back else end
-        for first, last in self._windows(tick, back):
-            writes = self._writes(first, last, low, high)
+        may = machine.view.may_have(touching(low, high))
+        for listing, first, last in self._windows(tick, back, low, high):
+            writes = self._writes(listing, first, last, low, high)
             for write in reversed(list(writes)) if back else writes:
                 change = self._done(*write)
                 if change is not None:
                     return write[1], change
+            if high - low >= FEW or may and machine.chosen(may):
+                continue
             far = machine.following(first - 1) if back and first > 0 else None
-            if high - low < FEW and (far is not None or not back and last <= self.past.held):
+            if far is not None or not back and last <= self.past.held:
                 tick = last if far is None else far.tick
                 if not machine.view.is_under_rom(high):
                     listed = machine.last_of if back else machine.next_of
@@ -216,10 +222,13 @@ class Engine:
                 return found[0] if found else None
         return None
 
-    # The ticks of each listing, from a tick on or back.
-    def _windows(self, tick: int, back: bool) -> Iterator[Tuple[int, int]]:
-        for listing in self.machine.parts(tick, back):
-            yield (listing.low, tick) if back else (tick, listing.covers)
+    # Listings that have all instructions that may touch a range, from a tick on or back, each with
+    # the ticks from which and below which they are looked at.
+    def _windows(self, tick: int, back: bool, low: int, high: int
+                 ) -> Iterator[Tuple[Listing, int, int]]:
+        may = self.machine.view.may_have(touching(low, high))
+        for listing in self.machine.parts(tick, back, may):
+            yield (listing, listing.low, tick) if back else (listing, tick, listing.covers)
             tick = listing.low if back else listing.covers
 
     def _change(self, at: int, start: Start, first: int, last: int) -> Optional[Change]:
@@ -237,13 +246,15 @@ class Engine:
             return self._change(at, start, start.tick, end)
         return Change(start, after.tick, old, new)
 
-    # The starts from a tick on and below another of instructions that may touch a range, each
-    # with its effects and the memory before it.
-    def _touching(self, first: int, last: int, low: int, high: int
+    # The starts of a listing, from a tick on and below another, of instructions that may touch a
+    # range, each with its effects and the memory before it.
+    def _touching(self, listing: Listing, first: int, last: int, low: int, high: int
                   ) -> Iterator[Tuple[Start, Effects, bytearray]]:
-        view, memory = self.machine.view, bytearray()
-        for start in view.starts(first, last, touching(low, high)):
-            memory = memory or bytearray(view.bytes_at(start.tick, 0, 65536))
+        place, form, memory = listing.place_of(first), touching(low, high), bytearray()
+        for start in listing.found(form, place) if form else listing.starts(place):
+            if start.tick >= last:
+                break
+            memory = memory or bytearray(self.machine.view.bytes_at(start.tick, 0, 65536))
             effects = effects_of(start, memory.__getitem__)
             yield start, effects, memory
             for at, byte in effects.writes:
@@ -252,12 +263,12 @@ class Engine:
 
     # The writes to a range by instructions that start from a tick on and below another: the
     # instruction, the address, and the byte before and after it; None for one that is not known.
-    def _writes(self, first: int, last: int, low: int, high: int
+    def _writes(self, listing: Listing, first: int, last: int, low: int, high: int
                 ) -> Iterator[Tuple[Start, int, Optional[int], Optional[int]]]:
         machine, before = self.machine, None
         has_stack = low < 0x200 and high >= 0x100
         unknown = {at for at in range(low, high + 1) if machine.view.is_under_rom(at)}
-        for start, effects, memory in self._touching(first, last, low, high):
+        for start, effects, memory in self._touching(listing, first, last, low, high):
             for at in self._pushed(before, start) if has_stack else ():
                 unknown.add(at)
                 if before is not None and low <= at <= high:
@@ -298,8 +309,8 @@ class Engine:
     def find_reader(self, low: int, high: int, back: bool = False) -> Optional[Start]:
         """The next instruction that reads a byte of a range, or the last one before. Pointers and
         the stack are followed."""
-        for first, last in self._windows(self.tick + (not back), back):
-            reads = (start for start, effects, _ in self._touching(first, last, low, high)
+        for window in self._windows(self.tick + (not back), back, low, high):
+            reads = (start for start, effects, _ in self._touching(*window, low, high)
                      if any(low <= at <= high for at in effects.reads))
             found = next(reversed(list(reads)) if back else reads, None)
             if found is not None:

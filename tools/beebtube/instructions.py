@@ -31,3 +31,9 @@ _65C02 = {
 _FORMS = _6502.replace("\n", "|").split("|")
 _NMOS = [form or "byte &%02X" % code for code, form in enumerate(_FORMS)]
 INSTRUCTIONS = {"6502": _NMOS, "65c02": [_65C02.get(code, form) for code, form in enumerate(_NMOS)]}
+
+
+def text_of(part: str, data: bytes) -> str:
+    """The instruction of three bytes, without the place to which a branch goes."""
+    return INSTRUCTIONS[part][data[0]].format(
+        "", f"{data[1]:02X}", f"{data[2]:02X}{data[1]:02X}", r="")

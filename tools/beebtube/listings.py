@@ -1,7 +1,6 @@
 """The starts of instructions, as the program's `follow` lists them."""
 from __future__ import annotations
 
-import contextlib
 import mmap
 import os
 import re
@@ -53,7 +52,7 @@ class Change(NamedTuple):
 
 
 class Listing:
-    """What `follow` listed: lines in a file, found by their ticks.
+    """What `follow` listed: lines in a file, found by their ticks. The file goes away with this.
 
     low      the tick from which all starts are listed
     covers   the tick below which they are
@@ -61,24 +60,17 @@ class Listing:
     """
 
     def __init__(self, side: str, path: str, total: int, low: int, high: int):
-        self.side, self.path, self.low = side, path, low
+        self.side, self.low = side, low
         self.data: Union[bytes, mmap.mmap] = b""
         if os.path.getsize(path):
             with open(path, "rb") as file:
                 self.data = mmap.mmap(file.fileno(), 0, access=mmap.ACCESS_READ)
+        os.unlink(path)
         self.size = len(self.data)
         self.covers = high
         if total > MOST_LINES:
             self.covers = self.tick_at(self.data.rfind(b"\n", 0, self.size - 1) + 1) + 1
         self.first = self.place_of(low)
-
-    def close(self) -> None:
-        """Removes the file."""
-        if isinstance(self.data, mmap.mmap):
-            self.data.close()
-        self.data, self.size = b"", 0
-        with contextlib.suppress(OSError):
-            os.unlink(self.path)
 
     def tick_at(self, place: int) -> int:
         """The tick of the line that begins there."""

@@ -6,10 +6,12 @@ import re
 import threading
 from collections import OrderedDict
 from typing import (
-    TYPE_CHECKING, Iterator, List, NamedTuple, NoReturn, Optional, Sequence, Tuple, Union)
+    TYPE_CHECKING, Callable, Dict, Iterator, List, NamedTuple, NoReturn, Optional, Sequence, Tuple,
+    Union)
 
 from .effects import may_write, written
 from .faults import Fault, Refused
+from .files import OUTPUT_CAP, read_file
 from .listings import Change, Listing, Start
 from .report import Registers
 from .view import View
@@ -26,6 +28,7 @@ WIDE = 1 << 27
 OVERLAP = 256  # a listing begins so many ticks earlier: a change is seen from the start before it
 FEW = 16  # addresses that are looked for in a listing one by one
 MANY = 200000  # so many instructions are counted, and not gone through
+CHOSEN = 1 << 17  # starts at chosen addresses, at most, to list them in place of all
 KEPT = 1 << 29  # bytes of listings that are kept
 LISTED = re.compile(rb"listed ([0-9]+) of ([0-9]+)\n")
 Places = Union[int, Tuple[int, ...]]  # an address, or several
@@ -54,6 +57,7 @@ class Machine:
         self.past, self.side = past, side
         self.bound: int = past.held + 1
         self.view = View(self)
+        self._counts: Dict[int, int] = {}
         self._states: "OrderedDict[int, State]" = OrderedDict()
         # The one that was used last comes last.
         self._lists: List[Tuple[Tuple[str, ...], Listing]] = []
@@ -128,7 +132,21 @@ class Machine:
         "watch"."""
         return self.follow(0, self.bound, [f"--{kind}", f"{address:04X}"], keep=False)[1]
 
-    def around(self, extra: Tuple[str, ...], tick: int, ticks: int = NEAR,
+    def chosen(self, wanted: Callable[[int], bool]) -> Tuple[str, ...]:
+        """The words of `follow` that choose the starts at the addresses for which a test holds;
+        none if there are too many of these starts."""
+        if not self._counts:
+            self.past.progress("the addresses of the run")
+            place, _ = self.follow(0, self.bound, ["--points", self.past.points(()), "--counts"])
+            for line in read_file(place[:-4] + "counts", OUTPUT_CAP).splitlines():
+                at, count = line.split()[:2]
+                self._counts[int(at, 16)] = int(count)
+        places = tuple(filter(wanted, self._counts))
+        if sum(self._counts[at] for at in places) > CHOSEN:
+            return ()
+        return "--points", self.past.points(places)
+
+    def around(self, extra: Tuple[str, ...], tick: int, ticks: int = 0,
                backwards: bool = False) -> Listing:
         """A listing that has all starts of its kind at a tick and after it, or before it: of so
         many ticks, unless there is one already."""
@@ -147,9 +165,7 @@ class Machine:
                 self._lists.append((extra, listing))
                 size = sum(one.size for _, one in self._lists)
                 while len(self._lists) > 32 or size > KEPT and len(self._lists) > 4:
-                    old = self._lists.pop(0)[1]
-                    size -= old.size
-                    old.close()
+                    size -= self._lists.pop(0)[1].size
             if tick < listing.covers:
                 return listing
             low = listing.covers
@@ -172,15 +188,20 @@ class Machine:
         place = listing.place_of(tick + 1)
         return listing.start(place) if place < listing.size else None
 
-    def parts(self, tick: int, backwards: bool = False, ticks: int = NEAR) -> Iterator[Listing]:
-        """Listings one after another: from a tick on, or back from below it."""
+    def parts(self, tick: int, backwards: bool = False,
+              wanted: Optional[Callable[[int], bool]] = None) -> Iterator[Listing]:
+        """Listings one after another: from a tick on, or back from below it. If few starts are at
+        addresses for which a test holds, all listings but the first have only these."""
+        extra: Tuple[str, ...] = ()
+        ticks = NEAR
         if backwards and tick > self.past.held + 1:
             self.outside()
         while 0 < tick if backwards else tick < self.bound:
-            listing = self.around((), tick - 1 if backwards else tick, ticks, backwards)
+            listing = self.around(extra, tick - 1 if backwards else tick, ticks, backwards)
             yield listing
             tick = listing.low if backwards else listing.covers
-            ticks = FAR if ticks == NEAR else SOME
+            extra = self.chosen(wanted) if wanted else ()
+            ticks = WIDE if extra else FAR if ticks == NEAR else SOME
         if not backwards:
             self._nothing()
 
@@ -346,6 +367,12 @@ class Machine:
         if is_hidden:
             return self.view.last_change_under_rom(address, tick)
         return self._changed(address, self.last_of("watch", address, tick + 1))
+
+    def since(self, address: int, tick: int) -> int:
+        """A tick from which up to another a byte of the memory is the same, by its changes."""
+        listing = self.around(self._chosen("watch", address), tick, WIDE, backwards=True)
+        place, found = listing.before(listing.place_of(tick + 1), 1)
+        return listing.tick_at(place) if found else listing.low
 
     # The change after which `watch` listed a start.
     def _changed(self, address: int, after: Optional[Start]) -> Optional[Change]:

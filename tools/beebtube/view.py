@@ -3,9 +3,10 @@ over the second processor's memory, and the host's paged ROM."""
 from __future__ import annotations
 
 import re
-from typing import TYPE_CHECKING, Dict, Iterator, List, NamedTuple, Optional, Tuple
+from typing import TYPE_CHECKING, Callable, Dict, Iterator, List, NamedTuple, Optional, Tuple
 
 from .effects import effects_of, leaves_all, may_write, sequences
+from .instructions import text_of
 from .listings import Change, Start
 from .naming import length_of
 from .report import Registers
@@ -252,18 +253,32 @@ class View:
             found.append(self._change(address, before, tick))
         return [it for it in found if it.old != it.new]
 
-    def starts(self, low: int, high: int, form: "Optional[re.Pattern[bytes]]" = None
-               ) -> Iterator[Start]:
-        """All starts from a tick on and below another; with a form those in whose line it is."""
+    def starts(self, low: int, high: int) -> Iterator[Start]:
+        """All starts from a tick on and below another."""
         for listing in self.machine.parts(low) if low < high else ():
-            place = listing.place_of(low)
-            for start in listing.found(form, place) if form else listing.starts(place):
+            for start in listing.starts(listing.place_of(low)):
                 if start.tick >= min(high, listing.covers):
                     break
                 yield start
             low = listing.covers
             if low >= high:
                 return
+
+    def may_have(self, form: "Optional[re.Pattern[bytes]]") -> Optional[Callable[[int], bool]]:
+        """A test of addresses: an instruction may start there whose text has a form. It may be any
+        if a byte of it is not in a ROM. None if all addresses would pass: without a form, and of
+        the second processor, which has its program in memory."""
+        images = self.past.inputs.images
+        roms = [data * 2 for name, data in images.items() if re.fullmatch("rom[0-9]+", name)]
+
+        def test(at: int) -> bool:
+            if at < 0x8000 or 0xBFFE <= at < 0xC000 or 0xFBFE <= at < 0xFF00 or at > 0xFFFD:
+                return True
+            place = at % 0x4000
+            texts = (text_of("6502", data[place : place + 3])
+                     for data in (roms if at < 0xC000 else [images["os"]]))
+            return any(form.search(f" P=00 {text}\n".encode()) for text in texts if form)
+        return test if form and self.side == "host" else None
 
     # --- Stores to the 6845, the video ULA, and the latch of the paged ROM ---
 

@@ -11,7 +11,7 @@ from unittest import mock
 from common import TOP, Case, call, put
 
 import beebtube
-from beebtube import past
+from beebtube import machine, past
 from beebtube.calls import Calls
 from beebtube.conditions import condition
 from beebtube.debugging import Debugger
@@ -187,6 +187,41 @@ loop:   LDA &FEF8
         org &FFFA
         word start, start, start
 """
+# A store in memory whose operand is 0370 once and then again 0570, a store in a paged ROM in whose
+# place another ROM is later, and then a loop without stores.
+ONCE = """
+        org &C000
+start:  LDX #&FF
+        TXS
+        LDX #3
+copy:   LDA code,X
+        STA &0900,X
+        DEX
+        BPL copy
+        JSR &0900
+        LDA #2
+        STA &FE30
+        JSR &8000
+        LDA #0
+        STA &FE30
+        JSR &8000
+        LDA #3
+        STA &0902
+        JSR &0900
+        LDA #5
+        STA &0902
+        JSR &0900
+wait:   LDY #3
+again:  DEY
+        BNE again
+        JMP wait
+code:   STA &0570
+        RTS
+        org &FFFA
+        word start, start, start
+"""
+STORES = "org &8000\nSTA &0385\nRTS\norg &9FFF\nbyte 0\n"
+LOADS = "org &8000\nLDA &1385\nRTS\norg &9FFF\nbyte 0\n"
 
 
 class Answers(Case):
@@ -281,6 +316,60 @@ class Answers(Case):
         debugger = self.debugger(RESETS, IS_RESET)
         self.said(debugger, "para; go 100")
         self.assertRaises(Fault, self.said, debugger, "return")
+
+    def test_byte_in_a_condition(self):
+        """It is known from one search for its changes, and takes no replay for each start."""
+        debugger = self.debugger(ONCE, ticks=20000)
+        program = debugger.past.program
+        with mock.patch.object(program, "done", wraps=program.done) as done:
+            self.said(debugger, "go 0; until if (0571)=00 and (0570)=8D")
+            self.said(debugger, "before if (0570)=00; before if (0900)!=8D")
+        self.assertEqual((self.pc(debugger), done.call_count < 9), (0xC008, True))
+
+    def test_listings_that_are_in_use(self):
+        """A listing can be read while others take its place."""
+        host = self.calls().past.machines["host"]
+        with mock.patch.multiple(machine, NEAR=200, KEPT=0):
+            listing = host.around((), 1000)
+            for tick in range(3000, 12000, 1000):
+                host.around((), tick)
+            self.assertIsNot(host.around((), 1000), listing)
+        self.assertEqual(listing.start(listing.first).tick // 100, 9)
+
+    def test_far_away(self):
+        """Two replays find what addresses may do it and where; if these have too many starts, all
+        listings are gone through."""
+        for slot, source in ((0, LOADS), (2, STORES)):
+            put(self.at(f"rom{slot}"), Program().asm("6502", source.encode()))
+        roms = ["--rom0", self.at("rom0"), "--rom2", self.at("rom2")]
+        stored = (
+            ("who 0370..0371", "0370: 00 to 03\n", 0x0900),
+            ("who 0380..03FF", "0385: 00 to 02\n", 0x8000),
+            ("who 0300..036F", None, None),
+            ("before if pc outside 8000..FFFF", "", 0x0903),
+            ("before if pc in 8000..BFFF and A=02", "", 0x8003),
+            ("go 0; change 0370..03FF", "0385: 00 to 02\n", 0x8003),
+            ("go 0; readers 1385..1386", "", 0x8000),
+            ("go 0; until if pc in 0000..7FFF and A=03", "", 0x0900),
+            ("before if (0370)=00 and pc in 0000..7FFF", "", 0x0900),
+            ("go 0; until if (0370)=03", "", 0x0903),
+        )
+        few = dict(NEAR=200, FAR=400, SOME=800, OVERLAP=100)
+        for most in (0, 1 << 17):
+            for words, shown, pc in stored:
+                debugger = self.debugger(ONCE, ticks=20000, more=roms)
+                program = debugger.past.program
+                with mock.patch.multiple(machine, CHOSEN=most, **few), mock.patch.object(
+                    program, "done", wraps=program.done
+                ) as done:
+                    if shown is None:
+                        self.assertRaises(Fault, self.said, debugger, words)
+                    else:
+                        self.assertIn(shown, self.said(debugger, words))
+                if most:
+                    self.assertLess(done.call_count, 9, words)
+                if pc is not None:
+                    self.assertEqual(self.pc(debugger), pc, words)
 
     def test_backtrace_where_no_call_is_open(self):
         """It lists the instructions once, and does not look for the end of each call before."""
