@@ -84,7 +84,7 @@ def _print(capture: Capture, out: str) -> int:
     said = said_of_check(out) if is_whole and is_plain(out) else []
     if judge.wrong:
         _print_wrong(capture)
-    elif said:
+    elif said and (judge.checked or len(said) > 1):
         print("\n".join(said))
     elif judge.checked:
         answers = counted(judge.answers, "answer")
